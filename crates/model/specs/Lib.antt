@@ -1,0 +1,9 @@
+-- The definitions of document 01, a module for each heading.
+pub mod Basics
+pub mod Table
+pub mod Plan
+pub mod Runs
+pub mod Steps
+pub mod Archive
+pub mod Refusals
+pub mod Cases

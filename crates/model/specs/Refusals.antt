@@ -1,0 +1,216 @@
+-- Document 01, 'What is refused': the list of refusals, the checks of each entry in their order, and for each entry its answer and
+-- every lent buffer left behind, as one definition of all it was lent.
+use Prim.Native.Nat.{ℕ, _+_, _*_}
+use mathlib.Core.Bool.{Bool, true, false, not, _&&_, _||_}
+use mathlib.Core.List.{List, [], _∷_, _++_}
+use lib.ListN.{length, replicate}
+use lib.Dec.{eqb, ltb}
+use Rattle.model.specs.Basics.{pick, when, atPlace, firstTo, sameList}
+use Rattle.model.specs.Table.{maxNodes, maxLimit, nodeCount, limitOf, weightAt, tableBytes, walkPlace, Chain, treeOf}
+use Rattle.model.specs.Plan.{badMark, heavyPage, pageCount, verdictOf}
+use Rattle.model.specs.Steps.{bestMarks, levelMarks, singleMarks, pairMarks}
+use Rattle.model.specs.Archive.{archiveOf, archiveBytes, tableIn, marksIn}
+use Rattle.model.specs.declared.Place.{Place}
+use Rattle.model.specs.declared.Cause.the-variants.{BadMark, HeavyPage}
+use Rattle.model.specs.declared.Verdict.{Verdict}
+use Rattle.model.specs.declared.Verdict.the-variants.{NotJudged, Feasible, Failed}
+use Rattle.model.specs.declared.Answer.{Answer}
+
+-- a check: its number in the list, and its place where its condition holds
+pub record Check : Type 0 where
+  pub number : ℕ
+  pub place : Place
+
+-- ---- The list
+
+-- 1: table under 4 bytes; place 0
+unfoldable pub shortTable : List ℕ → Check
+shortTable t = record { number = 1; place = when (ltb (length t) 4) 0 }
+
+-- 2: N is 0 or over 1,024; place N
+unfoldable pub badCount : List ℕ → Check
+badCount t = record { number = 2; place = when (eqb (nodeCount t) 0 || ltb maxNodes (nodeCount t)) (nodeCount t) }
+
+-- 3: K is 0 or over 1,024; place K
+unfoldable pub badLimit : List ℕ → Check
+badLimit t = record { number = 3; place = when (eqb (limitOf t) 0 || ltb maxLimit (limitOf t)) (limitOf t) }
+
+-- 4: length is not 4 + 8 × N; place the right length
+unfoldable pub badLength : List ℕ → Check
+badLength t =
+    record { number = 4; place = when (not (eqb (length t) (tableBytes (nodeCount t)))) (tableBytes (nodeCount t)) }
+
+-- 5: a weight is 0; place the first such node
+unfoldable pub noWeight : List ℕ → Check
+noWeight t = record { number = 5; place = firstTo (nodeCount t) (λ v. eqb (weightAt t v) 0) }
+
+-- 6: the walk fails; place 0 if node 1 has a sibling, else the nodes met in order before it failed
+unfoldable pub badWalk : List ℕ → Check
+badWalk t = record { number = 6; place = walkPlace t }
+
+-- 7: a node outweighs K; place the first such node
+unfoldable pub heavyNode : List ℕ → Check
+heavyNode t = record { number = 7; place = firstTo (nodeCount t) (λ v. ltb (limitOf t) (weightAt t v)) }
+
+-- 8: marks buffer is not N long; place N
+unfoldable pub badMarks : ℕ → List ℕ → Check
+badMarks n m = record { number = 8; place = when (not (eqb (length m) n)) n }
+
+-- 9: a planner's scratch is under 4 × N × (K + 3) 32-bit words; place that number
+abbrev pub scratchWords : ℕ → ℕ → ℕ
+scratchWords n k = 4 * n * (k + 3)
+
+unfoldable pub shortScratch : List ℕ → List ℕ → Check
+shortScratch t s =
+    record { number = 9; place = when (ltb (length s) (scratchWords (nodeCount t) (limitOf t))) (scratchWords (nodeCount t) (limitOf t)) }
+
+-- 10: a mark is not allowed; place the first such node
+unfoldable pub markRefused : List ℕ → List ℕ → Check
+markRefused t m = record { number = 10; place = badMark t m }
+
+-- 11: a page exceeds K; place the first such page
+unfoldable pub pageRefused : List ℕ → List ℕ → Check
+pageRefused t m = record { number = 11; place = heavyPage t m }
+
+-- 12: output buffer has the wrong length; place the right length
+unfoldable pub badOutput : ℕ → List ℕ → Check
+badOutput size out = record { number = 12; place = when (not (eqb (length out) size)) size }
+
+-- 13: no accepted tree and feasible plan write this archive; place 0
+unfoldable pub noArchive : Bool → Check
+noArchive written = record { number = 13; place = when (not written) 0 }
+
+-- ---- The order, for each entry
+
+unfoldable pub formChecks : List ℕ → List Check
+formChecks t = shortTable t ∷ badCount t ∷ badLimit t ∷ badLength t ∷ noWeight t ∷ badWalk t ∷ []
+
+unfoldable pub treeChecks : List ℕ → List Check
+treeChecks t = formChecks t ++ (heavyNode t ∷ [])
+
+unfoldable pub planChecks : List ℕ → List ℕ → List ℕ → List Check
+planChecks t m s = treeChecks t ++ (badMarks (nodeCount t) m ∷ shortScratch t s ∷ [])
+
+unfoldable pub judgeChecks : List ℕ → List ℕ → List Check
+judgeChecks t m = treeChecks t ++ (badMarks (nodeCount t) m ∷ markRefused t m ∷ pageRefused t m ∷ [])
+
+unfoldable pub writeChecks : List ℕ → List ℕ → List ℕ → List Check
+writeChecks t m out = judgeChecks t m ++ (badOutput (archiveBytes (pageCount t m) (nodeCount t)) out ∷ [])
+
+-- no check of the list applies
+unfoldable pub passes : List Check → Bool
+passes [] = true
+passes (c ∷ cs) = atPlace (c .place) (λ p. false) (passes cs)
+
+-- A tree is of sound form when nothing that is checked before 7 applies to it, accepted when 7 does not apply to it either, and
+-- refused for weight means 7.
+unfoldable pub soundForm : List ℕ → Bool
+soundForm t = passes (formChecks t)
+
+unfoldable pub acceptedTree : List ℕ → Bool
+acceptedTree t = passes (treeChecks t)
+
+unfoldable pub refusedForWeight : List ℕ → Bool
+refusedForWeight t = soundForm t && not (acceptedTree t)
+
+-- a plan of an accepted tree is feasible when the judge finds nothing
+unfoldable pub feasiblePlan : List ℕ → List ℕ → Bool
+feasiblePlan t m = passes (judgeChecks t m)
+
+-- ---- Answers
+
+abbrev pub accepted : Verdict → Answer
+accepted v = record { number = 0; place = 0; verdict = v }
+
+-- the verdict beside a refusal: 10 and 11 are the judge's, and the others come before a verdict
+unfoldable pub causeOf : ℕ → ℕ → Verdict
+causeOf n p = pick (eqb n 10) (Failed (BadMark p)) (pick (eqb n 11) (Failed (HeavyPage p)) NotJudged)
+
+unfoldable pub refused : ℕ → ℕ → Answer
+refused n p = record { number = n; place = p; verdict = causeOf n p }
+
+-- the first check that applies refuses; where none does, the answer is a
+unfoldable pub firstOf : List Check → Answer → Answer
+firstOf [] a = a
+firstOf (c ∷ cs) a = atPlace (c .place) (refused (c .number)) (firstOf cs a)
+
+-- document 01's number and place for each verdict
+abbrev pub numberOf : Verdict → ℕ
+numberOf NotJudged = 0
+numberOf (Feasible pages root) = 0
+numberOf (Failed (BadMark v)) = 10
+numberOf (Failed (HeavyPage p)) = 11
+
+abbrev pub placeOf : Verdict → ℕ
+placeOf NotJudged = 0
+placeOf (Feasible pages root) = 0
+placeOf (Failed (BadMark v)) = v
+placeOf (Failed (HeavyPage p)) = p
+
+-- ---- The entries
+
+-- the tree reader
+unfoldable pub readTree : List ℕ → Answer
+readTree t = firstOf (treeChecks t) (accepted NotJudged)
+
+-- the judge of plans
+unfoldable pub judgePlan : List ℕ → List ℕ → Answer
+judgePlan t m = firstOf (judgeChecks t m) (accepted (verdictOf t m))
+
+-- a planner: its answer, and the marks and the scratch that it leaves
+pub record Planned : Type 0 where
+  pub answer : Answer
+  pub marks : List ℕ
+  pub scratch : List ℕ
+
+unfoldable pub planned : (ℕ → Chain → List ℕ) → List ℕ → List ℕ → List ℕ → Planned
+planned steps t m s =
+    let made : List ℕ = steps (limitOf t) (treeOf t) in
+    pick (passes (planChecks t m s))
+    (record { answer = judgePlan t made; marks = made; scratch = replicate (length s) 0 })
+    (record { answer = firstOf (planChecks t m s) (accepted NotJudged); marks = m; scratch = s })
+
+unfoldable pub planBest : List ℕ → List ℕ → List ℕ → Planned
+planBest = planned bestMarks
+
+unfoldable pub planLevel : List ℕ → List ℕ → List ℕ → Planned
+planLevel = planned levelMarks
+
+unfoldable pub planSingle : List ℕ → List ℕ → List ℕ → Planned
+planSingle = planned singleMarks
+
+unfoldable pub planPair : List ℕ → List ℕ → List ℕ → Planned
+planPair = planned pairMarks
+
+-- the archive writer: its answer and the output that it leaves
+pub record Written : Type 0 where
+  pub answer : Answer
+  pub archive : List ℕ
+
+unfoldable pub writeArchive : List ℕ → List ℕ → List ℕ → Written
+writeArchive t m out =
+    record {
+      answer = firstOf (writeChecks t m out) (accepted (verdictOf t m));
+      archive = pick (passes (writeChecks t m out)) (archiveOf t m) out;
+    }
+
+-- an accepted tree and a feasible plan write this archive: those that it tells
+unfoldable pub isArchive : List ℕ → Bool
+isArchive a = feasiblePlan (tableIn a) (marksIn a) && sameList (archiveOf (tableIn a) (marksIn a)) a
+
+-- the archive reader checks 13, then 12, then 8: its answer, and the table and the marks that it leaves
+pub record Restored : Type 0 where
+  pub answer : Answer
+  pub table : List ℕ
+  pub marks : List ℕ
+
+unfoldable pub readChecks : List ℕ → List ℕ → List ℕ → List Check
+readChecks a t m = noArchive (isArchive a) ∷ badOutput (tableBytes (nodeCount a)) t ∷ badMarks (nodeCount a) m ∷ []
+
+unfoldable pub readArchive : List ℕ → List ℕ → List ℕ → Restored
+readArchive a t m =
+    record {
+      answer = firstOf (readChecks a t m) (accepted (verdictOf (tableIn a) (marksIn a)));
+      table = pick (passes (readChecks a t m)) (tableIn a) t;
+      marks = pick (passes (readChecks a t m)) (marksIn a) m;
+    }

@@ -1,0 +1,224 @@
+-- Document 01, 'Planner steps': the four planners on a tree by shape. Marks are laid in node order.
+use Prim.Native.Nat.{ℕ, zero, suc, _+_, _-_, max}
+use mathlib.Core.Bool.{Bool, true, false, _&&_, _||_}
+use mathlib.Core.List.{List, [], _∷_, _++_, map, reverse}
+use lib.ListN.{length}
+use lib.Dec.{eqb, ltb, leb}
+use Rattle.model.specs.Basics.{pick}
+use Rattle.model.specs.Table.{Chain, end, node}
+use Rattle.model.specs.Plan.{stays, begins, continues}
+
+-- ---- What all four share: siblings, or sides, from which something is taken off, the largest first, until their sum has room.
+
+-- what one of them weighs now, what can still be taken off it, and whether it was
+pub record Member : Type 0 where
+  pub rest : ℕ
+  pub gain : ℕ
+  pub taken : Bool
+
+unfoldable pub restSum : List Member → ℕ
+restSum [] = 0
+restSum (m ∷ ms) = m .rest + restSum ms
+
+unfoldable pub gainSum : List Member → ℕ
+gainSum [] = 0
+gainSum (m ∷ ms) = m .gain + gainSum ms
+
+unfoldable pub takenCount : List Member → ℕ
+takenCount [] = 0
+takenCount (m ∷ ms) = pick (m .taken) 1 0 + takenCount ms
+
+unfoldable pub largestGain : List Member → ℕ
+largestGain [] = 0
+largestGain (m ∷ ms) = max (m .gain) (largestGain ms)
+
+-- the gain g is taken off the earliest member that has it
+unfoldable pub takeEarliest : ℕ → List Member → List Member
+takeEarliest g [] = []
+takeEarliest g (m ∷ ms) =
+    pick (eqb (m .gain) g) (record { rest = m .rest - g; gain = 0; taken = true } ∷ ms) (m ∷ takeEarliest g ms)
+
+-- Gains above 0 are taken, the largest first and the earlier among equals, until the sum is at most the room or none is left. A
+-- gain that was taken is 0, so as many turns as there are members are enough.
+unfoldable pub reduceFrom : ℕ → ℕ → List Member → List Member
+reduceFrom zero room ms = ms
+reduceFrom (suc f) room ms =
+    pick (leb (restSum ms) room || eqb (largestGain ms) 0) ms (reduceFrom f room (takeEarliest (largestGain ms) ms))
+
+unfoldable pub reduce : ℕ → List Member → List Member
+reduce room ms = reduceFrom (length ms) room ms
+
+-- ---- Best (the report's DHW), and level (GHDW): the same with every gain 0
+
+-- a child as its parent sees it: its rest weight under its best plan, and its gain, what its second plan takes off
+pub record Child : Type 0 where
+  pub rest : ℕ
+  pub gain : ℕ
+
+-- what becomes of a child: its mark, and whether it follows its second plan
+pub record Choice : Type 0 where
+  pub mark : ℕ
+  pub second : Bool
+
+-- an entry at a start, after some of the children: a count, a rest, and what becomes of these children, the last of them first
+pub record Entry : Type 0 where
+  pub count : ℕ
+  pub rest : ℕ
+  pub choices : List Choice
+
+-- a later candidate wins only with a smaller count, or the same count and a smaller rest
+unfoldable pub better : Entry → Entry → Entry
+better e c = pick (ltb (c .count) (e .count) || (eqb (c .count) (e .count) && ltb (c .rest) (e .rest))) c e
+
+-- the candidates in order, the first against each later one; s stands where there is none
+unfoldable pub leastOf : Entry → List Entry → Entry
+leastOf e [] = e
+leastOf e (c ∷ cs) = leastOf (better e c) cs
+
+unfoldable pub winner : ℕ → List Entry → Entry
+winner s [] = record { count = 0; rest = s; choices = [] }
+winner s (c ∷ cs) = leastOf c cs
+
+-- the last child stays, where start and rest are at most K: the entry e at start s + a, before it
+unfoldable pub staying : ℕ → ℕ → Child → Entry → List Entry
+staying K s k e =
+    pick (leb (s + k .rest) K)
+    (record { count = e .count; rest = e .rest; choices = record { mark = stays; second = false } ∷ e .choices } ∷ [])
+    []
+
+-- the members of a run, the earliest first, before any second plan is taken
+unfoldable pub asMember : Child → Member
+asMember k = record { rest = k .rest; gain = k .gain; taken = false }
+
+-- what becomes of a run's members: the first begins the run, the others continue it
+unfoldable pub runChoices : ℕ → List Member → List Choice
+runChoices mark [] = []
+runChoices mark (m ∷ ms) = record { mark = mark; second = m .taken } ∷ runChoices continues ms
+
+-- A run whose members are reduced to ms, after the entry e before it: a candidate where their sum is at most K. Its count is that
+-- entry's, plus 1, plus the second plans taken; its rest is that entry's.
+unfoldable pub running : ℕ → List Member → Entry → List Entry
+running K ms e =
+    pick (leb (restSum ms) K)
+    (record { count = e .count + 1 + takenCount ms; rest = e .rest; choices = reverse (runChoices begins ms) ++ e .choices } ∷ [])
+    []
+
+unfoldable pub runOf : ℕ → List Child → List Member
+runOf K run = reduce K (map asMember run)
+
+-- the lightest total of a run: the sum of its rests less the sum of its gains
+unfoldable pub lightest : List Child → ℕ
+lightest run = restSum (map asMember run) - gainSum (map asMember run)
+
+-- stretching left stops as soon as the lightest total reaches K; that run is still tried
+unfoldable pub stopsAt : ℕ → List Child → Bool
+stopsAt K run = leb K (lightest run)
+
+-- The entry at start s after the children of the list, the last child first; and the candidates whose run goes on to the left of a
+-- run already tried, the earliest child first.
+unfoldable mutual
+  pub entryAt : ℕ → List Child → ℕ → Entry
+  entryAt K [] s = record { count = 0; rest = s; choices = [] }
+  entryAt K (k ∷ ks) s =
+      winner s (staying K s k (entryAt K ks (s + k .rest)) ++ (running K (runOf K (k ∷ [])) (entryAt K ks s) ++ stretched K s (k ∷ []) ks))
+
+  pub stretched : ℕ → ℕ → List Child → List Child → List Entry
+  stretched K s run [] = []
+  stretched K s run (k ∷ ks) =
+      pick (stopsAt K run) [] (running K (runOf K (k ∷ run)) (entryAt K ks s) ++ stretched K s (k ∷ run) ks)
+
+-- the start of a second plan, where the best plan's rest is W
+unfoldable pub secondStart : ℕ → ℕ → ℕ → ℕ
+secondStart K w W = w + (K - W) + 1
+
+-- W less the true rest of the second plan, which is its entry's rest less K - W + 1; 0 where there is no second plan
+unfoldable pub gainOf : ℕ → ℕ → ℕ → Entry → ℕ
+gainOf K w W e = pick (leb (secondStart K w W) K) (W - (e .rest - (K - W + 1))) 0
+
+-- the figures of a node of weight w, from its children's, the last first; without gains for level
+unfoldable pub childOf : Bool → ℕ → ℕ → List Child → Child
+childOf gains K w ks =
+    let W : ℕ = entryAt K ks w .rest in
+    record { rest = W; gain = pick gains (gainOf K w W (entryAt K ks (secondStart K w W))) 0 }
+
+-- the figures of a chain of siblings, put before those of the siblings before it: the last comes first
+unfoldable pub childrenFrom : Bool → ℕ → Chain → List Child → List Child
+childrenFrom gains K end before = before
+childrenFrom gains K (node w l kids next) before =
+    childrenFrom gains K next (childOf gains K w (childrenFrom gains K kids []) ∷ before)
+
+unfoldable pub childrenOf : Bool → ℕ → Chain → List Child
+childrenOf gains K c = childrenFrom gains K c []
+
+-- what becomes of the children of a node under its best plan, or its second, the first child first
+unfoldable pub choicesOf : Bool → ℕ → ℕ → Chain → Bool → List Choice
+choicesOf gains K w kids second =
+    let ks : List Child = childrenOf gains K kids in
+    reverse (entryAt K ks (pick second (secondStart K w (entryAt K ks w .rest)) w) .choices)
+
+-- marks are laid from the root down: a child follows its second plan where a chosen run took it, else its best plan
+unfoldable pub layMarks : Bool → ℕ → Chain → List Choice → List ℕ
+layMarks gains K end cs = []
+layMarks gains K (node w l kids next) [] = []
+layMarks gains K (node w l kids next) (c ∷ cs) =
+    c .mark ∷ layMarks gains K kids (choicesOf gains K w kids (c .second)) ++ layMarks gains K next cs
+
+abbrev pub rootChoice : List Choice
+rootChoice = record { mark = begins; second = false } ∷ []
+
+unfoldable pub bestMarks : ℕ → Chain → List ℕ
+bestMarks K c = layMarks true K c rootChoice
+
+unfoldable pub levelMarks : ℕ → Chain → List ℕ
+levelMarks K c = layMarks false K c rootChoice
+
+-- ---- Single (KM)
+
+-- a child's remainder, which can be taken off whole: that cuts the child
+unfoldable pub whole : ℕ → Member
+whole r = record { rest = r; gain = r; taken = false }
+
+-- While a node of weight w and its uncut remainder exceed K, the child with the heaviest remainder is cut, the earliest among equals.
+unfoldable pub cutDown : ℕ → ℕ → List Member → List Member
+cutDown K w ms = reduce (K - w) ms
+
+-- the remainders of a chain of siblings
+unfoldable pub remainders : ℕ → Chain → List Member
+remainders K end = []
+remainders K (node w l kids next) = whole (w + restSum (cutDown K w (remainders K kids))) ∷ remainders K next
+
+-- a cut child is a run by itself
+unfoldable pub laySingle : ℕ → Chain → List Member → List ℕ
+laySingle K end ms = []
+laySingle K (node w l kids next) [] = []
+laySingle K (node w l kids next) (m ∷ ms) =
+    pick (m .taken) begins stays ∷ laySingle K kids (cutDown K w (remainders K kids)) ++ laySingle K next ms
+
+unfoldable pub singleMarks : ℕ → Chain → List ℕ
+singleMarks K c = laySingle K c (record { rest = 0; gain = 0; taken = true } ∷ [])
+
+-- ---- Pair (EKM): single on the two-way tree, in which left is the first child and right the next sibling
+
+-- the remainders of both sides; of equal sides the left is cut
+unfoldable pub sides : ℕ → ℕ → ℕ → ℕ → List Member
+sides K w left right = cutDown K w (whole left ∷ whole right ∷ [])
+
+unfoldable pub remainder : ℕ → Chain → ℕ
+remainder K end = 0
+remainder K (node w l kids next) = w + restSum (sides K w (remainder K kids) (remainder K next))
+
+unfoldable pub takenAt : ℕ → List Member → Bool
+takenAt i [] = false
+takenAt zero (m ∷ ms) = m .taken
+takenAt (suc i) (m ∷ ms) = takenAt i ms
+
+-- A cut node gets mark 1. An uncut first child gets 0. Another uncut node gets 0 if its previous sibling has 0, else 2.
+unfoldable pub layPair : ℕ → Chain → Bool → ℕ → List ℕ
+layPair K end cut uncut = []
+layPair K (node w l kids next) cut uncut =
+    let mark : ℕ = pick cut begins uncut in
+    let ms : List Member = sides K w (remainder K kids) (remainder K next) in
+    mark ∷ layPair K kids (takenAt 0 ms) stays ++ layPair K next (takenAt 1 ms) (pick (eqb mark stays) stays continues)
+
+unfoldable pub pairMarks : ℕ → Chain → List ℕ
+pairMarks K c = layPair K c true stays

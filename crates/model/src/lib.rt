@@ -1,0 +1,27 @@
+// The answer types of document 01. Their meaning, and every rule of the document, stands in specs/.
+
+// A place that a check names, as the first node of a kind; or none, where its condition does not hold.
+pub enum Place {
+    At(u32),
+    Nowhere,
+}
+
+// Why a plan failed: a bad mark at a node, or a heavy page by its number.
+pub enum Cause {
+    BadMark(u32),
+    HeavyPage(u32),
+}
+
+// The judge's verdict of a plan. A plan that nobody judged has none.
+pub enum Verdict {
+    NotJudged,
+    Feasible { pages: u32, root: u32 },
+    Failed(Cause),
+}
+
+// A number and a place, 0 and 0 for acceptance, with the verdict beside it wherever a plan is given or made.
+pub struct Answer {
+    pub number: u32,
+    pub place: u32,
+    pub verdict: Verdict,
+}

@@ -1,0 +1,2 @@
+-- Laws about the definitions of document 01.
+pub mod Shape
