@@ -46,7 +46,7 @@ treeG = bytesOf (5 ∷ 5 ∷ 1 ∷ 1 ∷ 2 ∷ 0 ∷ 2 ∷ 2 ∷ 3 ∷ 4 ∷ 3 �
 
 -- a test, with every definition open, so that it computes
 pub computed : Bool → Bool
-unfolding pick when atPlace sumTo countTo firstTo lastTo listTo every sameList wordAt bytesOf nodeCount limitOf fieldAt weightAt labelAt firstAt nextAt walkFrom walkPlace chainFrom treeOf prevAt ownerAt parentFrom parentAt markAt inRun goodMark pageFrom pageOf pageCount pageWeight badMark heavyPage verdictOf runLastFrom runLast comesFrom comesAfter isRun isMember countOf holds runWith homeFrom homeOf runWeight withinLimit runsOf restSum gainSum takenCount largestGain takeEarliest reduceFrom reduce better leastOf winner staying asMember runChoices running runOf lightest stopsAt secondStart gainOf childOf childrenFrom childrenOf choicesOf layMarks bestMarks levelMarks whole cutDown remainders laySingle singleMarks sides remainder takenAt layPair pairMarks entryAt stretched nextPage pageRecords nextOnPage nodeRecord archiveOf pagesIn pageFieldIn nodeFieldIn parentIn firstIn nextIn tableIn beginsIn continuesIn markIn marksIn shortTable badCount badLimit badLength noWeight badWalk heavyNode badMarks shortScratch markRefused pageRefused badOutput noArchive formChecks treeChecks planChecks judgeChecks writeChecks passes soundForm acceptedTree refusedForWeight feasiblePlan causeOf refused firstOf readTree judgePlan planned planBest planLevel planSingle planPair writeArchive isArchive readChecks readArchive
+unfolding pick when atPlace sumTo countTo firstTo lastTo listTo every sameList wordAt bytesOf fieldAt walkFrom walkPlace chainFrom treeOf prevAt ownerAt parentFrom parentAt markAt inRun goodMark pageFrom pageOf pageCount pageWeight badMark heavyPage verdictOf runLastFrom runLast comesFrom comesAfter isRun isMember countOf holds runWith homeFrom homeOf runWeight withinLimit runsOf restSum gainSum takenCount largestGain takeEarliest reduceFrom reduce better leastOf winner staying asMember runChoices running runOf lightest stopsAt secondStart gainOf childOf childrenFrom childrenOf choicesOf layMarks bestMarks levelMarks whole cutDown remainders laySingle singleMarks sides remainder takenAt layPair pairMarks entryAt stretched nextPage pageRecords nextOnPage nodeRecord archiveOf pagesIn pageFieldIn nodeFieldIn parentIn firstIn nextIn tableIn beginsIn continuesIn markIn marksIn shortTable badCount badLimit badLength noWeight badWalk heavyNode badMarks shortScratch markRefused pageRefused badOutput noArchive formChecks treeChecks planChecks judgeChecks writeChecks passes soundForm acceptedTree refusedForWeight feasiblePlan causeOf refused firstOf readTree judgePlan planned planBest planLevel planSingle planPair writeArchive isArchive readChecks readArchive
 computed b = b
 
 abbrev saysFeasible : Verdict → ℕ → ℕ → Bool

@@ -24,26 +24,26 @@ bytesOf [] = []
 bytesOf (w ∷ ws) = w / 256 ∷ w % 256 ∷ bytesOf ws
 
 -- word 0 is N, the number of nodes, and word 1 is K, the page limit
-unfoldable pub nodeCount : List ℕ → ℕ
+abbrev pub nodeCount : List ℕ → ℕ
 nodeCount t = wordAt t 0
 
-unfoldable pub limitOf : List ℕ → ℕ
+abbrev pub limitOf : List ℕ → ℕ
 limitOf t = wordAt t 1
 
 -- N records of four words follow, for the nodes 1 to N: weight, label, first child, next sibling
 unfoldable pub fieldAt : List ℕ → ℕ → ℕ → ℕ
 fieldAt t v f = wordAt t (2 + 4 * (v - 1) + f)
 
-unfoldable pub weightAt : List ℕ → ℕ → ℕ
+abbrev pub weightAt : List ℕ → ℕ → ℕ
 weightAt t v = fieldAt t v 0
 
-unfoldable pub labelAt : List ℕ → ℕ → ℕ
+abbrev pub labelAt : List ℕ → ℕ → ℕ
 labelAt t v = fieldAt t v 1
 
-unfoldable pub firstAt : List ℕ → ℕ → ℕ
+abbrev pub firstAt : List ℕ → ℕ → ℕ
 firstAt t v = fieldAt t v 2
 
-unfoldable pub nextAt : List ℕ → ℕ → ℕ
+abbrev pub nextAt : List ℕ → ℕ → ℕ
 nextAt t v = fieldAt t v 3
 
 -- how many bytes the table of n nodes has

@@ -1,0 +1,24 @@
+-- `table::earlier` meets its contract. Assumes nothing.
+use mathlib.Core.Path.{sym, _∙_}
+use Rattle.theory.specs.Ranges.{atPlace-at, atPlace-nowhere}
+use borrow.Author.Needs.{needs}
+use Rattle.table.proofs.earlier.Statement.{statement}
+use Rattle.table.proofs.earlier.Tie as tie
+
+enum-known-place : tie.Need-enum-known-place
+enum-known-place c = search needs
+
+refuse-requires : tie.Need-refuse-requires
+refuse-requires c κs = search needs
+
+enum-told : tie.Need-enum-told
+enum-told c = search needs
+
+returns : tie.Need-returns
+returns c = c .refuse .ensures ∙ sym (atPlace-at (c .before .before .before .before .args .place) _ _ _ (c .before .before .place .given .1))
+
+returns-2 : tie.Need-returns-2
+returns-2 c = sym (atPlace-nowhere (c .before .before .args .place) _ _ (c .enum-told .given .1))
+
+pub earlier-spec : {M : Type 1} → statement M
+earlier-spec = tie.close (tie.spec enum-known-place refuse-requires enum-told returns returns-2)

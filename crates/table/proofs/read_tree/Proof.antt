@@ -1,0 +1,93 @@
+-- `table::read_tree` meets its contract. Assumes nothing.
+use mathlib.Core.Path.{_≡_, ap, ap₂, sym, _∙_}
+use Prim.Native.Nat.{ℕ}
+use native.Mathlib.Omega.{arith}
+use lib.Dec.{eqb, ltb}
+use denote.Ref.{now}
+use Rattle.model.specs.Basics.{firstTo}
+use Rattle.model.specs.Table.{weightAt}
+use Rattle.model.specs.Refusals.{noWeight, badWalk, heavyNode}
+use Rattle.model.specs.declared.Answer.{Answer}
+use Rattle.theory.specs.Checks.{nodeChecks, headAnswer, head-refuses, head-goes-on, head-count, firstOf-cons, firstOf-none}
+use borrow.Author.Needs.{needs}
+use Rattle.table.proofs.read_tree.Statement.{statement}
+use Rattle.table.proofs.read_tree.Tie as tie
+
+-- the number that the head's checks gave
+number-is : (c : tie.Else1) → c .before .before .read-head .result .number ≡ headAnswer (now (c .before .before .before .before .args .table)) .number
+unfolding headAnswer
+number-is c = ap (λ (a : Answer). a .number) (c .before .before .read-head .ensures)
+
+read-head-requires : tie.Need-read-head-requires
+read-head-requires c κs = search needs
+
+returns : tie.Need-returns
+unfolding headAnswer
+returns c =
+    let s = c .before .before .before .before in
+    c .before .before .read-head .ensures ∙ head-refuses (now (s .args .table)) (λ e. c .if1 .taken (ap (λ (a : Answer). a .number) (c .before .before .read-head .ensures) ∙ e))
+
+node-count-requires : tie.Need-node-count-requires
+node-count-requires c κs = search needs
+
+limit-of-requires : tie.Need-limit-of-requires
+limit-of-requires c κs = search needs
+
+first-heavier-requires : tie.Need-first-heavier-requires
+first-heavier-requires c κs = search needs
+
+walk-place-requires : tie.Need-walk-place-requires
+unfolding headAnswer
+walk-place-requires c κs =
+    let e = c .before .before .before in
+    let t = now (e .before .before .before .before .args .table) in (
+      c .before .before .node-count .ensures,
+      omega (arith, c .before .before .node-count .ensures, head-count t (sym (number-is e) ∙ e .if1 .left)),
+    )
+
+first-weightless-requires : tie.Need-first-weightless-requires
+first-weightless-requires c κs = search needs
+
+accept-requires : tie.Need-accept-requires
+accept-requires c κs = search needs
+
+earlier-requires : tie.Need-earlier-requires
+earlier-requires c κs = search needs
+
+earlier-requires-2 : tie.Need-earlier-requires-2
+earlier-requires-2 c κs = search needs
+
+earlier-requires-3 : tie.Need-earlier-requires-3
+earlier-requires-3 c κs = search needs
+
+returns-2 : tie.Need-returns-2
+unfolding headAnswer nodeChecks noWeight badWalk heavyNode
+returns-2 c =
+    let l = c .before .before .before .before in
+    let n = l .before .before .before .before in
+    let e = n .before in
+    let t = now (e .before .before .before .before .args .table) in
+    let q = n .node-count .ensures in
+    firstOf-cons _ _ _ _ _ _ (c .earlier3 .ensures) (l .first-weightless .ensures ∙ ap (λ (k : ℕ). firstTo k (λ v. eqb (weightAt t v) 0)) q)
+    (firstOf-cons _ _ _ _ _ _ (c .before .earlier2 .ensures) (l .before .walk-place .ensures)
+    (firstOf-cons _ _ _ _ _ _ (c .before .before .earlier .ensures)
+    (l .before .before .first-heavier .ensures ∙ ap₂ (λ (k m : ℕ). firstTo k (λ v. ltb m (weightAt t v))) q (l .before .before .before .limit-of .ensures))
+    (firstOf-none _ _ (c .before .before .before .accept .ensures))))
+    ∙ head-goes-on t (sym (number-is e) ∙ e .if1 .left)
+
+pub read-tree-spec : {M : Type 1} → statement M
+read-tree-spec =
+    tie.close
+    (tie.spec
+    read-head-requires
+    returns
+    node-count-requires
+    limit-of-requires
+    first-heavier-requires
+    walk-place-requires
+    first-weightless-requires
+    accept-requires
+    earlier-requires
+    earlier-requires-2
+    earlier-requires-3
+    returns-2)

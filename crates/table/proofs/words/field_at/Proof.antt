@@ -1,0 +1,43 @@
+use mathlib.Core.Logic.{⊎-elim}
+use native.Mathlib.Omega.{arith}
+use denote.Ref.{now}
+use Prim.Native.Nat.{ℕ, _+_, _*_}
+use mathlib.Core.Path.{ap, _∙_}
+use Rattle.model.specs.Table.{wordAt, fieldAt}
+use borrow.Author.Needs.{needs}
+use Rattle.table.proofs.words.field_at.Statement.{statement}
+use Rattle.table.proofs.words.field_at.Tie as tie
+use Rattle.table.proofs.words.field_at.Reads as reads
+use Rattle.table.proofs.words.field_at.Lts as lts
+use Rattle.table.proofs.words.word_at.Reads as word-at-reads
+
+-- src/words.rt:47:41
+sub-before : tie.Need-sub-before
+sub-before c = search needs
+
+-- src/words.rt:48:24
+mul-word-at : tie.Need-mul-word-at
+mul-word-at c = search needs
+
+-- src/words.rt:48:20
+add-word-at : tie.Need-add-word-at
+add-word-at c = search needs
+
+-- src/words.rt:48:20
+add-word-at-2 : tie.Need-add-word-at-2
+add-word-at-2 c = search needs
+
+-- src/words.rt:48:5
+word-at-requires : tie.Need-word-at-requires
+word-at-requires c κs = search needs
+
+-- src/words.rt:44:1
+returns : tie.Need-returns
+unfolding fieldAt
+returns c =
+    let a = c .before .before .before .before .args in
+    c .word-at .ensures ∙ ap (λ (u : ℕ). wordAt (now (a .table)) (2 + 4 * u + a .f)) (⊎-elim (λ w. omega arith) (λ w. omega arith) (c .before .before .if1 .came))
+
+pub field-at-spec : {M : Type 1} → statement M
+field-at-spec =
+    tie.close (tie.spec sub-before mul-word-at add-word-at add-word-at-2 word-at-requires returns)

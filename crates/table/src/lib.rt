@@ -1,0 +1,154 @@
+// The tree reader: words, the walk of the chains, and the refusals 1 to 7.
+mod walk;
+pub mod words;
+
+use model::Answer;
+use model::Cause;
+use model::Place;
+use model::Verdict;
+use walk::walk_place;
+use words::limit_of;
+use words::node_count;
+use words::weight_at;
+ghost use mathlib.Core.Path.{_≡_};
+ghost use lib.Dec.{eqb, ltb};
+ghost use mathlib.Core.Bool.{_||_};
+ghost use Rattle.model.specs.Basics.{firstTo, when, atPlace};
+ghost use Rattle.model.specs.Table.{tableBytes, weightAt};
+ghost use Rattle.model.specs.Refusals.{refused, accepted, firstOf, readTree};
+ghost use Rattle.theory.specs.Checks.{headChecks};
+
+const MAX_NODES: u16 = 1024;
+
+const MAX_LIMIT: u16 = 1024;
+
+// A refusal. 10 and 11 are the judge's, and have their cause beside them.
+pub fn refuse(number: u32, place: u32) -> Answer
+    ensures { λ r. ⌜ r ≡ refused number place ⌝ }
+{
+    if number == 10 {
+        return Answer {
+            number,
+            place,
+            verdict: Verdict::Failed(Cause::BadMark(place)),
+        };
+    }
+    if number == 11 {
+        return Answer {
+            number,
+            place,
+            verdict: Verdict::Failed(Cause::HeavyPage(place)),
+        };
+    }
+    Answer {
+        number,
+        place,
+        verdict: Verdict::NotJudged,
+    }
+}
+
+// The first node that weighs nothing.
+fn first_weightless(table: &[u8], nodes: u16) -> Place
+    ensures { λ r. ⌜ r ≡ firstTo nodes (λ v. eqb (weightAt (now (table .entry)) v) 0) ⌝ }
+{
+    let mut v: u16 = 0;
+    while v < nodes {
+        v += 1;
+        if weight_at(table, v) == 0 {
+            return Place::At(v as u32);
+        }
+    }
+    Place::Nowhere
+}
+
+// The first node that outweighs the limit.
+fn first_heavier(table: &[u8], nodes: u16, limit: u16) -> Place
+    ensures { λ r. ⌜ r ≡ firstTo nodes (λ v. ltb limit (weightAt (now (table .entry)) v)) ⌝ }
+{
+    let mut v: u16 = 0;
+    while v < nodes {
+        v += 1;
+        if limit < weight_at(table, v) {
+            return Place::At(v as u32);
+        }
+    }
+    Place::Nowhere
+}
+
+// A place where a condition holds.
+pub fn place_if(applies: bool, place: u32) -> Place
+    ensures { λ r. ⌜ r ≡ when applies place ⌝ }
+{
+    if applies {
+        Place::At(place)
+    } else {
+        Place::Nowhere
+    }
+}
+
+// A head word that is 0 or over its bound.
+fn outside(word: u16, most: u16) -> Place
+    ensures { λ r. ⌜ r ≡ when (eqb word 0 || ltb most word) word ⌝ }
+{
+    place_if((word == 0) | (most < word), word as u32)
+}
+
+// How many bytes the table of so many nodes has.
+pub fn table_bytes(nodes: u16) -> u32
+    ensures { λ r. ⌜ r ≡ tableBytes nodes ⌝ }
+{
+    4 + 8 * (nodes as u32)
+}
+
+// Nothing is refused, and no plan was judged.
+pub fn accept() -> Answer
+    ensures { λ r. ⌜ r ≡ accepted Verdict.NotJudged ⌝ }
+{
+    Answer {
+        number: 0,
+        place: 0,
+        verdict: Verdict::NotJudged,
+    }
+}
+
+// The refusal of a check that applies, or else the answer of the checks after it.
+pub fn earlier(number: u32, place: Place, rest: Answer) -> Answer
+    ensures { λ r. ⌜ r ≡ atPlace place (refused number) rest ⌝ }
+{
+    match place {
+        Place::At(p) => refuse(number, p),
+        Place::Nowhere => rest,
+    }
+}
+
+// 1 to 4: the head and the length.
+fn read_head(table: &[u8]) -> Answer
+    ensures { λ r. ⌜ r ≡ firstOf (headChecks (now (table .entry))) (accepted Verdict.NotJudged) ⌝ }
+{
+    let nodes = node_count(table);
+    let size = table_bytes(nodes);
+    let length = place_if(table.len() != size as usize, size);
+    let limit = outside(limit_of(table), MAX_LIMIT);
+    let count = outside(nodes, MAX_NODES);
+    let short = place_if(table.len() < 4, 0);
+    earlier(
+        1,
+        short,
+        earlier(2, count, earlier(3, limit, earlier(4, length, accept()))),
+    )
+}
+
+// Entry: the tree reader, with the refusals 1 to 7.
+pub fn read_tree(table: &[u8]) -> Answer
+    ensures { λ r. ⌜ r ≡ readTree (now (table .entry)) ⌝ }
+{
+    let head = read_head(table);
+    if head.number != 0 {
+        return head;
+    }
+    let nodes = node_count(table);
+    let heavy = first_heavier(table, nodes, limit_of(table));
+    let walk = walk_place(table, nodes);
+    let weightless = first_weightless(table, nodes);
+    earlier(5, weightless, earlier(6, walk, earlier(7, heavy, accept())))
+}

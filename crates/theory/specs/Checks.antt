@@ -1,0 +1,105 @@
+-- Lists of checks, one after the other: what an answer tells of the checks before it.
+-- Defines headChecks, Numbered. Assumes nothing.
+use mathlib.Core.Path.{_≡_, refl, sym, ap₂, _∙_}
+use mathlib.Core.Bool.{true, false, false≢true}
+use mathlib.Core.List.{List, [], _∷_, _++_}
+use Prim.Native.Nat.{ℕ, _+_, _≤_}
+use native.Mathlib.Omega.{arith}
+use Rattle.model.specs.Basics.{atPlace}
+use Rattle.model.specs.Table.{maxNodes, nodeCount}
+use borrow.Author.Tests.{ltb-false}
+use Rattle.theory.specs.Ranges.{when-nowhere}
+use Rattle.theory.specs.Sound.{passes-first, passes-rest, both-false}
+use lib.Dec.{eqb, ltb}
+use Rattle.model.specs.Refusals.{Check, shortTable, badCount, badLimit, badLength, noWeight, badWalk, heavyNode, formChecks, treeChecks, readTree, passes, refused, accepted, firstOf}
+use Rattle.model.specs.declared.Place.{Place}
+use Rattle.model.specs.declared.Place.the-variants.{At, Nowhere}
+use Rattle.model.specs.declared.Verdict.{Verdict}
+use Rattle.model.specs.declared.Verdict.the-variants.{NotJudged}
+use Rattle.model.specs.declared.Answer.{Answer}
+
+-- the checks of the head and the length, before any node is looked at
+unfoldable pub headChecks : List ℕ → List Check
+headChecks t = shortTable t ∷ badCount t ∷ badLimit t ∷ badLength t ∷ []
+
+-- every check of the list has a number, so that 0 is left for acceptance
+unfoldable pub HasNumbers : List Check → Type 0
+HasNumbers [] = Unit {0}
+HasNumbers (c ∷ cs) = (1 ≤ c .number) × HasNumbers cs
+
+-- checks that pass leave the answer to those after them
+pub firstOf-pass : (cs ds : List Check) (a : Answer) → passes cs ≡ true → firstOf (cs ++ ds) a ≡ firstOf ds a
+unfolding passes firstOf atPlace
+firstOf-pass [] ds a e = refl
+firstOf-pass (c ∷ cs) ds a e = go (c .place) (firstOf-pass cs ds a) e
+  where
+    go : (o : Place) → (passes cs ≡ true → firstOf (cs ++ ds) a ≡ firstOf ds a)
+        → atPlace o (λ p. false) (passes cs) ≡ true → atPlace o (refused (c .number)) (firstOf (cs ++ ds) a) ≡ firstOf ds a
+    go (At p) ih h = absurd (false≢true h)
+    go Nowhere ih h = ih h
+
+module _ (v : Verdict) where
+  -- acceptance says that all pass
+  pub accepted-pass : (cs : List Check) → HasNumbers cs → firstOf cs (accepted v) .number ≡ 0 → passes cs ≡ true
+  unfolding passes firstOf atPlace HasNumbers refused
+  accepted-pass [] n e = refl
+  accepted-pass (c ∷ cs) n e = go (c .place) (accepted-pass cs (n .1)) e
+    where
+      go : (o : Place) → (firstOf cs (accepted v) .number ≡ 0 → passes cs ≡ true)
+          → (atPlace o (refused (c .number)) (firstOf cs (accepted v))) .number ≡ 0 → atPlace o (λ p. false) (passes cs) ≡ true
+      go (At p) ih h = absurd (omega (arith, n .0))
+      go Nowhere ih h = ih h
+
+  -- a refusal stands, whatever checks come after
+  pub firstOf-stop : (cs ds : List Check) (a : Answer) → (firstOf cs (accepted v) .number ≡ 0 → ⊥)
+      → firstOf (cs ++ ds) a ≡ firstOf cs (accepted v)
+  unfolding firstOf atPlace
+  firstOf-stop [] ds a e = absurd (e refl)
+  firstOf-stop (c ∷ cs) ds a e = go (c .place) (firstOf-stop cs ds a) e
+    where
+      go : (o : Place) → ((firstOf cs (accepted v) .number ≡ 0 → ⊥) → firstOf (cs ++ ds) a ≡ firstOf cs (accepted v))
+          → ((atPlace o (refused (c .number)) (firstOf cs (accepted v))) .number ≡ 0 → ⊥)
+          → atPlace o (refused (c .number)) (firstOf (cs ++ ds) a) ≡ atPlace o (refused (c .number)) (firstOf cs (accepted v))
+      go (At p) ih h = refl
+      go Nowhere ih h = ih h
+
+-- one check before others, as a program puts an answer together
+pub firstOf-cons : (c : Check) (cs : List Check) (a : Answer) (p : Place) (rest r : Answer) → r ≡ atPlace p (refused (c .number)) rest
+    → p ≡ c .place → rest ≡ firstOf cs a → r ≡ firstOf (c ∷ cs) a
+unfolding firstOf
+firstOf-cons c cs a p rest r e h g = e ∙ ap₂ (λ (o : Place) (x : Answer). atPlace o (refused (c .number)) x) h g
+
+pub firstOf-none : (a r : Answer) → r ≡ a → r ≡ firstOf [] a
+unfolding firstOf
+firstOf-none a r e = e
+
+-- ---- the tree reader's checks: those of the head, and those that look at nodes
+
+unfoldable pub nodeChecks : List ℕ → List Check
+nodeChecks t = noWeight t ∷ badWalk t ∷ heavyNode t ∷ []
+
+-- the answer of the checks of the head alone
+unfoldable pub headAnswer : List ℕ → Answer
+headAnswer t = firstOf (headChecks t) (accepted NotJudged)
+
+head-numbers : (t : List ℕ) → HasNumbers (headChecks t)
+unfolding HasNumbers headChecks shortTable badCount badLimit badLength
+head-numbers t = (omega arith, (omega arith, (omega arith, (omega arith, tt))))
+
+head-passes : (t : List ℕ) → headAnswer t .number ≡ 0 → passes (headChecks t) ≡ true
+unfolding headAnswer
+head-passes t e = accepted-pass NotJudged (headChecks t) (head-numbers t) e
+
+pub head-refuses : (t : List ℕ) → (headAnswer t .number ≡ 0 → ⊥) → headAnswer t ≡ readTree t
+unfolding headAnswer readTree treeChecks formChecks headChecks nodeChecks
+head-refuses t h = sym (firstOf-stop NotJudged (headChecks t) (nodeChecks t) (accepted NotJudged) h)
+
+pub head-goes-on : (t : List ℕ) → headAnswer t .number ≡ 0 → firstOf (nodeChecks t) (accepted NotJudged) ≡ readTree t
+unfolding readTree treeChecks formChecks headChecks nodeChecks
+head-goes-on t e = sym (firstOf-pass (headChecks t) (nodeChecks t) (accepted NotJudged) (head-passes t e))
+
+pub head-count : (t : List ℕ) → headAnswer t .number ≡ 0 → nodeCount t ≤ maxNodes
+unfolding headChecks badCount
+head-count t e =
+    let p = passes-first (badCount t) _ (passes-rest (shortTable t) _ (head-passes t e)) in
+    ltb-false maxNodes (nodeCount t) (both-false (eqb (nodeCount t) 0) (ltb maxNodes (nodeCount t)) (when-nowhere _ _ p) .1)

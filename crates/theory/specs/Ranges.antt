@@ -1,0 +1,445 @@
+-- Laws of a choice by a test, of a place, and of the numbers 1 to n summed, counted, searched and listed. `Upto n P` says P of
+-- each of 1 to n. Assumes nothing.
+use Prim.Native.Nat.{ℕ, zero, suc, _+_, _≤_, _<_}
+use native.Mathlib.Omega.{arith}
+use native.Mathlib.Nat.{add-suc, add-zero}
+use mathlib.Core.Bool.{Bool, true, false, true≢false, false≢true}
+use mathlib.Core.Path.{_≡_, refl, sym, _∙_, ap}
+use mathlib.Core.Logic.{_⊎_, inl, inr}
+use mathlib.Core.List.{List, [], _∷_, _++_, append-assoc}
+use lib.ListN.{length, getD, length-append, List·getD-append}
+use lib.Seq.{getD-append-seam}
+use lib.Dec.{leb}
+use borrow.Author.Tests.{leb-true, leb-false}
+use Rattle.model.specs.Basics.{pick, when, atPlace, sumTo, countTo, firstTo, lastTo, listTo}
+use Rattle.model.specs.declared.Place.{Place}
+use Rattle.model.specs.declared.Place.the-variants.{At, Nowhere}
+
+-- ---- Choices and places
+
+pub pick-true {ℓ} : {X : Type ℓ} (b : Bool) (x y : X) → b ≡ true → pick b x y ≡ x
+unfolding pick
+pick-true true x y e = refl
+pick-true false x y e = absurd (false≢true e)
+
+pub pick-false {ℓ} : {X : Type ℓ} (b : Bool) (x y : X) → b ≡ false → pick b x y ≡ y
+unfolding pick
+pick-false true x y e = absurd (true≢false e)
+pick-false false x y e = refl
+
+pub when-true : (b : Bool) (p : ℕ) → b ≡ true → when b p ≡ At p
+unfolding when
+when-true true p e = refl
+when-true false p e = absurd (false≢true e)
+
+pub when-false : (b : Bool) (p : ℕ) → b ≡ false → when b p ≡ Nowhere
+unfolding when
+when-false true p e = absurd (true≢false e)
+when-false false p e = refl
+
+pub at-nowhere : (p : ℕ) → At p ≡ Nowhere → ⊥
+at-nowhere p e = let z : _≡_ {A = ℕ} 0 1 = cc in omega arith
+
+pub at-same : {p q : ℕ} → At p ≡ At q → p ≡ q
+at-same e = cc
+
+pub when-nowhere : (b : Bool) (p : ℕ) → when b p ≡ Nowhere → b ≡ false
+unfolding when
+when-nowhere true p e = absurd (at-nowhere p e)
+when-nowhere false p e = refl
+
+pub when-at : (b : Bool) (p q : ℕ) → when b p ≡ At q → (b ≡ true) × (p ≡ q)
+unfolding when
+when-at true p q e = (refl, at-same e)
+when-at false p q e = absurd (at-nowhere q (sym e))
+
+pub atPlace-at {ℓ} : {X : Type ℓ} (o : Place) (p : ℕ) (f : ℕ → X) (x : X) → o ≡ At p → atPlace o f x ≡ f p
+unfolding atPlace
+atPlace-at o p f x e = rw e
+
+pub atPlace-nowhere {ℓ} : {X : Type ℓ} (o : Place) (f : ℕ → X) (x : X) → o ≡ Nowhere → atPlace o f x ≡ x
+unfolding atPlace
+atPlace-nowhere o f x e = rw e
+
+-- a place is a number or none
+pub place-cases : (o : Place) → ((p : ℕ) × (o ≡ At p)) ⊎ (o ≡ Nowhere)
+place-cases (At p) = inl (p, refl)
+place-cases Nowhere = inr refl
+
+-- a Bool is true or false
+pub bool-cases : (b : Bool) → (b ≡ true) ⊎ (b ≡ false)
+bool-cases true = inl refl
+bool-cases false = inr refl
+
+-- ---- The numbers 1 to n
+
+abbrev pub Upto {ℓ} : ℕ → (ℕ → Type ℓ) → Type ℓ
+Upto n P = (v : ℕ) → 1 ≤ v → v ≤ n → P v
+
+pub upto-suc : (n v : ℕ) → v ≤ suc n → (v ≤ n) ⊎ (v ≡ suc n)
+upto-suc n v h = go (leb v n) refl
+  where
+    go : (b : Bool) → leb v n ≡ b → (v ≤ n) ⊎ (v ≡ suc n)
+    go true e = inl (leb-true v n e)
+    go false e = let l : n < v = leb-false v n e in inr (omega arith)
+
+-- what holds of 1 to n and of n + 1 holds of 1 to n + 1, and back
+pub upto-add {ℓ} : (P : ℕ → Type ℓ) (n : ℕ) → Upto n P → P (suc n) → Upto (suc n) P
+upto-add P n below last v low high = go (upto-suc n v high)
+  where
+    go : (v ≤ n) ⊎ (v ≡ suc n) → P v
+    go (inl h) = below v low h
+    go (inr e) = rw e last
+
+pub upto-less {ℓ} : (P : ℕ → Type ℓ) (n : ℕ) → Upto (suc n) P → Upto n P
+upto-less P n h v low high = h v low (omega arith)
+
+pub upto-last {ℓ} : (P : ℕ → Type ℓ) (n : ℕ) → Upto (suc n) P → P (suc n)
+upto-last P n h = h (suc n) (omega arith) (omega arith)
+
+-- ---- Sums
+
+pub sumTo-zero : (f : ℕ → ℕ) → sumTo 0 f ≡ 0
+unfolding sumTo
+sumTo-zero f = refl
+
+pub sumTo-suc : (n : ℕ) (f : ℕ → ℕ) → sumTo (suc n) f ≡ sumTo n f + f (suc n)
+unfolding sumTo
+sumTo-suc n f = refl
+
+pub sumTo-cong : (n : ℕ) (f g : ℕ → ℕ) → Upto n (λ v. f v ≡ g v) → sumTo n f ≡ sumTo n g
+sumTo-cong zero f g h = simp sumTo-zero
+sumTo-cong (suc n) f g h =
+    let before : sumTo n f ≡ sumTo n g = sumTo-cong n f g (upto-less (λ v. f v ≡ g v) n h) in
+    let last : f (suc n) ≡ g (suc n) = upto-last (λ v. f v ≡ g v) n h in
+    rw (sumTo-suc n f, sumTo-suc n g, before, last)
+
+pub sumTo-add : (n : ℕ) (f g : ℕ → ℕ) → sumTo n (λ v. f v + g v) ≡ sumTo n f + sumTo n g
+sumTo-add zero f g = simp sumTo-zero
+sumTo-add (suc n) f g =
+    omega (arith, sumTo-add n f g, sumTo-suc n (λ v. f v + g v), sumTo-suc n f, sumTo-suc n g)
+
+pub sumTo-le : (n : ℕ) (f g : ℕ → ℕ) → Upto n (λ v. f v ≤ g v) → sumTo n f ≤ sumTo n g
+sumTo-le zero f g h = omega (arith, sumTo-zero f)
+sumTo-le (suc n) f g h =
+    omega (arith, sumTo-le n f g (upto-less (λ v. f v ≤ g v) n h), upto-last (λ v. f v ≤ g v) n h, sumTo-suc n f, sumTo-suc n g)
+
+pub sumTo-none : (n : ℕ) (f : ℕ → ℕ) → Upto n (λ v. f v ≡ 0) → sumTo n f ≡ 0
+sumTo-none zero f h = sumTo-zero f
+sumTo-none (suc n) f h =
+    omega (arith, sumTo-none n f (upto-less (λ v. f v ≡ 0) n h), upto-last (λ v. f v ≡ 0) n h, sumTo-suc n f)
+
+-- the first m, and then n more
+pub sumTo-split : (m n : ℕ) (f : ℕ → ℕ) → sumTo (m + n) f ≡ sumTo m f + sumTo n (λ v. f (m + v))
+sumTo-split m zero f = rw (add-zero m, sumTo-zero (λ v. f (m + v)), add-zero (sumTo m f))
+sumTo-split m (suc n) f =
+    rw (add-suc m n)
+    (omega (arith, sumTo-split m n f, sumTo-suc (m + n) f, sumTo-suc n (λ v. f (m + v)), ap f (add-suc m n)))
+
+-- ---- Counts
+
+pub countTo-zero : (p : ℕ → Bool) → countTo 0 p ≡ 0
+unfolding countTo
+countTo-zero p = sumTo-zero (λ v. pick (p v) 1 0)
+
+pub countTo-suc : (n : ℕ) (p : ℕ → Bool) → countTo (suc n) p ≡ countTo n p + pick (p (suc n)) 1 0
+unfolding countTo
+countTo-suc n p = sumTo-suc n (λ v. pick (p v) 1 0)
+
+pub countTo-yes : (n : ℕ) (p : ℕ → Bool) → p (suc n) ≡ true → countTo (suc n) p ≡ suc (countTo n p)
+countTo-yes n p e = omega (arith, countTo-suc n p, pick-true {X = ℕ} (p (suc n)) 1 0 e)
+
+pub countTo-no : (n : ℕ) (p : ℕ → Bool) → p (suc n) ≡ false → countTo (suc n) p ≡ countTo n p
+countTo-no n p e = omega (arith, countTo-suc n p, pick-false {X = ℕ} (p (suc n)) 1 0 e)
+
+pub countTo-cong : (n : ℕ) (p q : ℕ → Bool) → Upto n (λ v. p v ≡ q v) → countTo n p ≡ countTo n q
+unfolding countTo
+countTo-cong n p q h =
+    sumTo-cong n (λ v. pick (p v) 1 0) (λ v. pick (q v) 1 0) (λ v low high. ap (λ b. pick b 1 0) (h v low high))
+
+pub countTo-split : (m n : ℕ) (p : ℕ → Bool) → countTo (m + n) p ≡ countTo m p + countTo n (λ v. p (m + v))
+unfolding countTo
+countTo-split m n p = sumTo-split m n (λ v. pick (p v) 1 0)
+
+pick-le-one : (b : Bool) → pick b 1 0 ≤ 1
+unfolding pick
+pick-le-one true = omega arith
+pick-le-one false = omega arith
+
+pub countTo-le : (n : ℕ) (p : ℕ → Bool) → countTo n p ≤ n
+countTo-le zero p = omega (arith, countTo-zero p)
+countTo-le (suc n) p = omega (arith, countTo-le n p, countTo-suc n p, pick-le-one (p (suc n)))
+
+pub countTo-all : (n : ℕ) (p : ℕ → Bool) → Upto n (λ v. p v ≡ true) → countTo n p ≡ n
+countTo-all zero p h = countTo-zero p
+countTo-all (suc n) p h =
+    omega (
+      arith,
+      countTo-all n p (upto-less (λ v. p v ≡ true) n h),
+      countTo-yes n p (upto-last (λ v. p v ≡ true) n h),
+    )
+
+pub countTo-none : (n : ℕ) (p : ℕ → Bool) → Upto n (λ v. p v ≡ false) → countTo n p ≡ 0
+countTo-none zero p h = countTo-zero p
+countTo-none (suc n) p h =
+    omega (
+      arith,
+      countTo-none n p (upto-less (λ v. p v ≡ false) n h),
+      countTo-no n p (upto-last (λ v. p v ≡ false) n h),
+    )
+
+pub countTo-full : (n : ℕ) (p : ℕ → Bool) → countTo n p ≡ n → Upto n (λ v. p v ≡ true)
+countTo-full zero p e = λ v low high. absurd (omega arith)
+countTo-full (suc n) p e = go (p (suc n)) refl (countTo-full n p)
+  where
+    go : (b : Bool) → p (suc n) ≡ b → (countTo n p ≡ n → Upto n (λ v. p v ≡ true)) → Upto (suc n) (λ v. p v ≡ true)
+    go true q ih = upto-add (λ v. p v ≡ true) n (ih (omega (arith, countTo-yes n p q))) q
+    go false q ih = absurd (omega (arith, countTo-no n p q, countTo-le n p))
+
+-- ---- The first that passes
+
+pub firstTo-zero : (p : ℕ → Bool) → firstTo 0 p ≡ Nowhere
+unfolding firstTo
+firstTo-zero p = refl
+
+pub firstTo-suc : (n : ℕ) (p : ℕ → Bool) → firstTo (suc n) p ≡ atPlace (firstTo n p) At (when (p (suc n)) (suc n))
+unfolding firstTo
+firstTo-suc n p = refl
+
+pub firstTo-found : (n v : ℕ) (p : ℕ → Bool) → firstTo n p ≡ At v → firstTo (suc n) p ≡ At v
+firstTo-found n v p e = firstTo-suc n p ∙ atPlace-at (firstTo n p) v At (when (p (suc n)) (suc n)) e
+
+pub firstTo-further : (n : ℕ) (p : ℕ → Bool) → firstTo n p ≡ Nowhere → firstTo (suc n) p ≡ when (p (suc n)) (suc n)
+firstTo-further n p e = firstTo-suc n p ∙ atPlace-nowhere (firstTo n p) At (when (p (suc n)) (suc n)) e
+
+pub firstTo-cong : (n : ℕ) (p q : ℕ → Bool) → Upto n (λ v. p v ≡ q v) → firstTo n p ≡ firstTo n q
+firstTo-cong zero p q h = simp firstTo-zero
+firstTo-cong (suc n) p q h =
+    let before : firstTo n p ≡ firstTo n q = firstTo-cong n p q (upto-less (λ v. p v ≡ q v) n h) in
+    let last : p (suc n) ≡ q (suc n) = upto-last (λ v. p v ≡ q v) n h in
+    rw (firstTo-suc n p, firstTo-suc n q, before, last)
+
+-- no number passes, and none is found
+pub firstTo-none : (n : ℕ) (p : ℕ → Bool) → Upto n (λ v. p v ≡ false) → firstTo n p ≡ Nowhere
+firstTo-none zero p h = firstTo-zero p
+firstTo-none (suc n) p h =
+    firstTo-further n p (firstTo-none n p (upto-less (λ v. p v ≡ false) n h))
+    ∙ when-false (p (suc n)) (suc n) (upto-last (λ v. p v ≡ false) n h)
+
+pub firstTo-nowhere : (n : ℕ) (p : ℕ → Bool) → firstTo n p ≡ Nowhere → Upto n (λ v. p v ≡ false)
+firstTo-nowhere zero p e = λ v low high. absurd (omega arith)
+firstTo-nowhere (suc n) p e = go (firstTo n p) refl (firstTo-nowhere n p)
+  where
+    go : (o : Place) → firstTo n p ≡ o → (firstTo n p ≡ Nowhere → Upto n (λ v. p v ≡ false)) → Upto (suc n) (λ v. p v ≡ false)
+    go (At v) q ih = absurd (at-nowhere v (sym (firstTo-found n v p q) ∙ e))
+    go Nowhere q ih =
+        upto-add (λ v. p v ≡ false) n (ih q) (when-nowhere (p (suc n)) (suc n) (sym (firstTo-further n p q) ∙ e))
+
+-- v is the first of 1 to n that passes
+pub record First (n : ℕ) (p : ℕ → Bool) (v : ℕ) : Type 0 where
+  pub low : 1 ≤ v
+  pub high : v ≤ n
+  pub passed : p v ≡ true
+  pub before : (u : ℕ) → 1 ≤ u → u < v → p u ≡ false
+
+pub firstTo-at : (n v : ℕ) (p : ℕ → Bool) → firstTo n p ≡ At v → First n p v
+firstTo-at zero v p e = absurd (at-nowhere v (sym e ∙ firstTo-zero p))
+firstTo-at (suc n) v p e = go (firstTo n p) refl (firstTo-at n)
+  where
+    more : First n p v → First (suc n) p v
+    more f = record { low = f .low; high = omega (arith, f .high); passed = f .passed; before = f .before }
+
+    go : (o : Place) → firstTo n p ≡ o → ((u : ℕ) (q : ℕ → Bool) → firstTo n q ≡ At u → First n q u) → First (suc n) p v
+    go (At u) q ih = more (ih v p (q ∙ sym (firstTo-found n u p q) ∙ e))
+    go Nowhere q ih =
+        let both = when-at (p (suc n)) (suc n) v (sym (firstTo-further n p q) ∙ e) in
+        let none : Upto n (λ u. p u ≡ false) = firstTo-nowhere n p q in
+        record {
+          low = omega arith;
+          high = omega arith;
+          passed = ap p (sym (both .1)) ∙ both .0;
+          before = λ u l h. none u l (omega arith);
+        }
+
+-- the first one that passes is found
+pub firstTo-first : (n v : ℕ) (p : ℕ → Bool) → First n p v → firstTo n p ≡ At v
+firstTo-first n v p f = go (firstTo n p) refl
+  where
+    go : (o : Place) → firstTo n p ≡ o → firstTo n p ≡ At v
+    go Nowhere e = absurd (true≢false (sym (f .passed) ∙ firstTo-nowhere n p e v (f .low) (f .high)))
+    go (At u) e = e ∙ ap At (same (leb u v) refl (leb v u) refl)
+      where
+        g : First n p u
+        g = firstTo-at n u p e
+
+        same : (b : Bool) → leb u v ≡ b → (c : Bool) → leb v u ≡ c → u ≡ v
+        same true d true d′ = let h : u ≤ v = leb-true u v d in let k : v ≤ u = leb-true v u d′ in omega arith
+        same true d false d′ =
+            let h : u < v = leb-false v u d′ in absurd (true≢false (sym (g .passed) ∙ f .before u (g .low) h))
+        same false d c d′ = let h : v < u = leb-false u v d in absurd (true≢false (sym (f .passed) ∙ g .before v (f .low) h))
+
+-- ---- The last that passes
+
+pub lastTo-zero : (p : ℕ → Bool) → lastTo 0 p ≡ 0
+unfolding lastTo
+lastTo-zero p = refl
+
+pub lastTo-suc : (n : ℕ) (p : ℕ → Bool) → lastTo (suc n) p ≡ pick (p (suc n)) (suc n) (lastTo n p)
+unfolding lastTo
+lastTo-suc n p = refl
+
+pub lastTo-yes : (n : ℕ) (p : ℕ → Bool) → p (suc n) ≡ true → lastTo (suc n) p ≡ suc n
+lastTo-yes n p e = lastTo-suc n p ∙ pick-true (p (suc n)) (suc n) (lastTo n p) e
+
+pub lastTo-no : (n : ℕ) (p : ℕ → Bool) → p (suc n) ≡ false → lastTo (suc n) p ≡ lastTo n p
+lastTo-no n p e = lastTo-suc n p ∙ pick-false (p (suc n)) (suc n) (lastTo n p) e
+
+pub lastTo-cong : (n : ℕ) (p q : ℕ → Bool) → Upto n (λ v. p v ≡ q v) → lastTo n p ≡ lastTo n q
+lastTo-cong zero p q h = simp lastTo-zero
+lastTo-cong (suc n) p q h =
+    let before : lastTo n p ≡ lastTo n q = lastTo-cong n p q (upto-less (λ v. p v ≡ q v) n h) in
+    let last : p (suc n) ≡ q (suc n) = upto-last (λ v. p v ≡ q v) n h in
+    rw (lastTo-suc n p, lastTo-suc n q, before, last)
+
+pub lastTo-le : (n : ℕ) (p : ℕ → Bool) → lastTo n p ≤ n
+lastTo-le zero p = omega (arith, lastTo-zero p)
+lastTo-le (suc n) p = go (p (suc n)) refl (lastTo-le n p)
+  where
+    go : (b : Bool) → p (suc n) ≡ b → lastTo n p ≤ n → lastTo (suc n) p ≤ suc n
+    go true q ih = omega (arith, lastTo-yes n p q)
+    go false q ih = omega (arith, lastTo-no n p q)
+
+pub lastTo-none : (n : ℕ) (p : ℕ → Bool) → Upto n (λ v. p v ≡ false) → lastTo n p ≡ 0
+lastTo-none zero p h = lastTo-zero p
+lastTo-none (suc n) p h =
+    lastTo-no n p (upto-last (λ v. p v ≡ false) n h) ∙ lastTo-none n p (upto-less (λ v. p v ≡ false) n h)
+
+pub lastTo-nothing : (n : ℕ) (p : ℕ → Bool) → lastTo n p ≡ 0 → Upto n (λ v. p v ≡ false)
+lastTo-nothing zero p e = λ v low high. absurd (omega arith)
+lastTo-nothing (suc n) p e = go (p (suc n)) refl (lastTo-nothing n p)
+  where
+    go : (b : Bool) → p (suc n) ≡ b → (lastTo n p ≡ 0 → Upto n (λ v. p v ≡ false)) → Upto (suc n) (λ v. p v ≡ false)
+    go true q ih = absurd (omega (arith, lastTo-yes n p q))
+    go false q ih = upto-add (λ v. p v ≡ false) n (ih (sym (lastTo-no n p q) ∙ e)) q
+
+-- v is the last of 1 to n that passes
+pub record Last (n : ℕ) (p : ℕ → Bool) (v : ℕ) : Type 0 where
+  pub low : 1 ≤ v
+  pub high : v ≤ n
+  pub passed : p v ≡ true
+  pub after : (u : ℕ) → v < u → u ≤ n → p u ≡ false
+
+pub lastTo-at : (n v : ℕ) (p : ℕ → Bool) → lastTo n p ≡ v → 1 ≤ v → Last n p v
+lastTo-at zero v p e low = absurd (omega (arith, lastTo-zero p))
+lastTo-at (suc n) v p e low = go (p (suc n)) refl (lastTo-at n v p)
+  where
+    go : (b : Bool) → p (suc n) ≡ b → (lastTo n p ≡ v → 1 ≤ v → Last n p v) → Last (suc n) p v
+    go true q ih =
+        let same : suc n ≡ v = sym (lastTo-yes n p q) ∙ e in
+        record { low = low; high = omega arith; passed = ap p (sym same) ∙ q; after = λ u l h. absurd (omega arith) }
+    go false q ih =
+        let f : Last n p v = ih (sym (lastTo-no n p q) ∙ e) low in
+        record {
+          low = low;
+          high = omega (arith, f .high);
+          passed = f .passed;
+          after = λ u l h. upto-add (λ w. v < w → p w ≡ false) n (λ w a b c. f .after w c b) (λ c. q) u (omega arith) h l;
+        }
+
+-- the last one that passes is found
+pub lastTo-last : (n v : ℕ) (p : ℕ → Bool) → Last n p v → lastTo n p ≡ v
+lastTo-last n v p f = go (leb 1 (lastTo n p)) refl
+  where
+    go : (b : Bool) → leb 1 (lastTo n p) ≡ b → lastTo n p ≡ v
+    go true e = same (leb u v) refl (leb v u) refl
+      where
+        u : ℕ
+        u = lastTo n p
+
+        g : Last n p u
+        g = lastTo-at n u p refl (leb-true 1 u e)
+
+        same : (b : Bool) → leb u v ≡ b → (c : Bool) → leb v u ≡ c → u ≡ v
+        same true d true d′ = let h : u ≤ v = leb-true u v d in let k : v ≤ u = leb-true v u d′ in omega arith
+        same true d false d′ =
+            let h : u < v = leb-false v u d′ in absurd (true≢false (sym (f .passed) ∙ g .after v h (f .high)))
+        same false d c d′ =
+            let h : v < u = leb-false u v d in absurd (true≢false (sym (g .passed) ∙ f .after u h (g .high)))
+    go false e =
+        let l : lastTo n p < 1 = leb-false 1 (lastTo n p) e in
+        let z : lastTo n p ≡ 0 = omega arith in
+        absurd (true≢false (sym (f .passed) ∙ lastTo-nothing n p z v (f .low) (f .high)))
+
+-- the only one that passes is found
+pub lastTo-only : (n v : ℕ) (p : ℕ → Bool) → 1 ≤ v → v ≤ n → p v ≡ true → Upto n (λ u. p u ≡ true → u ≡ v) → lastTo n p ≡ v
+lastTo-only n v p low high pass only =
+    lastTo-last n v p (record { low = low; high = high; passed = pass; after = λ u l h. go u l h (p u) refl })
+  where
+    go : (u : ℕ) → v < u → u ≤ n → (b : Bool) → p u ≡ b → p u ≡ false
+    go u l h true e = absurd (omega (arith, only u (omega arith) h e))
+    go u l h false e = e
+
+-- ---- Lists
+
+pub listTo-zero {ℓ} : {X : Type ℓ} (f : ℕ → List X) → listTo 0 f ≡ []
+unfolding listTo
+listTo-zero f = refl
+
+pub listTo-suc {ℓ} : {X : Type ℓ} (n : ℕ) (f : ℕ → List X) → listTo (suc n) f ≡ listTo n f ++ f (suc n)
+unfolding listTo
+listTo-suc n f = refl
+
+pub listTo-cong {ℓ} : {X : Type ℓ} (n : ℕ) (f g : ℕ → List X) → Upto n (λ v. f v ≡ g v) → listTo n f ≡ listTo n g
+listTo-cong zero f g h = simp listTo-zero
+listTo-cong (suc n) f g h =
+    let before : listTo n f ≡ listTo n g = listTo-cong n f g (upto-less (λ v. f v ≡ g v) n h) in
+    let last : f (suc n) ≡ g (suc n) = upto-last (λ v. f v ≡ g v) n h in
+    rw (listTo-suc n f, listTo-suc n g, before, last)
+
+pub append-nil {ℓ} : {X : Type ℓ} (l : List X) → l ++ [] ≡ l
+append-nil [] = refl
+append-nil (x ∷ l) = ap (λ r. x ∷ r) (append-nil l)
+
+-- the first m, and then n more
+pub listTo-split {ℓ} : {X : Type ℓ} (m n : ℕ) (f : ℕ → List X) → listTo (m + n) f ≡ listTo m f ++ listTo n (λ v. f (m + v))
+listTo-split m zero f = rw (add-zero m, listTo-zero (λ v. f (m + v)), append-nil (listTo m f))
+listTo-split m (suc n) f =
+    rw (
+      add-suc m n,
+      listTo-suc (m + n) f,
+      listTo-split m n f,
+      listTo-suc n (λ v. f (m + v)),
+      add-suc m n,
+      append-assoc,
+    )
+
+-- the first, and then n more
+pub listTo-head {ℓ} : {X : Type ℓ} (n : ℕ) (f : ℕ → List X) → listTo (suc n) f ≡ f 1 ++ listTo n (λ v. f (suc v))
+listTo-head zero f = listTo-suc 0 f ∙ rw (listTo-zero f, listTo-zero (λ v. f (suc v)), append-nil (f 1))
+listTo-head (suc n) f =
+    rw (listTo-suc (suc n) f, listTo-head n f, listTo-suc n (λ v. f (suc v)), append-assoc)
+
+pub length-listTo {ℓ} : {X : Type ℓ} (n : ℕ) (f : ℕ → X) → length (listTo n (λ v. f v ∷ [])) ≡ n
+length-listTo zero f = rw (listTo-zero (λ v. f v ∷ []))
+length-listTo (suc n) f =
+    rw (listTo-suc n (λ v. f v ∷ []), length-append) (omega (arith, length-listTo n f))
+
+pub getD-listTo {ℓ} : {X : Type ℓ} (n i : ℕ) (f : ℕ → X) (d : X) → i < n → getD (listTo n (λ v. f v ∷ [])) i d ≡ f (suc i)
+getD-listTo zero i f d h = absurd (omega arith)
+getD-listTo {X = X} (suc n) i f d h = rw (listTo-suc n (λ v. f v ∷ [])) (go (upto-suc n (suc i) h) (getD-listTo n i f d))
+  where
+    xs : List X
+    xs = listTo n (λ v. f v ∷ [])
+
+    go : (suc i ≤ n) ⊎ (suc i ≡ suc n) → (i < n → getD xs i d ≡ f (suc i)) → getD (xs ++ (f (suc n) ∷ [])) i d ≡ f (suc i)
+    go (inl l) ih =
+        let fits : i < length xs = rw (length-listTo n f) l in List·getD-append xs (f (suc n) ∷ []) d i fits ∙ ih l
+    go (inr e) ih =
+        let here : i ≡ length xs = rw (length-listTo n f) (omega arith) in
+        ap (λ k. getD (xs ++ (f (suc n) ∷ [])) k d) here ∙ getD-append-seam xs (f (suc n)) [] d ∙ ap f (sym e)
+
+-- the sum of lengths
+pub length-listTo-sum {ℓ} : {X : Type ℓ} (n : ℕ) (f : ℕ → List X) → length (listTo n f) ≡ sumTo n (λ v. length (f v))
+length-listTo-sum zero f = rw (listTo-zero f, sumTo-zero (λ v. length (f v)))
+length-listTo-sum (suc n) f =
+    rw (listTo-suc n f, length-append, sumTo-suc n (λ v. length (f v)), length-listTo-sum n f)

@@ -1,0 +1,214 @@
+-- What counting gains needs of `reduce`: its figures, the sum and how many members were taken, follow from the sum, the room and how
+-- many members have each gain.
+-- Defines Sound, countGain, Figures, figuresOf, takeUpTo, byCount.
+-- Proves reduce-stop, reduce-turn (one turn), earliest-rest, earliest-taken, earliest-count, earliest-count-other (what a turn does to
+-- the figures and to each count), reduce-by-count (the figures of `reduce`, from the largest gain down) and reduce-alike (members in
+-- another order have the same figures). Assumes nothing.
+use Prim.Native.Nat.{ℕ, zero, suc, _+_, _-_, _≤_, _<_, max}
+use mathlib.Core.Path.{_≡_, refl, sym, _∙_, ap}
+use mathlib.Core.Bool.{Bool, true, false}
+use mathlib.Core.List.{List, [], _∷_}
+use mathlib.Core.Logic.{inl, inr}
+use native.Mathlib.Omega.{arith}
+use lib.ListN.{length}
+use lib.Dec.{eqb, leb}
+use borrow.Author.Tests.{leb-true, leb-false, eqb-true, le-leb, eq-eqb, ne-eqb}
+use Rattle.model.specs.Basics.{pick}
+use Rattle.model.specs.Steps.{Member, restSum, takenCount, largestGain, takeEarliest, reduce, whole, Child, asMember}
+use Rattle.theory.specs.Reduce.{Each, sumOf, Earliest, here, there, earliest, earliest-turn, earliest-each, earliest-gainers, Turns, Done, reduceFrom-stop, reduceFrom-turn, reduceFrom-reduce, gainers}
+
+-- ---- One turn of reduce
+
+pub reduce-stop : (room : ℕ) (ms : List Member) → Done room ms → reduce room ms ≡ ms
+unfolding reduce
+reduce-stop room ms d = reduceFrom-stop (length ms) room ms d
+
+pub largest-earliest : (ms : List Member) → 0 < largestGain ms → Earliest (largestGain ms) ms (takeEarliest (largestGain ms) ms)
+largest-earliest ms p = earliest (largestGain ms) ms p refl
+
+pub reduce-turn : (room : ℕ) (ms : List Member) → Turns room ms → reduce room ms ≡ reduce room (takeEarliest (largestGain ms) ms)
+reduce-turn room ms t =
+    let ns : List Member = takeEarliest (largestGain ms) ms in
+    let less : suc (gainers ns) ≡ gainers ms = earliest-gainers (t .some) (largest-earliest ms (t .some)) in
+    sym (reduceFrom-reduce (suc (gainers ns)) room ms (omega arith))
+    ∙ reduceFrom-turn (gainers ns) room ms t
+    ∙ reduceFrom-reduce (gainers ns) room ns (omega arith)
+
+-- ---- What a turn does to the figures
+
+-- a member gains no more than it weighs, and one with a gain was not taken
+pub record Sound (m : Member) : Type 0 where
+  pub fits : m .gain ≤ m .rest
+  pub fresh : 0 < m .gain → m .taken ≡ false
+
+pub whole-sound : (r : ℕ) → Sound (whole r)
+unfolding whole
+whole-sound r = record { fits = omega arith; fresh = λ p. refl }
+
+pub asMember-sound : (k : Child) → k .gain ≤ k .rest → Sound (asMember k)
+unfolding asMember
+asMember-sound k h = record { fits = h; fresh = λ p. refl }
+
+pub earliest-sound : {g : ℕ} {ms ns : List Member} → Earliest g ms ns → Each Sound ms → Each Sound ns
+earliest-sound {g} r h = earliest-each Sound (λ m e s. record { fits = omega arith; fresh = λ p. absurd (omega arith) }) r h
+
+pub earliest-rest : {g : ℕ} {ms ns : List Member} → Earliest g ms ns → Each Sound ms → restSum ns + g ≡ restSum ms
+unfolding Each restSum
+earliest-rest (here e) h = omega (arith, h .0 .fits)
+earliest-rest (there n r) h = omega (arith, earliest-rest r (h .1))
+
+pub earliest-taken : {g : ℕ} {ms ns : List Member} → 0 < g → Earliest g ms ns → Each Sound ms → takenCount ns ≡ suc (takenCount ms)
+unfolding Each takenCount pick
+earliest-taken p (here {m = m} e) h =
+    let f : m .taken ≡ false = h .0 .fresh (omega arith) in
+    rw f (omega arith)
+earliest-taken p (there n r) h = omega (arith, earliest-taken p r (h .1))
+
+-- whether a member has the gain g
+abbrev pub hasGain : ℕ → Member → ℕ
+hasGain g m = pick (eqb (m .gain) g) 1 0
+
+-- how many members have the gain g
+unfoldable pub countGain : ℕ → List Member → ℕ
+countGain g ms = sumOf (hasGain g) ms
+
+pub countGain-cons : (g : ℕ) (m : Member) (ms : List Member) → countGain g (m ∷ ms) ≡ hasGain g m + countGain g ms
+unfolding countGain sumOf
+countGain-cons g m ms = refl
+
+pub earliest-count : {g : ℕ} {ms ns : List Member} → 0 < g → Earliest g ms ns → suc (countGain g ns) ≡ countGain g ms
+unfolding countGain pick
+earliest-count {g} {ms} {ns} p r =
+    let t = earliest-turn r in
+    let n : 0 ≡ g → ⊥ = omega arith in
+    let s = rw (eq-eqb (t .member .gain) g (t .gains), ne-eqb 0 g n) at (t .sums (hasGain g)) in
+    omega (arith, s)
+
+pub earliest-count-other : {g : ℕ} {ms ns : List Member} (h : ℕ) → 0 < h → (h ≡ g → ⊥) → Earliest g ms ns → countGain h ns ≡ countGain h ms
+unfolding countGain pick
+earliest-count-other {g} {ms} {ns} h p d r =
+    let t = earliest-turn r in
+    let gains = t .gains in
+    let n : 0 ≡ h → ⊥ = omega arith in
+    let o : t .member .gain ≡ h → ⊥ = λ q. d (sym q ∙ gains) in
+    let s = rw (ne-eqb (t .member .gain) h o, ne-eqb 0 h n) at (t .sums (hasGain h)) in
+    omega (arith, s)
+
+-- ---- The largest gain, by counts
+
+pub count-le-largest : (h : ℕ) (ms : List Member) → 0 < countGain h ms → h ≤ largestGain ms
+unfolding countGain sumOf largestGain pick
+count-le-largest h [] p = absurd (omega arith)
+count-le-largest h (m ∷ ms) p = go (eqb (m .gain) h) refl (count-le-largest h ms)
+  where
+    go : (b : Bool) → eqb (m .gain) h ≡ b → (0 < countGain h ms → h ≤ largestGain ms) → h ≤ largestGain (m ∷ ms)
+    go true t ih = omega (arith, eqb-true (m .gain) h t)
+    go false t ih =
+        let p' : 0 < 0 + countGain h ms = rw t at p in
+        omega (arith, ih (omega arith))
+
+pub count-largest : (ms : List Member) → 0 < largestGain ms → 0 < countGain (largestGain ms) ms
+count-largest ms p = omega (arith, earliest-count p (largest-earliest ms p))
+
+pub largest-below : (g : ℕ) (ms : List Member) → largestGain ms ≤ suc g → countGain (suc g) ms ≡ 0 → largestGain ms ≤ g
+largest-below g ms h z = go (leb (largestGain ms) g) refl
+  where
+    go : (b : Bool) → leb (largestGain ms) g ≡ b → largestGain ms ≤ g
+    go true e = leb-true (largestGain ms) g e
+    go false e =
+        let most : largestGain ms ≡ suc g = omega (arith, leb-false (largestGain ms) g e) in
+        let some : 0 < countGain (suc g) ms = rw most at (count-largest ms (omega arith)) in
+        absurd (omega arith)
+
+pub earliest-largest : {g : ℕ} {ms ns : List Member} → Earliest g ms ns → largestGain ns ≤ largestGain ms
+unfolding largestGain
+earliest-largest (here e) = omega arith
+earliest-largest (there n r) = omega (arith, earliest-largest r)
+
+-- ---- The figures, from the largest gain down
+
+pub record Figures : Type 0 where
+  pub sum : ℕ
+  pub count : ℕ
+
+unfoldable pub figuresOf : List Member → Figures
+figuresOf ms = record { sum = restSum ms; count = takenCount ms }
+
+-- the gain g is taken at most n times, while the sum has no room
+unfoldable pub takeUpTo : ℕ → ℕ → ℕ → Figures → Figures
+takeUpTo zero g room s = s
+takeUpTo (suc n) g room s = pick (leb (s .sum) room) s (takeUpTo n g room (record { sum = s .sum - g; count = suc (s .count) }))
+
+-- each gain from g down to 1, of which there are c g
+unfoldable pub byCount : ℕ → (ℕ → ℕ) → ℕ → Figures → Figures
+byCount zero c room s = s
+byCount (suc g) c room s = byCount g c room (takeUpTo (c (suc g)) (suc g) room s)
+
+pub takeUpTo-room : (n g room : ℕ) (s : Figures) → s .sum ≤ room → takeUpTo n g room s ≡ s
+unfolding takeUpTo pick
+takeUpTo-room zero g room s h = refl
+takeUpTo-room (suc n) g room s h = rw (le-leb (s .sum) room h)
+
+pub byCount-room : (g : ℕ) (c : ℕ → ℕ) (room : ℕ) (s : Figures) → s .sum ≤ room → byCount g c room s ≡ s
+unfolding byCount
+byCount-room zero c room s h = refl
+byCount-room (suc g) c room s h = rw (takeUpTo-room (c (suc g)) (suc g) room s h) (byCount-room g c room s h)
+
+-- what is known of the members where gains above g are gone
+pub record Counted (g : ℕ) (c : ℕ → ℕ) (ms : List Member) : Type 0 where
+  pub sound : Each Sound ms
+  pub below : largestGain ms ≤ g
+  pub counts : (h : ℕ) → 0 < h → h ≤ g → countGain h ms ≡ c h
+
+module _ (g : ℕ) (c : ℕ → ℕ) (room : ℕ)
+    (lower : (ms : List Member) → Counted g c ms → figuresOf (reduce room ms) ≡ byCount g c room (figuresOf ms))
+  where
+    -- n members have the gain g + 1
+    level-by-count : (n : ℕ) (ms : List Member) → Each Sound ms → largestGain ms ≤ suc g → countGain (suc g) ms ≡ n
+        → ((h : ℕ) → 0 < h → h ≤ g → countGain h ms ≡ c h)
+        → figuresOf (reduce room ms) ≡ byCount g c room (takeUpTo n (suc g) room (figuresOf ms))
+    unfolding takeUpTo figuresOf pick
+    level-by-count zero ms sound below this counts =
+        lower ms (record { sound = sound; below = largest-below g ms below this; counts = counts })
+    level-by-count (suc n) ms sound below this counts = go (leb (restSum ms) room) refl (level-by-count n)
+      where
+        go : (b : Bool) → leb (restSum ms) room ≡ b
+            → ((ns : List Member) → Each Sound ns → largestGain ns ≤ suc g → countGain (suc g) ns ≡ n → ((h : ℕ) → 0 < h → h ≤ g → countGain h ns ≡ c h)
+            → figuresOf (reduce room ns) ≡ byCount g c room (takeUpTo n (suc g) room (figuresOf ns)))
+            → figuresOf (reduce room ms) ≡ byCount g c room (takeUpTo (suc n) (suc g) room (figuresOf ms))
+        go true e ih =
+            let fits : restSum ms ≤ room = leb-true (restSum ms) room e in
+            rw (reduce-stop room ms (inl fits), e) (sym (byCount-room g c room (figuresOf ms) fits))
+        go false e ih =
+            let over : room < restSum ms = leb-false (restSum ms) room e in
+            let most : largestGain ms ≡ suc g = omega (arith, count-le-largest (suc g) ms (omega arith)) in
+            let r : Earliest (suc g) ms (takeEarliest (suc g) ms) = earliest (suc g) ms (omega arith) most in
+            let turn : reduce room ms ≡ reduce room (takeEarliest (suc g) ms) = rw most at (reduce-turn room ms (record { over = over; some = omega arith })) in
+            let then = ih (takeEarliest (suc g) ms) (earliest-sound r sound) (omega (arith, earliest-largest r)) (omega (arith, earliest-count (omega arith) r)) (λ h p q. earliest-count-other h p (omega arith) r ∙ counts h p q) in
+            let sum-is : restSum (takeEarliest (suc g) ms) ≡ restSum ms - suc g = omega (arith, earliest-rest r sound) in
+            let count-is : takenCount (takeEarliest (suc g) ms) ≡ suc (takenCount ms) = earliest-taken (omega arith) r sound in
+            rw e (ap figuresOf turn ∙ then ∙ rw (sum-is, count-is))
+
+-- The figures of reduced members: each gain from the largest down, taken while the sum has no room.
+pub reduce-by-count : (g : ℕ) (c : ℕ → ℕ) (room : ℕ) (ms : List Member) → Counted g c ms
+    → figuresOf (reduce room ms) ≡ byCount g c room (figuresOf ms)
+unfolding byCount
+reduce-by-count zero c room ms k = rw (reduce-stop room ms (inr (omega (arith, k .below))))
+reduce-by-count (suc g) c room ms k =
+    level-by-count g c room (reduce-by-count g c room) (c (suc g)) ms (k .sound) (k .below) (k .counts (suc g) (omega arith) (omega arith))
+    (λ h p q. k .counts h p (omega arith))
+
+-- members with the same sum, as many taken, and as many of each gain
+pub record Alike (ms ns : List Member) : Type 0 where
+  pub figures : figuresOf ms ≡ figuresOf ns
+  pub counts : (h : ℕ) → 0 < h → countGain h ms ≡ countGain h ns
+
+-- their order does not matter to the figures
+pub reduce-alike : (room : ℕ) (ms ns : List Member) → Each Sound ms → Each Sound ns → Alike ms ns
+    → figuresOf (reduce room ms) ≡ figuresOf (reduce room ns)
+reduce-alike room ms ns s t a =
+    let g : ℕ = max (largestGain ms) (largestGain ns) in
+    let c : ℕ → ℕ = λ h. countGain h ns in
+    let x = reduce-by-count g c room ms (record { sound = s; below = omega arith; counts = λ h p q. a .counts h p }) in
+    let y = reduce-by-count g c room ns (record { sound = t; below = omega arith; counts = λ h p q. refl }) in
+    x ∙ rw (a .figures) refl ∙ sym y
