@@ -1,14 +1,33 @@
 -- Laws about the definitions of document 01.
+-- Numbers 1 to n, checks, tables of sound form
 pub mod Ranges
+pub mod Sums
 pub mod Checks
 pub mod Sound
-pub mod Shape
 pub mod Numbered
 pub mod Links
 pub mod Encode
+-- Plans by number and by shape
+pub mod Shape
+pub mod Pages
+pub mod Marks
+pub mod Bridge
+pub mod Feasible
+-- Single and pair
 pub mod Reduce
 pub mod ReduceCount
 pub mod ReduceLevel
 pub mod Laid
 pub mod SingleShape
 pub mod PairShape
+-- Level and best
+pub mod Greedy
+pub mod Level
+pub mod Candidates
+pub mod Entries
+pub mod Nodes
+pub mod NodeMarks
+pub mod BestLaid
+pub mod Reach
+pub mod RealPlans
+pub mod BestShape

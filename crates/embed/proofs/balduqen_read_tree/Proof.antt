@@ -1,0 +1,18 @@
+-- `embed::balduqen_read_tree` meets its contract. Assumes nothing.
+use mathlib.Core.Path.{ap, _∙_}
+use Rattle.embed.specs.Figures.{figuresOf}
+use borrow.Author.Needs.{needs}
+use Rattle.embed.proofs.balduqen_read_tree.Statement.{statement}
+use Rattle.embed.proofs.balduqen_read_tree.Tie as tie
+
+read-tree-requires : tie.Need-read-tree-requires
+read-tree-requires c κs = search needs
+
+flatten-requires : tie.Need-flatten-requires
+flatten-requires c κs = search needs
+
+returns : tie.Need-returns
+returns c = c .flatten .ensures ∙ ap figuresOf (c .before .read-tree .ensures)
+
+pub balduqen-read-tree-spec : {M : Type 1} → statement M
+balduqen-read-tree-spec = tie.close (tie.spec read-tree-requires flatten-requires returns)

@@ -1,0 +1,49 @@
+// Doors for C and Rust: each entry of the library under a plain name, with its answer as four numbers.
+use model::{Answer, Verdict};
+ghost use mathlib.Core.Path.{_≡_};
+ghost use Rattle.model.specs.Refusals.{readTree};
+ghost use Rattle.embed.specs.Figures.{figuresOf};
+
+// A number and a place, and the verdict's page count and root weight, both 0 unless the number is 0.
+#[repr(C)]
+pub struct Figures {
+    pub number: u32,
+    pub place: u32,
+    pub pages: u32,
+    pub root: u32,
+}
+
+fn flatten(answer: Answer) -> Figures
+    ensures { λ r. ⌜ r ≡ figuresOf answer ⌝ }
+{
+    let number = answer.number;
+    let place = answer.place;
+    let verdict = answer.verdict;
+    match verdict {
+        Verdict::Feasible { pages, root } => Figures {
+            number,
+            place,
+            pages,
+            root,
+        },
+        Verdict::NotJudged => Figures {
+            number,
+            place,
+            pages: 0,
+            root: 0,
+        },
+        Verdict::Failed(_) => Figures {
+            number,
+            place,
+            pages: 0,
+            root: 0,
+        },
+    }
+}
+
+#[no_mangle]
+pub extern "C" fn balduqen_read_tree(table: &[u8]) -> Figures
+    ensures { λ r. ⌜ r ≡ figuresOf (readTree (now (table .entry))) ⌝ }
+{
+    flatten(table::read_tree(table))
+}

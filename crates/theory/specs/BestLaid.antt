@@ -1,0 +1,273 @@
+-- The marks that best and level lay from the root down weigh what their entries say.
+-- Defines FeasibleShape, pagesBelow, pagesOf. Proves laid-feasible: these marks are allowed, every page is within K, and the page count and
+-- the root page are the entries'. Assumes nothing.
+use Prim.Native.Nat.{ℕ, suc, _+_, _≤_}
+use mathlib.Core.Path.{_≡_, refl, sym, ap, _∙_}
+use mathlib.Core.Bool.{Bool, true, false}
+use mathlib.Core.List.{List, [], _∷_, _++_, reverse, reverseAux, reverse-reverse}
+use native.Mathlib.Omega.{arith}
+use lib.ListN.{length, getD}
+use Rattle.model.specs.Basics.{pick}
+use Rattle.model.specs.Table.{Chain, end, node}
+use Rattle.model.specs.Plan.{stays, begins, continues}
+use Rattle.model.specs.Steps.{Child, Choice, entryAt, childOf, childrenFrom, childrenOf, choicesOf, layMarks, rootChoice}
+use Rattle.theory.specs.Shape.{size, allowed, weighed, AllWithin, EachWithin}
+use Rattle.theory.specs.Greedy.{Offers, best, second}
+use Rattle.theory.specs.Level.{Fair, RunSoFar, noRun, aRun, Level, empty, stay, begin, go, run-within}
+use Rattle.theory.specs.Entries.{Reaches}
+use Rattle.theory.specs.Nodes.{bestEntry, secondEntry, node-rest, node-best, SecondPlan, node-second, children-fair}
+use Rattle.theory.specs.NodeMarks.{Weighs, node-page, weighs-end, weighs-stays, weighs-begins, weighs-continues}
+
+-- the pages that begin in a chain and below it where each node follows its best plan: the counts of their best entries
+unfoldable pub pagesBelow : Bool → ℕ → Chain → ℕ
+pagesBelow gains K end = 0
+pagesBelow gains K (node w l kids next) =
+    bestEntry K w (childrenOf gains K kids) .count + pagesBelow gains K kids + pagesBelow gains K next
+
+-- the marks laid below a node, which follows its best plan or its second
+abbrev marksBelow : Bool → ℕ → ℕ → Chain → Bool → List ℕ
+marksBelow gains K w kids b = layMarks gains K kids (choicesOf gains K w kids b)
+
+-- a node that follows a plan with e pages more than its best, and rest r
+record LaidBelow (gains : Bool) (K w : ℕ) (kids : Chain) (b : Bool) (e r : ℕ) : Type 0 where
+  sum : ℕ
+  carry : ℕ
+  pages : ℕ
+  marks : Weighs K false kids (marksBelow gains K w kids b) sum carry pages
+  total : w + sum ≡ r
+  more : pages ≡ bestEntry K w (childrenOf gains K kids) .count + pagesBelow gains K kids + e
+
+-- whether a sibling may continue a run
+abbrev inRunSoFar : RunSoFar → Bool
+inRunSoFar noRun = false
+inRunSoFar (aRun y l) = true
+
+-- the run so far has room for what is carried to it
+abbrev HasRoom : ℕ → RunSoFar → ℕ → Type 0
+HasRoom K noRun c = Unit {0}
+HasRoom K (aRun y l) c = y + c ≤ K
+
+-- The marks of a chain after some siblings, laid under the choices ds of a plan of the level with n pages, and x that stays: the choices
+-- are split into those of the chain and those of the siblings before, for which the plan is one too.
+record Laid (gains : Bool) (K : ℕ) (c : Chain) (before : List Child) (ds : List Choice) (n x : ℕ) : Type 0 where
+  own : List Choice
+  others : List Choice
+  split : reverseAux own others ≡ ds
+  count : ℕ
+  sum : ℕ
+  run : RunSoFar
+  level : Level K before others count sum run
+  stayed : ℕ
+  carried : ℕ
+  pages : ℕ
+  marks : Weighs K (inRunSoFar run) c (layMarks gains K c own) stayed carried pages
+  room : HasRoom K run carried
+  total : x ≡ sum + stayed
+  counted : n + pagesBelow gains K c ≡ count + pages
+
+room-zero : {K n x : ℕ} {ks : List Child} {cs : List Choice} (o : RunSoFar) → Level K ks cs n x o → HasRoom K o 0
+room-zero noRun l = tt
+room-zero (aRun y z) l = omega (arith, run-within l)
+
+laid-end : {gains : Bool} {K n x : ℕ} {before : List Child} {ds : List Choice} {o : RunSoFar}
+    → Level K before ds n x o
+    → Laid gains K end before ds n x
+unfolding layMarks pagesBelow
+laid-end {gains} {K} {n} {x} {o = o} l =
+    record {
+      own = [];
+      others = _;
+      split = refl;
+      count = n;
+      sum = x;
+      run = o;
+      level = l;
+      stayed = 0;
+      carried = 0;
+      pages = 0;
+      marks = weighs-end K (inRunSoFar o);
+      room = room-zero o l;
+      total = omega arith;
+      counted = omega arith;
+    }
+
+-- what a node's children weigh under each plan that it offers
+abbrev Offering : Bool → ℕ → ℕ → Chain → Type 0
+Offering gains K w kids =
+    (b : Bool) (e r : ℕ) → Offers (childOf gains K w (childrenOf gains K kids)) b e r → LaidBelow gains K w kids b e r
+
+-- one sibling more, before those of `next`
+module _ {gains : Bool} {K w l n x stayed carried pages : ℕ} {kids next : Chain} {before : List Child} {ds : List Choice} (own : List Choice) where
+  laid-node : {count sum : ℕ} {others : List Choice} {run : RunSoFar}
+      → Offering gains K w kids
+      → reverseAux own others ≡ ds
+      → Level K (childOf gains K w (childrenOf gains K kids) ∷ before) others count sum run
+      → Weighs K (inRunSoFar run) next (layMarks gains K next own) stayed carried pages
+      → HasRoom K run carried
+      → x ≡ sum + stayed
+      → n + pagesBelow gains K next ≡ count + pages
+      → Laid gains K (node w l kids next) before ds n x
+  unfolding layMarks pagesBelow
+  laid-node kid s (stay {cs = cs} {n = m} {x′ = y} {o = o} e v) q h t u =
+      let p : LaidBelow gains K w kids false 0 _ = kid false 0 _ (best refl refl) in
+      record {
+        own = record { mark = stays; second = false } ∷ own;
+        others = cs;
+        split = s;
+        count = m;
+        sum = y;
+        run = o;
+        level = v;
+        stayed = w + p .sum + stayed;
+        carried = 0;
+        pages = p .pages + pages;
+        marks = weighs-stays w l kids next (marksBelow gains K w kids false) (layMarks gains K next own) (inRunSoFar o) (p .marks) q;
+        room = room-zero o v;
+        total = omega arith;
+        counted = omega arith;
+      }
+  laid-node kid s (begin {cs = cs} {b = b} {e = more} {r = r} {n′ = m} {x = y} {o = o} f c e z v) q h t u =
+      let p : LaidBelow gains K w kids b more r = kid b more r f in
+      record {
+        own = record { mark = begins; second = b } ∷ own;
+        others = cs;
+        split = s;
+        count = m;
+        sum = y;
+        run = o;
+        level = v;
+        stayed = stayed;
+        carried = 0;
+        pages = suc (p .pages + pages);
+        marks = weighs-begins w l kids next (marksBelow gains K w kids b) (layMarks gains K next own) (inRunSoFar o) (p .marks) q (omega arith);
+        room = room-zero o v;
+        total = t;
+        counted = omega arith;
+      }
+  laid-node kid s (go {cs = cs} {b = b} {e = more} {r = r} {n′ = m} {x = y} {y′ = z} {l′ = y₂} f c d e g i v) q h t u =
+      let p : LaidBelow gains K w kids b more r = kid b more r f in
+      record {
+        own = record { mark = continues; second = b } ∷ own;
+        others = cs;
+        split = s;
+        count = m;
+        sum = y;
+        run = aRun z y₂;
+        level = v;
+        stayed = stayed;
+        carried = w + p .sum + carried;
+        pages = p .pages + pages;
+        marks = weighs-continues w l kids next (marksBelow gains K w kids b) (layMarks gains K next own) (p .marks) q;
+        room = omega arith;
+        total = t;
+        counted = omega arith;
+      }
+
+-- the children of a node under a plan of their level
+record LaidAll (gains : Bool) (K : ℕ) (c : Chain) (ds : List Choice) (n x : ℕ) : Type 0 where
+  carry : ℕ
+  pages : ℕ
+  marks : Weighs K false c (layMarks gains K c (reverse ds)) x carry pages
+  counted : pages ≡ n + pagesBelow gains K c
+
+laid-all : {gains : Bool} {K n x : ℕ} {c : Chain} {ds : List Choice} → Laid gains K c [] ds n x → LaidAll gains K c ds n x
+laid-all r = whole (r .own) (r .split) (r .level) (r .marks) (r .total) (r .counted)
+  where
+    whole : {gains : Bool} {K n x count sum stayed carried pages : ℕ} {c : Chain} {ds others : List Choice} {run : RunSoFar} (own : List Choice)
+        → reverseAux own others ≡ ds
+        → Level K [] others count sum run
+        → Weighs K (inRunSoFar run) c (layMarks gains K c own) stayed carried pages
+        → x ≡ sum + stayed
+        → n + pagesBelow gains K c ≡ count + pages
+        → LaidAll gains K c ds n x
+    whole {x = x} {stayed = stayed} {ds = ds} own s (empty e f) m t u =
+        let mine : own ≡ reverse ds = sym (reverse-reverse own) ∙ ap reverse s in
+        let all : stayed ≡ x = omega arith in
+        record { carry = _; pages = _; marks = rw (mine, all) at m; counted = omega arith }
+
+-- every plan that a node offers is laid below it as it is offered
+offering : (gains : Bool) {K w : ℕ} {kids : Chain}
+    → Fair K (childrenOf gains K kids)
+    → w ≤ K
+    → ((ds : List Choice) (n x : ℕ) (o : RunSoFar) → Level K (childrenOf gains K kids) ds n x o → LaidAll gains K kids ds n x)
+    → Offering gains K w kids
+unfolding choicesOf pick
+offering gains {K} {w} {kids} f h lay b e r (best p q) =
+    let ks : List Child = childrenOf gains K kids in
+    let b : Reaches K w ks (bestEntry K w ks) = node-best f h in
+    let a : LaidAll gains K kids (bestEntry K w ks .choices) (bestEntry K w ks .count) (b .sum) = lay _ _ _ _ (b .level) in
+    record {
+      sum = b .sum;
+      carry = a .carry;
+      pages = a .pages;
+      marks = a .marks;
+      total = omega (arith, b .total, node-rest gains K w ks);
+      more = omega (arith, a .counted);
+    }
+offering gains {K} {w} {kids} f h lay b e r (second p g q) =
+    let ks : List Child = childrenOf gains K kids in
+    let b : SecondPlan K w ks (childOf gains K w ks .gain) = node-second gains f h g in
+    let a : LaidAll gains K kids (secondEntry K w ks .choices) (secondEntry K w ks .count) (b .sum) = lay _ _ _ _ (b .level) in
+    record {
+      sum = b .sum;
+      carry = a .carry;
+      pages = a .pages;
+      marks = a .marks;
+      total = omega (arith, b .total, node-rest gains K w ks);
+      more = omega (arith, a .counted, b .more);
+    }
+
+lay-chain : (gains : Bool) {K n x : ℕ} (c : Chain) (before : List Child) {ds : List Choice} {o : RunSoFar}
+    → EachWithin K c
+    → Level K (childrenFrom gains K c before) ds n x o
+    → Laid gains K c before ds n x
+unfolding childrenFrom childrenOf EachWithin
+lay-chain gains end before e l = laid-end l
+lay-chain gains {K} (node w z kids next) before e l =
+    let r : Laid gains K next _ _ _ _ = lay-chain gains next (childOf gains K w (childrenFrom gains K kids []) ∷ before) (e .2) l in
+    let f : Fair K (childrenFrom gains K kids []) = children-fair gains K kids [] (e .1) tt in
+    laid-node (r .own)
+    (offering gains f (e .0) (λ ds n x o v. laid-all (lay-chain gains kids [] (e .1) v)))
+    (r .split) (r .level) (r .marks) (r .room) (r .total) (r .counted)
+
+-- ---- The whole tree
+
+-- A plan of a tree that is feasible within K: one allowed mark a node, the root begins a page, every page is within K. With its page
+-- count and the weight of the root's page.
+pub record FeasibleShape (K : ℕ) (c : Chain) (ms : List ℕ) (pages root : ℕ) : Type 0 where
+  pub sized : length ms ≡ size c
+  pub first : getD ms 0 0 ≡ 1
+  pub fine : allowed false c ms ≡ true
+  pub within : AllWithin K (weighed c ms .pages)
+  pub count : length (weighed c ms .pages) ≡ pages
+  pub root-is : getD (weighed c ms .pages) 0 0 ≡ root
+
+-- the page count of best or level by its entries: a page for the root, and the count of each node's best entry
+abbrev pub pagesOf : Bool → ℕ → Chain → ℕ
+pagesOf gains K c = suc (pagesBelow gains K c)
+
+pub laid-feasible : (gains : Bool) (K w l : ℕ) (kids : Chain)
+    → EachWithin K (node w l kids end)
+    → FeasibleShape K (node w l kids end) (layMarks gains K (node w l kids end) rootChoice) (pagesOf gains K (node w l kids end))
+    (entryAt K (childrenOf gains K kids) w .rest)
+unfolding layMarks childrenOf EachWithin pagesBelow
+laid-feasible gains K w l kids e =
+    let f : Fair K (childrenFrom gains K kids []) = children-fair gains K kids [] (e .1) tt in
+    let p : LaidBelow gains K w kids false 0 _ =
+    offering gains f (e .0) (λ ds n x o v. laid-all (lay-chain gains kids [] (e .1) v)) false 0 _ (best refl refl)
+    in
+    let ms : List ℕ = marksBelow gains K w kids false in
+    let ks : List Child = childrenOf gains K kids in
+    let b : Reaches K w ks (bestEntry K w ks) = node-best f (e .0) in
+    let rest : childOf gains K w ks .rest ≡ bestEntry K w ks .rest = node-rest gains K w ks in
+    let q : Weighs K false (node w l kids end) (1 ∷ (ms ++ [])) 0 0 (suc (p .pages + 0)) =
+    weighs-begins w l kids end ms [] false (p .marks) (weighs-end K true) (omega (arith, b .within, p .total))
+    in
+    record {
+      sized = q .sized;
+      first = refl;
+      fine = q .fine;
+      within = q .within;
+      count = omega (arith, q .pages-are, p .more);
+      root-is = omega (arith, node-page w l kids end ms [] (p .marks .sized), p .total, p .marks .stays-is, weighs-end K true .carry-is);
+    }

@@ -1,0 +1,338 @@
+-- What `reduce` makes of a list of members: it takes the largest gains first, so whatever choice of gains brings the sum of the rests
+-- down to the room, `reduce` does too, and takes no more of them.
+-- Defines Offers (what a child offers), Picked (an offer of each member of a run) and Offered (what a run's members are reduced to).
+-- Proves reduce-least and reduce-offered. Assumes nothing.
+use Prim.Native.Nat.{ℕ, zero, suc, _+_, _-_, _≤_, _<_, max}
+use mathlib.Core.Path.{_≡_, refl, subst}
+use mathlib.Core.Bool.{Bool, true, false, _||_}
+use mathlib.Core.List.{List, [], _∷_, map}
+use native.Mathlib.Nat.{le-max-left, le-max-right}
+use native.Mathlib.Omega.{arith}
+use lib.ListN.{length}
+use lib.Dec.{eqb, leb}
+use borrow.Author.Tests.{leb-true, leb-false, eqb-true, eqb-false}
+use Rattle.model.specs.Basics.{pick}
+use Rattle.model.specs.Steps.{
+  Member,
+  restSum,
+  takenCount,
+  largestGain,
+  takeEarliest,
+  reduceFrom,
+  reduce,
+  Child,
+  asMember,
+  runOf,
+}
+
+-- ---- One turn: the gain g is taken off the earliest member that has it
+
+data Takes (g : ℕ) : List Member → List Member → Type 0 where
+  nobody : Takes g [] []
+  here : {m : Member} {ms : List Member} → m .gain ≡ g → Takes g (m ∷ ms) (record { rest = m .rest - g; gain = 0; taken = true } ∷ ms)
+  there : {m : Member} {ms ns : List Member} → (m .gain ≡ g → ⊥) → Takes g ms ns → Takes g (m ∷ ms) (m ∷ ns)
+
+takes : (g : ℕ) (ms : List Member) → Takes g ms (takeEarliest g ms)
+unfolding takeEarliest pick
+takes g [] = nobody
+takes g (m ∷ ms) = turn (eqb (m .gain) g) refl (takes g ms)
+  where
+    turn : (b : Bool)
+        → eqb (m .gain) g ≡ b
+        → Takes g ms (takeEarliest g ms)
+        → Takes g (m ∷ ms) (pick b (record { rest = m .rest - g; gain = 0; taken = true } ∷ ms) (m ∷ takeEarliest g ms))
+    turn true e t = here (eqb-true (m .gain) g e)
+    turn false e t = there (eqb-false (m .gain) g e) t
+
+-- every gain is part of its rest
+abbrev Sane : List Member → Type 0
+Sane [] = Unit {0}
+Sane (m ∷ ms) = (m .gain ≤ m .rest) × Sane ms
+
+-- no gain is above g
+abbrev GainsWithin : ℕ → List Member → Type 0
+GainsWithin g [] = Unit {0}
+GainsWithin g (m ∷ ms) = (m .gain ≤ g) × GainsWithin g ms
+
+gains-within-more : (g h : ℕ) (ms : List Member) → g ≤ h → GainsWithin g ms → GainsWithin h ms
+gains-within-more g h [] l w = tt
+gains-within-more g h (m ∷ ms) l w = (omega arith, gains-within-more g h ms l (w .1))
+
+gains-within-largest : (ms : List Member) → GainsWithin (largestGain ms) ms
+unfolding largestGain
+gains-within-largest [] = tt
+gains-within-largest (m ∷ ms) = (
+  le-max-left (m .gain) (largestGain ms),
+  gains-within-more (largestGain ms) (max (m .gain) (largestGain ms)) ms (le-max-right (m .gain) (largestGain ms)) (gains-within-largest ms),
+)
+
+takes-sane : {g : ℕ} {ms ns : List Member} → Takes g ms ns → Sane ms → Sane ns
+takes-sane nobody s = tt
+takes-sane (here e) s = (omega arith, s .1)
+takes-sane (there n t) s = (s .0, takes-sane t (s .1))
+
+-- the rests weigh g less, if g is the largest gain
+takes-rest : {g : ℕ} {ms ns : List Member}
+    → Takes g ms ns
+    → Sane ms
+    → GainsWithin g ms
+    → 1 ≤ g
+    → g ≤ largestGain ms
+    → restSum ns + g ≡ restSum ms
+unfolding restSum largestGain
+takes-rest nobody s w p l = omega arith
+takes-rest (here e) s w p l = omega arith
+takes-rest {g} (there {m = m} {ms = ms} n t) s w p l =
+    let q : g ≤ largestGain ms = omega arith in
+    omega (arith, takes-rest t (s .1) (w .1) p q)
+
+takes-count : {g : ℕ} {ms ns : List Member} → Takes g ms ns → takenCount ns ≤ takenCount ms + 1
+unfolding takenCount pick
+takes-count nobody = omega arith
+takes-count (here e) = omega arith
+takes-count (there n t) = omega (arith, takes-count t)
+
+-- ---- A choice of m members, whose gains sum to t
+
+data Chosen : List Member → ℕ → ℕ → Type 0 where
+  nobody : {m t : ℕ} → m ≡ 0 → t ≡ 0 → Chosen [] m t
+  leave : {x : Member} {ms : List Member} {m t : ℕ} → Chosen ms m t → Chosen (x ∷ ms) m t
+  choose : {x : Member} {ms : List Member} {m t m′ t′ : ℕ} → m ≡ suc m′ → t ≡ t′ + x .gain → Chosen ms m′ t′ → Chosen (x ∷ ms) m t
+
+chosen-nobody : (ms : List Member) → Chosen ms 0 0
+chosen-nobody [] = nobody refl refl
+chosen-nobody (x ∷ ms) = leave (chosen-nobody ms)
+
+chosen-zero : {ms : List Member} {m t : ℕ} → Chosen ms m t → m ≡ 0 → t ≡ 0
+chosen-zero (nobody e f) z = f
+chosen-zero (leave c) z = chosen-zero c z
+chosen-zero (choose e f c) z = omega arith
+
+chosen-count : {ms : List Member} {m t : ℕ} → Chosen ms m t → m ≤ length ms
+chosen-count (nobody e f) = omega arith
+chosen-count (leave c) = omega (arith, chosen-count c)
+chosen-count (choose e f c) = omega (arith, chosen-count c)
+
+-- a choice of one member fewer, which loses at most g
+record Fewer (ms : List Member) (g m t : ℕ) : Type 0 where
+  sum : ℕ
+  fewer : Chosen ms m sum
+  loses : t ≤ sum + g
+
+fewer-leave : {x : Member} {ms : List Member} {g m t : ℕ} → Fewer ms g m t → Fewer (x ∷ ms) g m t
+fewer-leave r = record { sum = r .sum; fewer = leave (r .fewer); loses = r .loses }
+
+fewer-choose : {x : Member} {ms : List Member} {g m t : ℕ} → Fewer ms g m t → Fewer (x ∷ ms) g (suc m) (t + x .gain)
+fewer-choose {x} r = record { sum = r .sum + x .gain; fewer = choose refl refl (r .fewer); loses = omega arith }
+
+-- leaving the member just chosen
+fewer-head : {ms : List Member} {g a m t m′ t′ n : ℕ} → m ≡ suc m′ → t ≡ t′ + a → a ≤ g → m ≡ suc n → Chosen ms m′ t′ → Fewer ms g n t
+fewer-head {ms} {m′ = m′} {t′ = t′} {n} e f h q c =
+    let r : m′ ≡ n = omega arith in
+    record { sum = t′; fewer = subst (λ (k : ℕ). Chosen ms k t′) r c; loses = omega arith }
+
+-- leaving one chosen member
+drop-one : {ms : List Member} {g m t : ℕ} → Chosen ms m t → (n : ℕ) → m ≡ suc n → GainsWithin g ms → Fewer ms g n t
+drop-one (nobody e f) n q w = absurd (omega arith)
+drop-one (leave c) n q w = fewer-leave (drop-one c n q (w .1))
+drop-one (choose e f c) n q w = fewer-leave (fewer-head e f (w .0) q c)
+
+-- leaving the member whose gain is taken, or else another
+exchange : {ms ns : List Member} {g m t : ℕ} → Takes g ms ns → Chosen ms m t → (n : ℕ) → m ≡ suc n → GainsWithin g ms → Fewer ns g n t
+exchange nobody c n q w = drop-one c n q w
+exchange (here e) (leave c) n q w = fewer-leave (drop-one c n q (w .1))
+exchange (here e) (choose e₁ f c) n q w = fewer-leave (fewer-head e₁ f (w .0) q c)
+exchange (there d k) (leave c) n q w = fewer-leave (exchange k c n q (w .1))
+exchange (there {ns = ns} d k) (choose e₁ f c) zero q w =
+    record { sum = 0; fewer = chosen-nobody (_ ∷ ns); loses = omega (arith, chosen-zero c (omega arith)) }
+exchange (there d k) (choose e₁ f c) (suc n) q w = rw f (fewer-choose (exchange k c n (omega arith) (w .1)))
+
+-- ---- All turns
+
+data Reduces (room : ℕ) : ℕ → List Member → List Member → Type 0 where
+  ended : {ms : List Member} → Reduces room 0 ms ms
+  fits : {f : ℕ} {ms : List Member} → restSum ms ≤ room → Reduces room (suc f) ms ms
+  bare : {f : ℕ} {ms : List Member} → largestGain ms ≡ 0 → Reduces room (suc f) ms ms
+  turn : {f : ℕ} {ms ns : List Member}
+      → room < restSum ms
+      → 1 ≤ largestGain ms
+      → Reduces room f (takeEarliest (largestGain ms) ms) ns
+      → Reduces room (suc f) ms ns
+
+reduces : (f room : ℕ) (ms : List Member) → Reduces room f ms (reduceFrom f room ms)
+unfolding reduceFrom pick
+reduces zero room ms = ended
+reduces (suc f) room ms =
+    step (leb (restSum ms) room) refl (eqb (largestGain ms) 0) refl (reduces f room (takeEarliest (largestGain ms) ms))
+  where
+    step : (a : Bool)
+        → leb (restSum ms) room ≡ a
+        → (b : Bool)
+        → eqb (largestGain ms) 0 ≡ b
+        → Reduces room f (takeEarliest (largestGain ms) ms) (reduceFrom f room (takeEarliest (largestGain ms) ms))
+        → Reduces room (suc f) ms (pick (a || b) ms (reduceFrom f room (takeEarliest (largestGain ms) ms)))
+    step true p b q r = fits (leb-true (restSum ms) room p)
+    step false p true q r = bare (eqb-true (largestGain ms) 0 q)
+    step false p false q r =
+        let h : largestGain ms ≡ 0 → ⊥ = eqb-false (largestGain ms) 0 q in
+        turn (leb-false (restSum ms) room p) (omega arith) r
+
+chosen-bare : {ms : List Member} {m t : ℕ} → Chosen ms m t → GainsWithin 0 ms → t ≡ 0
+chosen-bare (nobody e f) w = f
+chosen-bare (leave c) w = chosen-bare c (w .1)
+chosen-bare (choose e f c) w = omega (arith, chosen-bare c (w .1))
+
+record Enough (room m : ℕ) (ms ns : List Member) : Type 0 where
+  within : restSum ns ≤ room
+  fewest : takenCount ns ≤ takenCount ms + m
+
+reduces-least : {room f m t : ℕ} {ms ns : List Member}
+    → Reduces room f ms ns
+    → Sane ms
+    → Chosen ms m t
+    → m ≤ f
+    → restSum ms ≤ room + t
+    → Enough room m ms ns
+reduces-least ended s c l h = record { within = omega (arith, chosen-zero c (omega arith)); fewest = omega arith }
+reduces-least (fits e) s c l h = record { within = e; fewest = omega arith }
+reduces-least (bare {ms = ms} e) s c l h =
+    record { within = omega (arith, chosen-bare c (rw e at (gains-within-largest ms))); fewest = omega arith }
+reduces-least {m = zero} (turn o p r) s c l h = absurd (omega (arith, chosen-zero c refl))
+reduces-least {m = suc m} (turn {ms = ms} {ns = ns} o p r) s c l h =
+    let g : ℕ = largestGain ms in
+    let k : Takes g ms (takeEarliest g ms) = takes g ms in
+    let w : GainsWithin g ms = gains-within-largest ms in
+    let less : Fewer (takeEarliest g ms) g m _ = exchange k c m refl w in
+    let sum : restSum (takeEarliest g ms) + g ≡ restSum ms = takes-rest k s w p (omega arith) in
+    let rec : Enough _ m (takeEarliest g ms) ns = reduces-least r (takes-sane k s) (less .fewer) (omega arith) (omega (arith, less .loses)) in
+    record { within = rec .within; fewest = omega (arith, rec .fewest, takes-count k) }
+
+-- ---- The members of a run
+
+-- what a child offers: its best plan and, where it has a gain, its second, which has a page more; pages more, and rest
+pub data Offers (k : Child) : Bool → ℕ → ℕ → Type 0 where
+  best : {e r : ℕ} → e ≡ 0 → r ≡ k .rest → Offers k false e r
+  second : {e r : ℕ} → e ≡ 1 → 1 ≤ k .gain → r + k .gain ≡ k .rest → Offers k true e r
+
+-- an offer of each member of a run: their pages more, and their rests, in all
+pub data Picked : List Child → ℕ → ℕ → Type 0 where
+  pickedNone : {m z : ℕ} → m ≡ 0 → z ≡ 0 → Picked [] m z
+  pickedOne : {k : Child} {run : List Child} {b : Bool} {e r m z m′ z′ : ℕ}
+      → Offers k b e r
+      → m ≡ e + m′
+      → z ≡ r + z′
+      → Picked run m′ z′
+      → Picked (k ∷ run) m z
+
+-- every gain is part of its rest
+abbrev pub Gainful : List Child → Type 0
+Gainful [] = Unit {0}
+Gainful (k ∷ ks) = (k .gain ≤ k .rest) × Gainful ks
+
+record Translated (run : List Child) (m z : ℕ) : Type 0 where
+  count : ℕ
+  sum : ℕ
+  chosen : Chosen (map asMember run) count sum
+  same : count ≡ m
+  total : restSum (map asMember run) ≡ z + sum
+
+picked-chosen : {run : List Child} {m z : ℕ} → Picked run m z → Translated run m z
+unfolding restSum asMember
+picked-chosen (pickedNone e f) = record { count = 0; sum = 0; chosen = nobody refl refl; same = omega arith; total = omega arith }
+picked-chosen (pickedOne {run = run} (best e₁ f₁) e f p) =
+    let t : Translated run _ _ = picked-chosen p in
+    record { count = t .count; sum = t .sum; chosen = leave (t .chosen); same = omega arith; total = omega arith }
+picked-chosen (pickedOne {k = k} {run = run} (second e₁ l f₁) e f p) =
+    let t : Translated run _ _ = picked-chosen p in
+    record { count = suc (t .count); sum = t .sum + k .gain; chosen = choose refl refl (t .chosen); same = omega arith; total = omega arith }
+
+run-sane : (run : List Child) → Gainful run → Sane (map asMember run)
+unfolding asMember
+run-sane [] g = tt
+run-sane (k ∷ run) g = (g .0, run-sane run (g .1))
+
+run-untaken : (run : List Child) → takenCount (map asMember run) ≡ 0
+unfolding takenCount asMember pick
+run-untaken [] = refl
+run-untaken (k ∷ run) = omega (arith, run-untaken run)
+
+-- the members of a run within the room, no more of them with their second plan than any choice that is within it
+pub record Spared (room m : ℕ) (ms : List Member) : Type 0 where
+  pub within : restSum ms ≤ room
+  pub fewest : takenCount ms ≤ m
+
+pub reduce-least : {room m z : ℕ} {run : List Child} → Gainful run → Picked run m z → z ≤ room → Spared room m (runOf room run)
+unfolding runOf reduce
+reduce-least {room} {m} {z} {run} g p l =
+    let t : Translated run m z = picked-chosen p in
+    let ms : List Member = map asMember run in
+    let r : Enough room (t .count) ms (reduceFrom (length ms) room ms) =
+    reduces-least (reduces (length ms) room ms) (run-sane run g) (t .chosen) (chosen-count (t .chosen)) (omega arith)
+    in
+    record { within = r .within; fewest = omega (arith, run-untaken run, r .fewest) }
+
+-- what a run's members may be reduced to: each as it was, or with its second plan
+data Reduced : List Child → List Member → Type 0 where
+  nobody : Reduced [] []
+  whole : {k : Child} {m : Member} {run : List Child} {ms : List Member}
+      → m .rest ≡ k .rest
+      → m .gain ≡ k .gain
+      → m .taken ≡ false
+      → Reduced run ms
+      → Reduced (k ∷ run) (m ∷ ms)
+  less : {k : Child} {m : Member} {run : List Child} {ms : List Member}
+      → m .rest + k .gain ≡ k .rest
+      → 1 ≤ k .gain
+      → m .gain ≡ 0
+      → m .taken ≡ true
+      → Reduced run ms
+      → Reduced (k ∷ run) (m ∷ ms)
+
+reduced-run : (run : List Child) → Reduced run (map asMember run)
+unfolding asMember
+reduced-run [] = nobody
+reduced-run (k ∷ run) = whole refl refl refl (reduced-run run)
+
+reduced-takes : {g : ℕ} {run : List Child} {ms ns : List Member}
+    → Takes g ms ns
+    → Gainful run
+    → 1 ≤ g
+    → Reduced run ms
+    → Reduced run ns
+reduced-takes nobody g p nobody = nobody
+reduced-takes {g = v} (here {m = m} e) g p (whole {k = k} a b c r) =
+    let q : m .rest - v + k .gain ≡ k .rest = omega arith in
+    let l : 1 ≤ k .gain = omega arith in
+    less q l refl refl r
+reduced-takes (here e) g p (less a b c d r) = absurd (omega arith)
+reduced-takes (there n t) g p (whole a b c r) = whole a b c (reduced-takes t (g .1) p r)
+reduced-takes (there n t) g p (less a b c d r) = less a b c d (reduced-takes t (g .1) p r)
+
+reduced-reduces : {room f : ℕ} {run : List Child} {ms ns : List Member}
+    → Reduces room f ms ns
+    → Gainful run
+    → Reduced run ms
+    → Reduced run ns
+reduced-reduces ended g r = r
+reduced-reduces (fits e) g r = r
+reduced-reduces (bare e) g r = r
+reduced-reduces (turn {ms = ms} o p k) g r = reduced-reduces k g (reduced-takes (takes (largestGain ms) ms) g p r)
+
+-- each member of a reduced run follows what its child offers
+pub data Offered : List Child → List Member → Type 0 where
+  offeredNone : Offered [] []
+  offeredOne : {k : Child} {m : Member} {run : List Child} {ms : List Member}
+      → Offers k (m .taken) (pick (m .taken) 1 0) (m .rest)
+      → Offered run ms
+      → Offered (k ∷ run) (m ∷ ms)
+
+reduced-offered : {run : List Child} {ms : List Member} → Reduced run ms → Offered run ms
+unfolding pick
+reduced-offered nobody = offeredNone
+reduced-offered (whole {k = k} {m = m} a b c r) = offeredOne {k = k} {m = m} (rw c (best refl a)) (reduced-offered r)
+reduced-offered (less {k = k} {m = m} a b c d r) = offeredOne {k = k} {m = m} (rw d (second refl b a)) (reduced-offered r)
+
+pub reduce-offered : (room : ℕ) (run : List Child) → Gainful run → Offered run (runOf room run)
+unfolding runOf reduce
+reduce-offered room run g =
+    reduced-offered (reduced-reduces (reduces (length (map asMember run)) room (map asMember run)) g (reduced-run run))

@@ -1,0 +1,169 @@
+//! Cases A to G of document 01 and its examples of refusals.
+
+use crate::gen::Table;
+use crate::model::{plan_best, plan_level, plan_pair, plan_single, Planner};
+
+#[derive(Clone, Copy, Debug, PartialEq, Eq)]
+pub enum Kind {
+    Best,
+    Level,
+    Single,
+    Pair,
+}
+
+pub const KINDS: [Kind; 4] = [Kind::Best, Kind::Level, Kind::Single, Kind::Pair];
+
+impl Kind {
+    pub fn model(self) -> Planner {
+        match self {
+            Kind::Best => plan_best,
+            Kind::Level => plan_level,
+            Kind::Single => plan_single,
+            Kind::Pair => plan_pair,
+        }
+    }
+}
+
+/// What a planner makes of a tree: marks, page count, root weight.
+pub struct Made {
+    pub name: &'static str,
+    pub table: Table,
+    pub kind: Kind,
+    pub marks: Vec<u8>,
+    pub pages: usize,
+    pub root: u32,
+}
+
+pub fn case_a() -> Table {
+    Table::new(1, &[0], &[1])
+}
+
+pub fn case_b() -> Table {
+    Table::new(3, &[0], &[4])
+}
+
+pub fn case_c() -> Table {
+    Table::new(5, &[0, 1, 1, 1], &[2, 1, 1, 1])
+}
+
+pub fn case_d() -> Table {
+    Table { limit: 4, ..case_c() }
+}
+
+pub fn case_e() -> Table {
+    Table::new(5, &[0, 1, 1, 3, 3, 1], &[5, 2, 1, 2, 2, 1])
+}
+
+pub fn case_f() -> Table {
+    Table::new(4, &[0, 1, 1], &[1, 3, 3])
+}
+
+pub fn case_g() -> Table {
+    Table::new(5, &[0, 1, 2, 1, 1], &[1, 2, 3, 2, 2])
+}
+
+/// The plans that document 01 gives, and those that follow from its planner steps by hand.
+pub fn made() -> Vec<Made> {
+    let mut list = vec![];
+    let mut add = |name, table: Table, kinds: &[Kind], marks: &[u8], pages, root| {
+        for &kind in kinds {
+            list.push(Made { name, table: table.clone(), kind, marks: marks.to_vec(), pages, root });
+        }
+    };
+    use Kind::*;
+    add("A", case_a(), &KINDS, &[1], 1, 1);
+    add("C", case_c(), &KINDS, &[1, 0, 0, 0], 1, 5);
+    add("D", case_d(), &[Best, Level, Pair], &[1, 1, 2, 2], 2, 2);
+    // The first child is the earliest of equals, and cutting it is enough.
+    add("D", case_d(), &[Single], &[1, 1, 0, 0], 2, 4);
+    add("E", case_e(), &[Best, Pair], &[1, 1, 2, 1, 2, 2], 3, 5);
+    add("E", case_e(), &[Level, Single], &[1, 1, 1, 0, 0, 1], 4, 5);
+    add("F", case_f(), &[Best, Level, Single], &[1, 1, 0], 2, 4);
+    // Node 2 and its sibling weigh 6, so the sibling is cut, and the rest fits node 1's page.
+    add("F", case_f(), &[Pair], &[1, 0, 1], 2, 4);
+    add("G", case_g(), &[Best, Level, Single], &[1, 1, 0, 0, 0], 2, 5);
+    add("G", case_g(), &[Pair], &[1, 1, 0, 1, 2], 3, 1);
+    list
+}
+
+/// Tables that the tree reader refuses in document 01's examples, with number and place.
+pub fn refused_tables() -> Vec<(Vec<u8>, u32, usize)> {
+    let mut light = case_e();
+    light.records[2].weight = 0;
+    let bad_link = vec![0, 1, 0, 5, 0, 1, 0, 1, 0, 5, 0, 0];
+    vec![
+        (vec![0, 1], 1, 0),
+        (vec![0, 0, 0, 5], 2, 0),
+        (vec![0, 1, 0, 0], 3, 0),
+        (vec![0, 1, 0, 5, 0], 4, 12),
+        (light.bytes(), 5, 3),
+        (bad_link, 6, 1),
+        (Table { limit: 4, ..case_e() }.bytes(), 7, 1),
+        (case_b().bytes(), 7, 1),
+    ]
+}
+
+/// Case E with every selection of one fault for each of the numbers 1 to 7, and the answer that
+/// the order of the checks leaves: number and place, both 0 without a fault.
+pub fn faulty_tables() -> Vec<(Vec<u8>, u32, usize)> {
+    let mut list = vec![];
+    for selection in 0..1 << 7 {
+        let has = |number: u32| selection & 1 << (number - 1) != 0;
+        let mut table = case_e();
+        if has(2) {
+            table.count = 1025;
+        }
+        if has(3) {
+            table.limit = 1026;
+        }
+        if has(5) {
+            table.records[3].weight = 0;
+        }
+        if has(6) {
+            table.records[4].next_sibling = 3;
+        }
+        if has(7) {
+            table.records[1].weight = 65535;
+        }
+        let mut bytes = table.bytes();
+        if has(4) {
+            bytes.push(0);
+        }
+        if has(1) {
+            bytes.truncate(3);
+        }
+        let number = (1..=7).find(|&number| has(number)).unwrap_or(0);
+        let place = [0, 0, 1025, 1026, 52, 4, 5, 2][number as usize];
+        list.push((bytes, number, place));
+    }
+    list
+}
+
+/// Marks that the judge refuses for case E, with number and place.
+pub fn refused_marks() -> Vec<(Vec<u8>, u32, usize)> {
+    vec![
+        (vec![1; 5], 8, 6),
+        (vec![1, 2, 0, 0, 0, 0], 10, 2),
+        (vec![1, 0, 0, 0, 0, 0], 11, 1),
+    ]
+}
+
+/// The best plan of case E.
+pub const MARKS_OF_E: [u8; 6] = [1, 1, 2, 1, 2, 2];
+
+/// The archive of case E and its best plan, word by word.
+pub fn archive_of_e() -> Vec<u8> {
+    let words: [u16; 39] = [
+        6, 5, 3, // N, K, P
+        1, 1, 5, 2, // page 1
+        2, 6, 4, 3, // page 2
+        4, 5, 4, 0, // page 3
+        5, 1, 0, 0, // node 1
+        2, 2, 1, 3, // node 2
+        1, 3, 1, 6, // node 3
+        2, 4, 3, 5, // node 4
+        2, 5, 3, 0, // node 5
+        1, 6, 1, 0, // node 6
+    ];
+    words.iter().flat_map(|word| word.to_be_bytes()).collect()
+}

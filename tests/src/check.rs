@@ -1,0 +1,57 @@
+//! Helpers for checks.
+
+use crate::model::Answer;
+use std::collections::BTreeMap;
+
+/// Counts the answers by number, so that a test can show that its inputs reach what they should.
+#[derive(Default)]
+pub struct Seen(BTreeMap<u32, usize>);
+
+impl Seen {
+    pub fn add(&mut self, answer: Answer) {
+        *self.0.entry(answer.number).or_default() += 1;
+    }
+
+    /// Each of these numbers came at least so many times, and no other came.
+    pub fn expect(&self, numbers: &[u32], least: usize) {
+        assert_eq!(self.0.keys().copied().collect::<Vec<u32>>(), numbers, "{:?}", self.0);
+        assert!(self.0.values().all(|&times| times >= least), "{:?}", self.0);
+    }
+}
+
+/// The first bytes in base 16, for messages.
+pub fn show(bytes: &[u8]) -> String {
+    let shown: Vec<String> = bytes.iter().take(200).map(|byte| format!("{byte:02x}")).collect();
+    format!("{} bytes: {}", bytes.len(), shown.join(" "))
+}
+
+/// A lent buffer with a margin on both sides that a callee must leave alone.
+pub struct Lent<T> {
+    all: Vec<T>,
+    length: usize,
+    margin: T,
+}
+
+const MARGIN: usize = 8;
+
+impl<T: Copy + PartialEq> Lent<T> {
+    pub fn new(content: &[T], margin: T) -> Lent<T> {
+        let mut all = vec![margin; MARGIN];
+        all.extend(content);
+        all.extend([margin; MARGIN]);
+        Lent { all, length: content.len(), margin }
+    }
+
+    pub fn slice(&mut self) -> &mut [T] {
+        &mut self.all[MARGIN..MARGIN + self.length]
+    }
+
+    /// What the buffer holds, after a look at the margins.
+    pub fn content(&self) -> &[T] {
+        let (before, rest) = self.all.split_at(MARGIN);
+        let (content, after) = rest.split_at(self.length);
+        let whole = before.iter().chain(after).all(|&word| word == self.margin);
+        assert!(whole, "the margin of a lent buffer was written");
+        content
+    }
+}

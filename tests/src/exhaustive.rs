@@ -1,0 +1,170 @@
+//! Exhaustive search over all plans of a small tree, and over all its sequences of sibling runs.
+//!
+//! Both weigh the pages themselves, so that they do not lean on the judge they are compared with.
+
+use crate::model::Tree;
+
+/// Page count, then root weight: the smaller pair is the better plan.
+pub type Score = (usize, u32);
+
+/// A run: its first node and its last sibling.
+pub type Run = (usize, usize);
+
+/// Calls `visit` with each vector of marks that is allowed.
+pub fn for_each_plan(tree: &Tree, mut visit: impl FnMut(&[u8])) {
+    let mut marks = vec![1];
+    add_mark(tree, &mut marks, &mut visit);
+}
+
+fn add_mark(tree: &Tree, marks: &mut Vec<u8>, visit: &mut impl FnMut(&[u8])) {
+    let node = marks.len() + 1;
+    if node > tree.node_count() {
+        return visit(marks);
+    }
+    for mark in 0..=2 {
+        let follows_run = tree.before[node].is_some_and(|sibling| marks[sibling - 1] != 0);
+        if mark < 2 || follows_run {
+            marks.push(mark);
+            add_mark(tree, marks, visit);
+            marks.pop();
+        }
+    }
+}
+
+/// The weights of the pages of a plan with allowed marks, in the order of their first nodes.
+pub fn page_weights(tree: &Tree, marks: &[u8]) -> Vec<u32> {
+    // Each node's weight is carried to the first node of its page.
+    let mut weights = vec![0; tree.node_count() + 1];
+    for node in tree.nodes() {
+        weights[first_of_page(tree, marks, node)] += tree.weights[node];
+    }
+    weights.retain(|&weight| weight > 0);
+    weights
+}
+
+/// The score of a plan with allowed marks; none if it is not feasible.
+pub fn score_of_plan(tree: &Tree, marks: &[u8]) -> Option<Score> {
+    let weights = page_weights(tree, marks);
+    let feasible = weights.iter().all(|&weight| weight <= tree.limit);
+    feasible.then_some((weights.len(), weights[0]))
+}
+
+fn first_of_page(tree: &Tree, marks: &[u8], node: usize) -> usize {
+    match marks[node - 1] {
+        0 => first_of_page(tree, marks, tree.parents[node]),
+        2 => first_of_page(tree, marks, tree.before[node].expect("a sibling before a 2")),
+        _ => node,
+    }
+}
+
+pub fn best_of_plans(tree: &Tree) -> Score {
+    best_of_plans_where(tree, |_| true)
+}
+
+/// The best score of the plans that the test lets through. The plan with a page for each node must
+/// be one of them.
+pub fn best_of_plans_where(tree: &Tree, test: impl Fn(&[u8]) -> bool) -> Score {
+    let mut best = None;
+    for_each_plan(tree, |marks| {
+        if test(marks) {
+            keep_smaller(&mut best, score_of_plan(tree, marks));
+        }
+    });
+    best.expect("the plan with a page for each node is feasible")
+}
+
+fn keep_smaller(best: &mut Option<Score>, score: Option<Score>) {
+    if score.is_some() && (best.is_none() || score < *best) {
+        *best = score;
+    }
+}
+
+/// All runs that can be told of the tree: a first node, and the same node or a later sibling.
+fn all_runs(tree: &Tree) -> Vec<Run> {
+    let mut runs = vec![];
+    for first in tree.nodes() {
+        let mut last = Some(first);
+        while let Some(node) = last {
+            runs.push((first, node));
+            last = tree.after[node];
+        }
+    }
+    runs
+}
+
+pub fn nodes_of_run(tree: &Tree, run: Run) -> Vec<usize> {
+    let mut nodes = vec![run.0];
+    while nodes[nodes.len() - 1] != run.1 {
+        nodes.push(tree.after[nodes[nodes.len() - 1]].expect("the last is a later sibling"));
+    }
+    nodes
+}
+
+/// Calls `visit` with each set of runs that holds the tree: node 1 by itself is one of the runs,
+/// and no node is in two. The order of a sequence changes nothing, so each set comes once.
+pub fn for_each_run_set(tree: &Tree, mut visit: impl FnMut(&[Run])) {
+    let mut used = vec![false; tree.node_count() + 1];
+    add_run(tree, &all_runs(tree), &mut used, &mut vec![], &mut visit);
+}
+
+fn add_run(
+    tree: &Tree,
+    left: &[Run],
+    used: &mut [bool],
+    chosen: &mut Vec<Run>,
+    visit: &mut impl FnMut(&[Run]),
+) {
+    let Some((&run, left)) = left.split_first() else {
+        if chosen.contains(&(1, 1)) {
+            visit(chosen);
+        }
+        return;
+    };
+    add_run(tree, left, used, chosen, visit);
+    let nodes = nodes_of_run(tree, run);
+    if nodes.iter().all(|&node| !used[node]) {
+        nodes.iter().for_each(|&node| used[node] = true);
+        chosen.push(run);
+        add_run(tree, left, used, chosen, visit);
+        chosen.pop();
+        nodes.iter().for_each(|&node| used[node] = false);
+    }
+}
+
+/// The score of a set of runs that holds the tree; none if a page is over the limit.
+pub fn score_of_runs(tree: &Tree, runs: &[Run]) -> Option<Score> {
+    // The page of each node, by the place of its run.
+    let mut page_of = vec![None; tree.node_count() + 1];
+    for (page, &run) in runs.iter().enumerate() {
+        for node in nodes_of_run(tree, run) {
+            page_of[node] = Some(page);
+        }
+    }
+    let mut weights = vec![0; runs.len()];
+    for node in tree.nodes() {
+        // A parent has a lower number, so its page is settled.
+        page_of[node] = page_of[node].or(page_of[tree.parents[node]]);
+        weights[page_of[node].expect("node 1 is in a run")] += tree.weights[node];
+    }
+    let feasible = weights.iter().all(|&weight| weight <= tree.limit);
+    feasible.then_some((runs.len(), weights[page_of[1].expect("node 1 is in a run")]))
+}
+
+pub fn best_of_run_sets(tree: &Tree) -> Score {
+    let mut best = None;
+    for_each_run_set(tree, |runs| keep_smaller(&mut best, score_of_runs(tree, runs)));
+    best.expect("the runs of one node each hold the tree within the limit")
+}
+
+/// The runs of a plan with allowed marks, in rising order.
+pub fn runs_of_plan(tree: &Tree, marks: &[u8]) -> Vec<Run> {
+    let mut runs = vec![];
+    for first in tree.nodes().filter(|&node| marks[node - 1] == 1) {
+        let mut last = first;
+        while let Some(next) = tree.after[last].filter(|&next| marks[next - 1] == 2) {
+            last = next;
+        }
+        runs.push((first, last));
+    }
+    runs
+}

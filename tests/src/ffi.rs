@@ -1,0 +1,99 @@
+//! The proved library behind its C interface. A slice goes as a pointer and then a length; that of
+//! an empty Rust slice is a valid pointer to nothing. Each call hands over slices that live through
+//! it, which is what makes the unsafe blocks sound.
+#![cfg(linked)]
+
+#[allow(unused_imports)]
+use crate::model::Answer;
+
+#[cfg(has_read_tree)]
+pub fn read_tree(table: &[u8]) -> Answer {
+    extern "C" {
+        fn balduqen_read_tree(table: *const u8, table_length: usize) -> Answer;
+    }
+    unsafe { balduqen_read_tree(table.as_ptr(), table.len()) }
+}
+
+#[cfg(has_judge)]
+pub fn judge(table: &[u8], marks: &[u8]) -> Answer {
+    extern "C" {
+        fn balduqen_judge(
+            table: *const u8,
+            table_length: usize,
+            marks: *const u8,
+            marks_length: usize,
+        ) -> Answer;
+    }
+    unsafe { balduqen_judge(table.as_ptr(), table.len(), marks.as_ptr(), marks.len()) }
+}
+
+#[allow(unused_macros)]
+macro_rules! planner {
+    ($name:ident, $entry:ident) => {
+        pub fn $name(table: &[u8], marks: &mut [u8], scratch: &mut [u32]) -> Answer {
+            extern "C" {
+                fn $entry(
+                    table: *const u8,
+                    table_length: usize,
+                    marks: *mut u8,
+                    marks_length: usize,
+                    scratch: *mut u32,
+                    scratch_length: usize,
+                ) -> Answer;
+            }
+            let (table, table_length) = (table.as_ptr(), table.len());
+            let (marks, marks_length) = (marks.as_mut_ptr(), marks.len());
+            let (scratch, scratch_length) = (scratch.as_mut_ptr(), scratch.len());
+            unsafe { $entry(table, table_length, marks, marks_length, scratch, scratch_length) }
+        }
+    };
+}
+
+#[cfg(has_single)]
+planner!(plan_single, balduqen_plan_single);
+#[cfg(has_pair)]
+planner!(plan_pair, balduqen_plan_pair);
+#[cfg(has_level)]
+planner!(plan_level, balduqen_plan_level);
+#[cfg(has_best)]
+planner!(plan_best, balduqen_plan_best);
+
+#[cfg(has_write_archive)]
+pub fn write_archive(table: &[u8], marks: &[u8], archive: &mut [u8]) -> Answer {
+    extern "C" {
+        fn balduqen_write_archive(
+            table: *const u8,
+            table_length: usize,
+            marks: *const u8,
+            marks_length: usize,
+            archive: *mut u8,
+            archive_length: usize,
+        ) -> Answer;
+    }
+    let (table, table_length) = (table.as_ptr(), table.len());
+    let (marks, marks_length) = (marks.as_ptr(), marks.len());
+    let (archive, archive_length) = (archive.as_mut_ptr(), archive.len());
+    unsafe {
+        balduqen_write_archive(table, table_length, marks, marks_length, archive, archive_length)
+    }
+}
+
+#[cfg(has_read_archive)]
+pub fn read_archive(archive: &[u8], table: &mut [u8], marks: &mut [u8]) -> Answer {
+    extern "C" {
+        fn balduqen_read_archive(
+            archive: *const u8,
+            archive_length: usize,
+            table: *mut u8,
+            table_length: usize,
+            marks: *mut u8,
+            marks_length: usize,
+        ) -> Answer;
+    }
+    let (archive, archive_length) = (archive.as_ptr(), archive.len());
+    let (table, table_length) = (table.as_mut_ptr(), table.len());
+    let (marks, marks_length) = (marks.as_mut_ptr(), marks.len());
+    unsafe {
+        balduqen_read_archive(archive, archive_length, table, table_length, marks, marks_length)
+    }
+}

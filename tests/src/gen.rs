@@ -1,0 +1,359 @@
+//! Trees, tables and damaged tables, random ones from fixed seeds and small ones exhaustively.
+
+use crate::model::{pages, Tree, MAX_LIMIT, MAX_NODES};
+
+/// A generator of random numbers (splitmix64). The same seed gives the same numbers.
+pub struct Random(u64);
+
+impl Random {
+    pub fn new(seed: u64) -> Random {
+        Random(seed)
+    }
+
+    pub fn next(&mut self) -> u64 {
+        self.0 = self.0.wrapping_add(0x9e37_79b9_7f4a_7c15);
+        let mut bits = self.0;
+        bits = (bits ^ (bits >> 30)).wrapping_mul(0xbf58_476d_1ce4_e5b9);
+        bits = (bits ^ (bits >> 27)).wrapping_mul(0x94d0_49bb_1331_11eb);
+        bits ^ (bits >> 31)
+    }
+
+    /// A number from `low` to `high`, both included.
+    pub fn between(&mut self, low: usize, high: usize) -> usize {
+        low + (self.next() % (high - low + 1) as u64) as usize
+    }
+
+    pub fn byte(&mut self) -> u8 {
+        self.next() as u8
+    }
+
+    pub fn word(&mut self) -> u16 {
+        self.next() as u16
+    }
+
+    pub fn pick<T: Copy>(&mut self, choices: &[T]) -> T {
+        choices[self.between(0, choices.len() - 1)]
+    }
+
+    /// True once in so many times.
+    pub fn once_in(&mut self, times: usize) -> bool {
+        self.between(1, times) == 1
+    }
+
+    pub fn bytes(&mut self, length: usize) -> Vec<u8> {
+        (0..length).map(|_| self.byte()).collect()
+    }
+}
+
+/// The shape of a tree: the parent of node 1, 2, .., where node 1 has 0.
+pub type Parents = Vec<usize>;
+
+#[derive(Clone, Copy, Debug)]
+pub enum Form {
+    /// All nodes are children of node 1.
+    Flat,
+    /// Few levels: each node hangs below any other.
+    Bushy,
+    /// Long branches.
+    Deep,
+    /// Each node hangs below the node before it or one of that one's ancestors.
+    Mixed,
+    /// The children of a node are leaves and branches in turn. With heavy parents, as
+    /// `random_table` makes them, second plans often pay off in such a tree, and seldom in others.
+    Comb,
+}
+
+pub const FORMS: [Form; 5] = [Form::Flat, Form::Bushy, Form::Deep, Form::Mixed, Form::Comb];
+
+pub fn random_parents(random: &mut Random, form: Form, count: usize) -> Parents {
+    let mut parents = vec![0];
+    if let Form::Bushy = form {
+        return bushy_parents(random, count);
+    }
+    if let Form::Comb = form {
+        add_comb(random, &mut parents, 1, count - 1);
+        return parents;
+    }
+    // From node 1 down to the newest node: those that can have the next one as a child.
+    let mut open = vec![1];
+    for node in 2..=count {
+        let depth = match form {
+            Form::Flat => 1,
+            Form::Deep if !random.once_in(8) => open.len(),
+            _ => random.between(1, open.len()),
+        };
+        open.truncate(depth);
+        parents.push(open[depth - 1]);
+        open.push(node);
+    }
+    parents
+}
+
+fn bushy_parents(random: &mut Random, count: usize) -> Parents {
+    let mut children = vec![vec![]; count];
+    for node in 1..count {
+        let parent = random.between(0, node - 1);
+        children[parent].push(node);
+    }
+    // Numbers the nodes anew in the order of the walk.
+    let mut parents = vec![];
+    let mut waiting = vec![(0, 0)];
+    while let Some((node, parent)) = waiting.pop() {
+        parents.push(parent);
+        let number = parents.len();
+        waiting.extend(children[node].iter().rev().map(|&child| (child, number)));
+    }
+    parents
+}
+
+/// Hangs so many nodes below a node.
+fn add_comb(random: &mut Random, parents: &mut Parents, node: usize, mut count: usize) {
+    let mut is_leaf = true;
+    while count > 0 {
+        let most = count.min((count / 2).max(3));
+        let size = if is_leaf { 1 } else { random.between(1, most) };
+        parents.push(node);
+        let child = parents.len();
+        add_comb(random, parents, child, size - 1);
+        count -= size;
+        is_leaf = !is_leaf;
+    }
+}
+
+/// Every shape with so many nodes.
+pub fn all_parents(count: usize) -> Vec<Parents> {
+    let mut all = vec![vec![0]];
+    for node in 2..=count {
+        let mut longer = vec![];
+        for parents in all {
+            let mut parent = node - 1;
+            while parent != 0 {
+                longer.push([&parents[..], &[parent]].concat());
+                parent = parents[parent - 1];
+            }
+        }
+        all = longer;
+    }
+    all
+}
+
+/// Every list of so many weights from the choices.
+pub fn all_weights(count: usize, choices: &[u16]) -> Vec<Vec<u16>> {
+    let mut all = vec![vec![]];
+    for _ in 0..count {
+        all = all
+            .iter()
+            .flat_map(|list| choices.iter().map(move |&weight| [&list[..], &[weight]].concat()))
+            .collect();
+    }
+    all
+}
+
+#[derive(Clone, Copy, Debug, PartialEq, Eq)]
+pub struct Record {
+    pub weight: u16,
+    pub label: u16,
+    pub first_child: u16,
+    pub next_sibling: u16,
+}
+
+/// A table before it is encoded, so that a test can change any word. The count is a word of its
+/// own and need not be the number of records.
+#[derive(Clone, Debug, PartialEq, Eq)]
+pub struct Table {
+    pub count: u16,
+    pub limit: u16,
+    pub records: Vec<Record>,
+}
+
+impl Table {
+    /// A table with node numbers as labels.
+    pub fn new(limit: u16, parents: &[usize], weights: &[u16]) -> Table {
+        assert_eq!(parents.len(), weights.len());
+        let mut records: Vec<Record> = (1..)
+            .zip(weights)
+            .map(|(label, &weight)| Record { weight, label, first_child: 0, next_sibling: 0 })
+            .collect();
+        let mut last_child = vec![0usize; parents.len() + 1];
+        for (node, &parent) in (1..).zip(parents).skip(1) {
+            match last_child[parent] {
+                0 => records[parent - 1].first_child = node as u16,
+                before => records[before - 1].next_sibling = node as u16,
+            }
+            last_child[parent] = node;
+        }
+        Table { count: records.len() as u16, limit, records }
+    }
+
+    pub fn bytes(&self) -> Vec<u8> {
+        let mut words = vec![self.count, self.limit];
+        for record in &self.records {
+            words.extend([record.weight, record.label, record.first_child, record.next_sibling]);
+        }
+        words.iter().flat_map(|word| word.to_be_bytes()).collect()
+    }
+
+    pub fn with_random_labels(mut self, random: &mut Random) -> Table {
+        for record in &mut self.records {
+            record.label = random.word();
+        }
+        self
+    }
+}
+
+/// Calls `visit` with every table of so many nodes whose weights and limit are among these. A
+/// weight may be over the limit.
+pub fn for_each_table(
+    counts: std::ops::RangeInclusive<usize>,
+    weights: &[u16],
+    limits: &[u16],
+    mut visit: impl FnMut(&[u8]),
+) {
+    for count in counts {
+        for parents in all_parents(count) {
+            for weights in all_weights(count, weights) {
+                for &limit in limits {
+                    visit(&Table::new(limit, &parents, &weights).bytes());
+                }
+            }
+        }
+    }
+}
+
+/// Calls `visit` with every table of so many nodes whose links are 0 to one above the count.
+pub fn for_each_linking(count: usize, mut visit: impl FnMut(&Table)) {
+    let mut table = Table::new(9, &all_parents(count)[0], &vec![1; count]);
+    let values = count + 2;
+    for mut code in 0..values.pow(2 * count as u32) {
+        let mut digit = || {
+            let value = code % values;
+            code /= values;
+            value as u16
+        };
+        for record in &mut table.records {
+            record.first_child = digit();
+            record.next_sibling = digit();
+        }
+        visit(&table);
+    }
+}
+
+/// Calls `visit` with every list of so many bytes from 0 to 3.
+pub fn for_each_marks(count: usize, mut visit: impl FnMut(&[u8])) {
+    for code in 0..4usize.pow(count as u32) {
+        let marks: Vec<u8> = (0..count).map(|place| (code >> (2 * place) & 3) as u8).collect();
+        visit(&marks);
+    }
+}
+
+/// A table of an accepted tree with so many nodes and that limit.
+pub fn random_table(random: &mut Random, form: Form, count: usize, limit: usize) -> Table {
+    let parents = random_parents(random, form, count);
+    let weights = match form {
+        Form::Comb => comb_weights(random, &parents, limit),
+        _ => any_weights(random, count, limit),
+    };
+    Table::new(limit as u16, &parents, &weights).with_random_labels(random)
+}
+
+fn any_weights(random: &mut Random, count: usize, limit: usize) -> Vec<u16> {
+    // The most that a weight usually is, and how often one up to the limit comes in between.
+    let (usual, rare) = random.pick(&[(1, 9), (3, 9), (3, 1000), (limit / 4 + 1, 9), (limit, 9)]);
+    let mut weight = || {
+        let most = if random.once_in(rare) { limit } else { usual.min(limit) };
+        random.between(1, most) as u16
+    };
+    (0..count).map(|_| weight()).collect()
+}
+
+/// A node with three children or more is nearly as heavy as the limit.
+fn comb_weights(random: &mut Random, parents: &[usize], limit: usize) -> Vec<u16> {
+    let mut children = vec![0; parents.len() + 1];
+    parents.iter().for_each(|&parent| children[parent] += 1);
+    let mut weight = |node: usize| match children[node] >= 3 {
+        true => random.between((limit - 1).max(1), limit) as u16,
+        false => random.between(1, (limit / 2).max(1)) as u16,
+    };
+    (1..=parents.len()).map(|node| weight(node)).collect()
+}
+
+/// A table of an accepted tree of any form, with up to so many nodes and up to that limit.
+pub fn any_table(random: &mut Random, max_nodes: usize, max_limit: usize) -> Table {
+    assert!(max_nodes <= MAX_NODES && max_limit <= MAX_LIMIT);
+    let form = random.pick(&FORMS);
+    let (count, limit) = (random.between(1, max_nodes), random.between(1, max_limit));
+    random_table(random, form, count, limit)
+}
+
+/// Puts one random fault, or what may be one, into a table and encodes it.
+pub fn damaged(random: &mut Random, table: &Table) -> Vec<u8> {
+    let mut table = table.clone();
+    let count = table.records.len();
+    let place = random.between(0, count - 1);
+    let link = random.between(0, count + 2) as u16;
+    match random.between(1, 10) {
+        1 => table.count = random.pick(&[0, table.count - 1, table.count + 1, 1024, 1025, 65535]),
+        2 => table.limit = random.pick(&[0, 1, table.limit - 1, 1024, 1025, 65535]),
+        3 => table.records[place].weight = 0,
+        4 => table.records[place].weight = random.pick(&[table.limit + 1, 1025, 65535]),
+        5 => table.records[place].first_child = link,
+        6 => table.records[place].next_sibling = link,
+        7 => table.records[0].next_sibling = link,
+        8 => return truncated(random, table.bytes()),
+        9 => return extended(random, table.bytes()),
+        _ => return flipped(random, table.bytes()),
+    }
+    table.bytes()
+}
+
+fn truncated(random: &mut Random, mut bytes: Vec<u8>) -> Vec<u8> {
+    let length = random.between(0, bytes.len() - 1);
+    bytes.truncate(length);
+    bytes
+}
+
+fn extended(random: &mut Random, mut bytes: Vec<u8>) -> Vec<u8> {
+    let more = random.between(1, 9);
+    bytes.extend(random.bytes(more));
+    bytes
+}
+
+/// Flips one bit.
+pub fn flipped(random: &mut Random, mut bytes: Vec<u8>) -> Vec<u8> {
+    let place = random.between(0, bytes.len() - 1);
+    bytes[place] ^= 1 << random.between(0, 7);
+    bytes
+}
+
+/// Marks that are all allowed, with about as many runs as the tree has nodes over `rare`.
+pub fn random_plan(random: &mut Random, tree: &Tree, rare: usize) -> Vec<u8> {
+    let mut marks: Vec<u8> = vec![1];
+    for node in tree.nodes().skip(1) {
+        let follows_run = tree.before[node].is_some_and(|sibling| marks[sibling - 1] != 0);
+        let mark = if random.once_in(rare) {
+            1
+        } else if follows_run && random.once_in(2) {
+            2
+        } else {
+            0
+        };
+        marks.push(mark);
+    }
+    marks
+}
+
+/// A feasible plan: random marks, with cuts added until no page is over the limit.
+pub fn feasible_plan(random: &mut Random, tree: &Tree) -> Vec<u8> {
+    let rare = random.pick(&[1, 2, 5, 50]);
+    let mut marks = random_plan(random, tree, rare);
+    loop {
+        let mut heavy = pages(tree, &marks);
+        heavy.retain(|page| page.weight > tree.limit);
+        if heavy.is_empty() {
+            return marks;
+        }
+        for page in heavy {
+            marks[page.nodes[random.between(1, page.nodes.len() - 1)] - 1] = 1;
+        }
+    }
+}

@@ -1,0 +1,10 @@
+//! What the outside tests share: a model of document 01 written from the document alone, an
+//! exhaustive search over plans, generators of trees and tables, the document's own cases, helpers
+//! for checks, and the calls into the proved library.
+
+pub mod cases;
+pub mod check;
+pub mod exhaustive;
+pub mod ffi;
+pub mod gen;
+pub mod model;

@@ -1,0 +1,223 @@
+//! The archive reader of the library.
+
+use super::with_copy;
+use balduqen_tests::cases::*;
+use balduqen_tests::check::{show, Lent, Seen};
+use balduqen_tests::exhaustive::for_each_plan;
+use balduqen_tests::ffi;
+use balduqen_tests::gen::*;
+use balduqen_tests::model::{self, archive_bytes, read, verdict, word, Answer};
+
+/// The library's answer, table and marks, checked against the model's. The buffers hold these bytes
+/// on entry.
+fn read_into(archive: &[u8], table: &[u8], marks: &[u8]) -> (Answer, Vec<u8>, Vec<u8>) {
+    let (mut model_table, mut model_marks) = (table.to_vec(), marks.to_vec());
+    let model_answer = model::read_archive(archive, &mut model_table, &mut model_marks);
+    let mut lent_table = Lent::new(table, 0xa5);
+    let mut lent_marks = Lent::new(marks, 0x5a);
+    let answer = with_copy(archive, |archive| {
+        ffi::read_archive(archive, lent_table.slice(), lent_marks.slice())
+    });
+    assert_eq!(answer, model_answer, "{}", show(archive));
+    let (table, marks) = (lent_table.content(), lent_marks.content());
+    assert_eq!(table, model_table, "{answer:?}: {}", show(archive));
+    assert_eq!(marks, model_marks, "{answer:?}: {}", show(archive));
+    (answer, table.to_vec(), marks.to_vec())
+}
+
+/// Reads into buffers of the lengths that the archive's first word asks for.
+fn read_archive(archive: &[u8]) -> Answer {
+    let count = if archive.len() < 2 { 0 } else { word(archive, 0) };
+    read_into(archive, &vec![7; 4 + 8 * count], &vec![7; count]).0
+}
+
+/// An accepted tree's table and the archive of a feasible plan of it.
+fn random_archive(random: &mut Random, most: usize, limit: usize) -> (Vec<u8>, Vec<u8>) {
+    let table = any_table(random, most, limit).bytes();
+    let tree = read(&table).expect("an accepted table");
+    let marks = feasible_plan(random, &tree);
+    let archive = archive_bytes(&tree, &marks);
+    (table, archive)
+}
+
+/// Case E and some random ones, of up to seven nodes.
+fn small_archives() -> Vec<Vec<u8>> {
+    let random = &mut Random::new(1001);
+    let mut archives = vec![archive_of_e()];
+    archives.extend((0..8).map(|_| random_archive(random, 7, 12).1));
+    archives
+}
+
+#[test]
+fn case_e_and_its_plan() {
+    let told = (Answer::accepted(3, 5), case_e().bytes(), MARKS_OF_E.to_vec());
+    assert_eq!(read_into(&archive_of_e(), &[7; 52], &[7; 6]), told);
+    assert_eq!(read_into(&[], &[], &[]).0, Answer::refused(13, 0));
+    assert_eq!(read_into(&[], &[7; 52], &[7; 6]).0, Answer::refused(13, 0));
+}
+
+/// 13, then 12, then 8.
+#[test]
+fn order_of_the_checks() {
+    let good = archive_of_e();
+    let mut bad = good.clone();
+    bad[77] = 1;
+    for table in [0, 4, 51, 52, 53, 60] {
+        for marks in [0, 5, 6, 7, 12] {
+            let refusal = Answer::refused(13, 0);
+            assert_eq!(read_into(&bad, &vec![7; table], &vec![7; marks]).0, refusal);
+            let expected = match (table, marks) {
+                (52, 6) => Answer::accepted(3, 5),
+                (52, _) => Answer::refused(8, 6),
+                _ => Answer::refused(12, 52),
+            };
+            assert_eq!(read_into(&good, &vec![7; table], &vec![7; marks]).0, expected);
+        }
+    }
+}
+
+#[test]
+fn all_plans_of_small_trees() {
+    let mut seen = Seen::default();
+    for_each_table(1..=5, &[1, 2], &[2, 3, 4], |table| {
+        let mut tree = read(table).expect("an accepted table");
+        for_each_plan(&tree, |marks| {
+            let answer = read_archive(&archive_bytes(&tree, marks));
+            // Plans that are not feasible are not read.
+            assert_eq!(answer.is_accepted(), verdict(&tree, marks).is_accepted());
+            seen.add(answer);
+        });
+        // Nor are trees that are refused for weight.
+        tree.limit = 1;
+        if tree.weights.contains(&2) {
+            let ones = vec![1; tree.node_count()];
+            assert_eq!(read_archive(&archive_bytes(&tree, &ones)), Answer::refused(13, 0));
+        }
+    });
+    seen.expect(&[0, 13], 1000);
+}
+
+#[test]
+fn random_archives() {
+    let random = &mut Random::new(1002);
+    let mut seen = Seen::default();
+    for round in 0..10000 {
+        let most = if round % 50 == 0 { 1024 } else { 30 };
+        let (table, archive) = random_archive(random, most, 60);
+        let count = word(&archive, 0);
+        let table_length = table.len() - 2 + random.pick(&[0, 1, 2, 2, 2, 2, 2, 2, 3, 4]);
+        let marks_length = count - 1 + random.pick(&[0, 1, 1, 2]);
+        let buffers = (random.bytes(table_length), random.bytes(marks_length));
+        seen.add(read_into(&archive, &buffers.0, &buffers.1).0);
+    }
+    seen.expect(&[0, 8, 12], 1000);
+}
+
+#[test]
+fn largest_archives() {
+    let random = &mut Random::new(1003);
+    for form in FORMS {
+        let table = random_table(random, form, 1024, 1024).bytes();
+        let tree = read(&table).expect("an accepted table");
+        for marks in [vec![1; 1024], feasible_plan(random, &tree)] {
+            let archive = archive_bytes(&tree, &marks);
+            assert!(read_archive(&archive).is_accepted());
+            for _ in 0..20 {
+                read_archive(&changed_words(random, &archive));
+            }
+        }
+    }
+}
+
+#[test]
+fn every_single_byte_change() {
+    let mut seen = Seen::default();
+    for archive in small_archives() {
+        for place in 0..archive.len() {
+            for value in 0..=255 {
+                let mut changed = archive.clone();
+                changed[place] = value;
+                seen.add(read_archive(&changed));
+            }
+        }
+    }
+    seen.expect(&[0, 13], 1000);
+}
+
+#[test]
+fn every_length() {
+    for archive in small_archives() {
+        for length in 0..archive.len() {
+            assert_eq!(read_archive(&archive[..length]), Answer::refused(13, 0));
+        }
+        for more in 1..=24 {
+            let longer = [&archive[..], &vec![0; more]].concat();
+            assert_eq!(read_archive(&longer), Answer::refused(13, 0));
+        }
+    }
+}
+
+/// Sets one to three words to small values, so that two changes can make good for each other.
+fn changed_words(random: &mut Random, archive: &[u8]) -> Vec<u8> {
+    let mut changed = archive.to_vec();
+    for _ in 0..random.between(1, 3) {
+        let place = random.between(0, archive.len() / 2 - 1);
+        let near = word(archive, place) + random.between(0, 2);
+        let any = random.between(0, word(archive, 0) + 1);
+        let value = random.pick(&[near.saturating_sub(1), any, 0]).min(65535) as u16;
+        changed[2 * place..2 * place + 2].copy_from_slice(&value.to_be_bytes());
+    }
+    changed
+}
+
+#[test]
+fn changed_archives() {
+    let random = &mut Random::new(1004);
+    let mut seen = Seen::default();
+    for round in 0..40000 {
+        let most = if round % 200 == 0 { 1024 } else { 6 };
+        let (_, archive) = random_archive(random, most, 12);
+        seen.add(read_archive(&changed_words(random, &archive)));
+        seen.add(read_archive(&flipped(random, archive)));
+    }
+    seen.expect(&[0, 13], 1000);
+}
+
+/// Two page records or two node records change places.
+#[test]
+fn exchanged_records() {
+    let random = &mut Random::new(1005);
+    for _ in 0..10000 {
+        let (_, archive) = random_archive(random, 8, 12);
+        let records = archive.len() / 8;
+        let (first, second) = (random.between(0, records - 1), random.between(0, records - 1));
+        let mut changed = archive.clone();
+        for byte in 0..8 {
+            changed.swap(6 + 8 * first + byte, 6 + 8 * second + byte);
+        }
+        read_archive(&changed);
+    }
+}
+
+/// Heads with counts at or near the ends, and the lengths that they ask for.
+#[test]
+fn heads() {
+    let values = [0, 1, 2, 3, 1023, 1024, 1025, 65535];
+    for nodes in values {
+        for limit in values {
+            for pages in values {
+                let words: [u16; 3] = [nodes, limit, pages];
+                let head: Vec<u8> = words.iter().flat_map(|word| word.to_be_bytes()).collect();
+                let asked = 8 * usize::from(nodes) + 8 * usize::from(pages);
+                for length in [0, 1, 8, asked] {
+                    let archive = [&head[..], &vec![0; length]].concat();
+                    assert_eq!(read_archive(&archive), Answer::refused(13, 0));
+                }
+            }
+        }
+    }
+    for first in 0..=255 {
+        assert_eq!(read_archive(&[first]), Answer::refused(13, 0));
+        assert_eq!(read_archive(&[0, first]), Answer::refused(13, 0));
+    }
+}

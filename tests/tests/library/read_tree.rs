@@ -1,0 +1,224 @@
+//! The tree reader of the library.
+
+use super::with_copy;
+use balduqen_tests::cases::*;
+use balduqen_tests::check::{show, Seen};
+use balduqen_tests::ffi;
+use balduqen_tests::gen::*;
+use balduqen_tests::model::{self, Answer};
+
+/// The library's answer, checked against the model's.
+fn read_tree(table: &[u8]) -> Answer {
+    let answer = with_copy(table, ffi::read_tree);
+    assert_eq!(answer, model::read_tree(table), "{}", show(table));
+    answer
+}
+
+/// Tables of the cases and some random ones.
+fn some_tables() -> Vec<Table> {
+    let random = &mut Random::new(601);
+    let mut tables = vec![case_a(), case_c(), case_d(), case_e(), case_f(), case_g()];
+    tables.extend((0..6).map(|_| any_table(random, 9, 300)));
+    tables
+}
+
+#[test]
+fn cases() {
+    for table in some_tables() {
+        assert_eq!(read_tree(&table.bytes()), Answer::ACCEPTED);
+    }
+    for (table, number, place) in refused_tables().into_iter().chain(faulty_tables()) {
+        assert_eq!(read_tree(&table), Answer::refused(number, place));
+    }
+}
+
+#[test]
+fn shortest_tables() {
+    read_tree(&[]);
+    for first in 0..=255 {
+        read_tree(&[first]);
+        for second in 0..=255 {
+            read_tree(&[first, second]);
+        }
+    }
+}
+
+/// Tables of three and more bytes whose counts and limits are at or near the ends.
+#[test]
+fn heads() {
+    let values = [0, 1, 2, 3, 4, 5, 8, 127, 128, 255];
+    let mut seen = Seen::default();
+    for first in values {
+        for second in values {
+            for third in values {
+                seen.add(read_tree(&[first, second, third]));
+                for fourth in values {
+                    let head = [first, second, third, fourth];
+                    for zeros in [0, 1, 7, 8, 9, 16] {
+                        seen.add(read_tree(&[&head[..], &vec![0; zeros]].concat()));
+                    }
+                }
+            }
+        }
+    }
+    seen.expect(&[1, 2, 3, 4, 5], 50);
+}
+
+#[test]
+fn every_count_and_limit() {
+    let mut table = case_e();
+    for value in 0..=u16::MAX {
+        table.count = value;
+        read_tree(&table.bytes());
+        table.count = 6;
+        table.limit = value;
+        read_tree(&table.bytes());
+        table.limit = 5;
+    }
+}
+
+#[test]
+fn every_length() {
+    for table in some_tables() {
+        let bytes = table.bytes();
+        for length in 0..=bytes.len() {
+            read_tree(&bytes[..length]);
+        }
+        for more in 1..=40 {
+            for value in [0, 1, 255] {
+                read_tree(&[&bytes[..], &vec![value; more]].concat());
+            }
+        }
+    }
+}
+
+#[test]
+fn every_single_byte_change() {
+    for table in some_tables() {
+        let bytes = table.bytes();
+        for place in 0..bytes.len() {
+            for value in 0..=255 {
+                let mut changed = bytes.clone();
+                changed[place] = value;
+                read_tree(&changed);
+            }
+        }
+    }
+}
+
+/// All links from 0 to one above the count. As many are accepted as there are shapes.
+#[test]
+fn all_links_of_small_tables() {
+    for (count, shapes) in [(1, 1), (2, 1), (3, 2), (4, 5)] {
+        let mut accepted = 0;
+        for_each_linking(count, |table| {
+            accepted += usize::from(read_tree(&table.bytes()).is_accepted());
+        });
+        assert_eq!(accepted, shapes);
+    }
+}
+
+#[test]
+fn valid_tables() {
+    let random = &mut Random::new(602);
+    for _ in 0..5000 {
+        assert_eq!(read_tree(&any_table(random, 60, 1024).bytes()), Answer::ACCEPTED);
+    }
+    for _ in 0..200 {
+        assert_eq!(read_tree(&any_table(random, 1024, 1024).bytes()), Answer::ACCEPTED);
+    }
+}
+
+#[test]
+fn damaged_tables() {
+    let random = &mut Random::new(603);
+    let mut seen = Seen::default();
+    for round in 0..40000 {
+        let most = if round % 100 == 0 { 1024 } else { 20 };
+        let table = any_table(random, most, 20);
+        seen.add(read_tree(&damaged(random, &table)));
+    }
+    seen.expect(&[0, 1, 2, 3, 4, 5, 6, 7], 50);
+}
+
+/// Several links at random, so that loops, lost branches and early ends come at any place.
+#[test]
+fn random_links() {
+    let random = &mut Random::new(604);
+    let mut seen = Seen::default();
+    for round in 0..40000 {
+        let most = if round % 50 == 0 { 1024 } else { 12 };
+        let mut table = any_table(random, most, 20);
+        let count = table.records.len();
+        for _ in 0..random.between(1, 3) {
+            let place = random.between(0, count - 1);
+            let (near, any) = (place + random.between(0, 3), random.between(0, count + 1));
+            let link = random.pick(&[0, near, any]) as u16;
+            let record = &mut table.records[place];
+            match random.once_in(2) {
+                true => record.first_child = link,
+                false => record.next_sibling = link,
+            }
+        }
+        seen.add(read_tree(&table.bytes()));
+    }
+    seen.expect(&[0, 6], 500);
+}
+
+/// Weights, links and limits at random all at once: the first check that fails answers.
+#[test]
+fn many_faults() {
+    let random = &mut Random::new(605);
+    let mut seen = Seen::default();
+    for _ in 0..40000 {
+        let mut table = any_table(random, 10, 20);
+        let count = table.records.len();
+        for _ in 0..random.between(1, 4) {
+            let link = random.between(0, count + 1) as u16;
+            let place = random.between(0, count - 1);
+            let record = &mut table.records[place];
+            match random.between(1, 8) {
+                1 => table.count = random.pick(&[0, 1025]),
+                2 => table.limit = random.pick(&[0, 1025]),
+                3 => record.weight = 0,
+                4 | 5 => record.weight = random.pick(&[21, 1024, 65535]),
+                6 => record.first_child = link,
+                7 => record.next_sibling = link,
+                _ => table.limit = 1,
+            }
+        }
+        let mut bytes = table.bytes();
+        if random.once_in(6) {
+            bytes.pop();
+        }
+        seen.add(read_tree(&bytes));
+    }
+    seen.expect(&[0, 2, 3, 4, 5, 6, 7], 50);
+}
+
+/// The longest tables of each form, whole and with one fault.
+#[test]
+fn longest_tables() {
+    let random = &mut Random::new(606);
+    for form in FORMS {
+        let table = random_table(random, form, 1024, 1024);
+        assert_eq!(read_tree(&table.bytes()), Answer::ACCEPTED);
+        for _ in 0..300 {
+            read_tree(&damaged(random, &table));
+        }
+        let mut heavy = table.clone();
+        heavy.records[1023].weight = 1025;
+        assert_eq!(read_tree(&heavy.bytes()), Answer::refused(7, 1024));
+        let mut light = heavy.clone();
+        light.records[1023].weight = 0;
+        assert_eq!(read_tree(&light.bytes()), Answer::refused(5, 1024));
+        let mut longer = heavy.clone();
+        longer.records[1023].next_sibling = 1025;
+        assert_eq!(read_tree(&longer.bytes()), Answer::refused(6, 1024));
+        longer.count = 1025;
+        longer.records.push(table.records[1023]);
+        assert_eq!(read_tree(&longer.bytes()), Answer::refused(2, 1025));
+        let over = Table { limit: 1025, ..table };
+        assert_eq!(read_tree(&over.bytes()), Answer::refused(3, 1025));
+    }
+}

@@ -1,0 +1,150 @@
+//! The archive writer of the library.
+
+use super::with_copy;
+use balduqen_tests::cases::*;
+use balduqen_tests::check::{show, Lent, Seen};
+use balduqen_tests::ffi;
+use balduqen_tests::gen::*;
+use balduqen_tests::model::{self, archive_length, judge, read, word, Answer};
+
+/// The library's answer and archive, checked against the model's. The buffer holds these bytes on
+/// entry.
+fn write_archive(table: &[u8], marks: &[u8], archive: &[u8]) -> (Answer, Vec<u8>) {
+    let mut model_archive = archive.to_vec();
+    let model_answer = model::write_archive(table, marks, &mut model_archive);
+    let mut lent = Lent::new(archive, 0xa5);
+    let answer = with_copy(table, |table| {
+        with_copy(marks, |marks| ffi::write_archive(table, marks, lent.slice()))
+    });
+    assert_eq!(answer, model_answer, "{}; {}", show(table), show(marks));
+    let archive = lent.content();
+    assert_eq!(archive, model_archive, "{answer:?}: {}; {}", show(table), show(marks));
+    (answer, archive.to_vec())
+}
+
+/// The length that an archive of these should have; some length, where they are refused.
+fn right_length(table: &[u8], marks: &[u8]) -> usize {
+    archive_length(judge(table, marks).pages as usize, marks.len())
+}
+
+#[test]
+fn case_e_and_its_plan() {
+    let table = case_e().bytes();
+    let (answer, archive) = write_archive(&table, &MARKS_OF_E, &[7; 78]);
+    assert_eq!((answer, archive), (Answer::accepted(3, 5), archive_of_e()));
+    for length in 0..200 {
+        let answer = write_archive(&table, &MARKS_OF_E, &vec![7; length]).0;
+        let refusal = Answer::refused(12, 78);
+        assert_eq!(answer == refusal, length != 78);
+    }
+}
+
+/// Case E with a fault for any selection of the numbers 1 to 8, 10, 11 and 12.
+#[test]
+fn order_of_the_checks() {
+    for (table, number, place) in faulty_tables() {
+        for (marks, of_marks, place_of_marks) in [
+            (&[9, 9, 9, 9, 9][..], 8, 6),
+            (&[1, 0, 0, 0, 0, 3][..], 10, 6),
+            (&[1, 0, 0, 0, 0, 0][..], 11, 1),
+            (&MARKS_OF_E[..], 12, 78),
+        ] {
+            let refusal = match number {
+                0 => Answer::refused(of_marks, place_of_marks),
+                _ => Answer::refused(number, place),
+            };
+            for length in [0, 77] {
+                assert_eq!(write_archive(&table, marks, &vec![7; length]).0, refusal);
+            }
+        }
+    }
+    for (table, number, place) in refused_tables() {
+        assert_eq!(write_archive(&table, &[], &[]).0, Answer::refused(number, place));
+    }
+}
+
+#[test]
+fn all_marks_of_small_trees() {
+    let mut seen = Seen::default();
+    for_each_table(1..=4, &[1, 2], &[1, 2, 3, 4], |table| {
+        for_each_marks(word(table, 0), |marks| {
+            let length = right_length(table, marks);
+            for length in [length, length - 1, length + 1] {
+                seen.add(write_archive(table, marks, &vec![7; length]).0);
+            }
+        });
+    });
+    seen.expect(&[0, 7, 10, 11, 12], 500);
+}
+
+#[test]
+fn random_plans() {
+    let random = &mut Random::new(901);
+    let mut seen = Seen::default();
+    for round in 0..10000 {
+        let most = if round % 50 == 0 { 1024 } else { 30 };
+        let table = any_table(random, most, 60).bytes();
+        let tree = read(&table).expect("an accepted table");
+        let marks = match random.once_in(4) {
+            true => random_plan(random, &tree, 3),
+            false => feasible_plan(random, &tree),
+        };
+        let length = right_length(&table, &marks);
+        let length = random.pick(&[length, length, length - 1, length + 1, length - 8]);
+        let archive = random.bytes(length);
+        seen.add(write_archive(&table, &marks, &archive).0);
+    }
+    seen.expect(&[0, 11, 12], 300);
+}
+
+#[test]
+fn largest_archives() {
+    let random = &mut Random::new(902);
+    for form in FORMS {
+        let table = random_table(random, form, 1024, 1024).bytes();
+        let tree = read(&table).expect("an accepted table");
+        for marks in [vec![1; 1024], feasible_plan(random, &tree)] {
+            let length = right_length(&table, &marks);
+            assert!(write_archive(&table, &marks, &vec![7; length]).0.is_accepted());
+            let refusal = write_archive(&table, &marks, &vec![7; length - 1]).0;
+            assert_eq!(refusal, Answer::refused(12, length));
+        }
+    }
+}
+
+#[test]
+fn damaged_tables() {
+    let random = &mut Random::new(903);
+    let mut seen = Seen::default();
+    for _ in 0..20000 {
+        let table = any_table(random, 12, 12);
+        let damaged = damaged(random, &table);
+        let count = table.records.len() + random.pick(&[0, 0, 0, 1]);
+        let marks = vec![random.pick(&[1, 1, 1, 0]); count];
+        let length = right_length(&table.bytes(), &marks);
+        let archive = random.bytes(length);
+        seen.add(write_archive(&damaged, &marks, &archive).0);
+    }
+    seen.expect(&[0, 1, 2, 3, 4, 5, 6, 7, 8, 10], 50);
+}
+
+/// What is written can be read: the same table and marks come back.
+#[cfg(has_read_archive)]
+#[test]
+fn round_trips() {
+    let random = &mut Random::new(904);
+    for round in 0..5000 {
+        let most = if round % 50 == 0 { 1024 } else { 30 };
+        let limit = random.pick(&[10, 100, 1024]);
+        let table = any_table(random, most, limit).bytes();
+        let tree = read(&table).expect("an accepted table");
+        let marks = feasible_plan(random, &tree);
+        let mut archive = vec![7; right_length(&table, &marks)];
+        let verdict = ffi::write_archive(&table, &marks, &mut archive);
+        assert_eq!(verdict, judge(&table, &marks));
+        let mut new_table = vec![7; table.len()];
+        let mut new_marks = vec![7; marks.len()];
+        assert_eq!(ffi::read_archive(&archive, &mut new_table, &mut new_marks), verdict);
+        assert!(new_table == table && new_marks == marks, "{}", show(&archive));
+    }
+}

@@ -1,0 +1,205 @@
+//! The archive writer and reader.
+
+use balduqen_tests::cases::{archive_of_e, case_e, MARKS_OF_E};
+use balduqen_tests::exhaustive::{for_each_plan, score_of_plan};
+use balduqen_tests::gen::*;
+use balduqen_tests::model::*;
+use std::collections::BTreeSet;
+
+/// The archive of a table and a feasible plan.
+fn written(table: &[u8], marks: &[u8]) -> Vec<u8> {
+    let verdict = judge(table, marks);
+    assert!(verdict.is_accepted());
+    let mut archive = vec![7; archive_length(verdict.pages as usize, marks.len())];
+    assert_eq!(write_archive(table, marks, &mut archive), verdict);
+    archive
+}
+
+/// Table and marks of an archive, or none where the reader refuses it.
+fn read_back(archive: &[u8]) -> Option<(Vec<u8>, Vec<u8>)> {
+    let count = if archive.len() < 2 { 0 } else { word(archive, 0) };
+    let mut table = vec![7; 4 + 8 * count];
+    let mut marks = vec![7; count];
+    let answer = read_archive(archive, &mut table, &mut marks);
+    if answer.is_accepted() {
+        assert_eq!(answer, judge(&table, &marks));
+        return Some((table, marks));
+    }
+    assert_eq!(answer, Answer::refused(13, 0));
+    assert!(table.iter().chain(&marks).all(|&byte| byte == 7));
+    None
+}
+
+fn round_trip(table: &[u8], marks: &[u8]) {
+    let archive = written(table, marks);
+    // The words that follow from the verdict alone.
+    let verdict = judge(table, marks);
+    assert_eq!(word(&archive, 2), verdict.pages as usize);
+    assert_eq!(word(&archive, 5), verdict.root as usize);
+    assert_eq!(read_back(&archive), Some((table.to_vec(), marks.to_vec())));
+}
+
+#[test]
+fn round_trips() {
+    let random = &mut Random::new(501);
+    for round in 0..2000 {
+        let most = if round % 20 == 0 { 1024 } else { 30 };
+        let table = any_table(random, most, 40).bytes();
+        let tree = read(&table).expect("an accepted table");
+        round_trip(&table, &feasible_plan(random, &tree));
+    }
+}
+
+/// The largest archive, and the one with the most pages.
+#[test]
+fn round_trips_of_the_largest() {
+    let random = &mut Random::new(502);
+    for form in FORMS {
+        let table = random_table(random, form, 1024, 1024).bytes();
+        let tree = read(&table).expect("an accepted table");
+        round_trip(&table, &feasible_plan(random, &tree));
+        round_trip(&table, &[1; 1024]);
+    }
+}
+
+/// Most of what small trees and plans can write: up to three nodes, node numbers as labels,
+/// weights of 1 and 2, limits up to 5.
+fn all_archives() -> BTreeSet<Vec<u8>> {
+    let mut all = BTreeSet::new();
+    for count in 1..=3 {
+        for parents in all_parents(count) {
+            for weights in all_weights(count, &[1, 2]) {
+                for limit in *weights.iter().max().unwrap()..=5 {
+                    let table = Table::new(limit, &parents, &weights).bytes();
+                    let tree = read(&table).expect("an accepted table");
+                    for_each_plan(&tree, |marks| {
+                        if score_of_plan(&tree, marks).is_some() {
+                            // No two trees and plans write the same.
+                            assert!(all.insert(written(&table, marks)));
+                        }
+                    });
+                }
+            }
+        }
+    }
+    all
+}
+
+/// True if the words that `all_archives` leaves out are not in this archive.
+fn is_small(archive: &[u8]) -> bool {
+    let (count, limit, pages) = (word(archive, 0), word(archive, 1), word(archive, 2));
+    count <= 3
+        && limit <= 5
+        && archive.len() == archive_length(pages, count)
+        && (0..count).all(|index| {
+            let record = 3 + 4 * pages + 4 * index;
+            word(archive, record) <= 2 && word(archive, record + 1) == index + 1
+        })
+}
+
+/// One or two words of each small archive are set anew: the reader accepts the result exactly if it
+/// is the archive of another small tree and plan.
+#[test]
+fn changed_small_archives() {
+    let all = all_archives();
+    let mut accepted = 0;
+    let mut try_one = |archive: &[u8]| {
+        if is_small(archive) {
+            let is_written = all.contains(archive);
+            assert_eq!(read_back(archive).is_some(), is_written, "{archive:?}");
+            accepted += usize::from(is_written);
+        }
+    };
+    let random = &mut Random::new(503);
+    for archive in &all {
+        let words = archive.len() / 2;
+        for place in 0..words {
+            for value in 0..=6 {
+                let mut changed = archive.clone();
+                changed[2 * place + 1] = value;
+                try_one(&changed);
+                let second = random.between(0, words - 1);
+                changed[2 * second + 1] = random.between(0, 6) as u8;
+                try_one(&changed);
+            }
+        }
+    }
+    // Each archive comes once for each of its words, unchanged; the others are the point.
+    let unchanged: usize = all.iter().map(|archive| archive.len() / 2).sum();
+    assert!(accepted > unchanged + 1000, "{accepted}");
+}
+
+/// Every single byte of case E's archive, every value: what is accepted is written again the same,
+/// and it differs in a label, in the limit, or in that node 3 is the child of node 2, which leaves
+/// every page as it is.
+#[test]
+fn single_byte_changes() {
+    let archive = archive_of_e();
+    for place in 0..archive.len() {
+        for value in 0..=255 {
+            let mut changed = archive.clone();
+            changed[place] = value;
+            let is_label = place >= 30 && (place - 30) % 8 / 2 == 1;
+            // Limits 5 to 255, and 261, 517 and 773.
+            let is_limit = place == 3 && value >= 5 || place == 2 && value <= 3;
+            let is_child_of_2 = place == 51 && value == 2;
+            let back = read_back(&changed);
+            let free = is_label || is_limit || is_child_of_2 || changed == archive;
+            assert_eq!(back.is_some(), free, "byte {place} set to {value}");
+            if let Some((table, marks)) = back {
+                assert_eq!(written(&table, &marks), changed);
+            }
+        }
+    }
+}
+
+#[test]
+fn archives_of_another_length() {
+    let archive = archive_of_e();
+    for length in 0..archive.len() {
+        assert_eq!(read_back(&archive[..length]), None);
+    }
+    assert_eq!(read_back(&[&archive[..], &[0]].concat()), None);
+    assert_eq!(read_back(&[&archive[..], &[0; 8]].concat()), None);
+}
+
+/// 13, then 12, then 8, with all buffers left as they were.
+#[test]
+fn order_of_the_reader() {
+    let good = archive_of_e();
+    let bad = [&good[..], &[0]].concat();
+    let cases = [
+        (&bad, 0, 0, Answer::refused(13, 0)),
+        (&bad, 52, 6, Answer::refused(13, 0)),
+        (&good, 51, 5, Answer::refused(12, 52)),
+        (&good, 53, 6, Answer::refused(12, 52)),
+        (&good, 0, 7, Answer::refused(12, 52)),
+        (&good, 52, 5, Answer::refused(8, 6)),
+        (&good, 52, 7, Answer::refused(8, 6)),
+        (&good, 52, 0, Answer::refused(8, 6)),
+    ];
+    for (archive, table_length, marks_length, refusal) in cases {
+        let mut table = vec![7; table_length];
+        let mut marks = vec![7; marks_length];
+        assert_eq!(read_archive(archive, &mut table, &mut marks), refusal);
+        assert!(table.iter().chain(&marks).all(|&byte| byte == 7));
+    }
+}
+
+/// The writer's own refusals come before 12.
+#[test]
+fn order_of_the_writer() {
+    let table = case_e().bytes();
+    let heavy = [1, 0, 0, 0, 0, 0];
+    let bad = [1, 2, 0, 0, 0, 3];
+    for (marks, refusal) in [
+        (&MARKS_OF_E[..5], Answer::refused(8, 6)),
+        (&bad[..], Answer::refused(10, 2)),
+        (&heavy[..], Answer::refused(11, 1)),
+        (&MARKS_OF_E[..], Answer::refused(12, 78)),
+    ] {
+        let mut archive = vec![7; 77];
+        assert_eq!(write_archive(&table, marks, &mut archive), refusal);
+        assert_eq!(archive, vec![7; 77]);
+    }
+}

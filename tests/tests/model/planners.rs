@@ -1,0 +1,130 @@
+//! The planners against exhaustive search.
+
+use super::plan;
+use balduqen_tests::cases::{Kind, KINDS};
+use balduqen_tests::exhaustive::*;
+use balduqen_tests::gen::*;
+use balduqen_tests::model::{read, Tree};
+
+/// A planner's score, with its answer checked against the pages weighed anew.
+fn score(kind: Kind, table: &[u8]) -> Score {
+    let tree = read(table).expect("an accepted table");
+    let (answer, marks) = plan(kind, table);
+    let score = score_of_plan(&tree, &marks).expect("a feasible plan");
+    assert_eq!((answer.number, answer.place), (0, 0));
+    assert_eq!((answer.pages as usize, answer.root), score, "{kind:?} {tree:?}");
+    score
+}
+
+fn best_is_best(table: &[u8]) {
+    let tree = read(table).expect("an accepted table");
+    assert_eq!(score(Kind::Best, table), best_of_plans(&tree), "{tree:?}");
+}
+
+#[test]
+fn best_of_all_small_trees() {
+    for_each_table(1..=6, &[1, 2], &[2, 3, 4, 5, 6], best_is_best);
+    for_each_table(1..=5, &[1, 2, 3, 4], &[4, 5, 6, 7], best_is_best);
+}
+
+#[test]
+fn best_of_random_small_trees() {
+    let random = &mut Random::new(401);
+    for _ in 0..40000 {
+        let most = random.pick(&[4, 6, 10, 20]);
+        best_is_best(&any_table(random, 8, most).bytes());
+    }
+}
+
+/// Without second plans the pages are sometimes more, so these trees tell the two planners apart.
+#[test]
+fn best_against_level() {
+    let random = &mut Random::new(402);
+    let mut better = 0;
+    for _ in 0..5000 {
+        let table = any_table(random, 60, 10).bytes();
+        let (best, level) = (score(Kind::Best, &table), score(Kind::Level, &table));
+        assert!(best <= level);
+        better += usize::from(best.0 < level.0);
+    }
+    assert!(better > 100, "{better}");
+}
+
+/// Of the plans without a mark 2, single makes the best.
+#[test]
+fn single_among_plans_of_single_nodes() {
+    let random = &mut Random::new(403);
+    for _ in 0..10000 {
+        let table = any_table(random, 8, 12).bytes();
+        let tree = read(&table).expect("an accepted table");
+        let best = best_of_plans_where(&tree, |marks| !marks.contains(&2));
+        assert_eq!(score(Kind::Single, &table), best, "{tree:?}");
+    }
+}
+
+/// Of the plans where a child stays only if all its earlier siblings do, pair makes the best.
+#[test]
+fn pair_among_plans_of_the_two_way_tree() {
+    let random = &mut Random::new(404);
+    for _ in 0..10000 {
+        let table = any_table(random, 8, 12).bytes();
+        let tree = read(&table).expect("an accepted table");
+        let is_two_way = |marks: &[u8]| {
+            tree.nodes().all(|node| match tree.before[node] {
+                Some(sibling) => marks[node - 1] != 0 || marks[sibling - 1] == 0,
+                None => true,
+            })
+        };
+        let best = best_of_plans_where(&tree, is_two_way);
+        assert_eq!(score(Kind::Pair, &table), best, "{tree:?}");
+    }
+}
+
+/// At each node, level chooses the fewest runs and then the lightest rest for the rests that its
+/// children have under their own plans.
+#[test]
+fn level_at_each_node() {
+    let random = &mut Random::new(405);
+    for _ in 0..10000 {
+        let table = any_table(random, 9, 12).bytes();
+        let tree = read(&table).expect("an accepted table");
+        let marks = plan(Kind::Level, &table).1;
+        let mut rests = tree.weights.clone();
+        for node in tree.nodes().rev() {
+            let children = &tree.children[node];
+            let small = one_level(&tree, node, &rests);
+            let mut own = vec![1];
+            own.extend(children.iter().map(|&child| marks[child - 1]));
+            let chosen = score_of_plan(&small, &own).expect("a feasible plan");
+            assert_eq!(chosen, best_of_plans(&small), "{tree:?} {marks:?} {node}");
+            rests[node] = chosen.1;
+        }
+    }
+}
+
+/// A node and its children as a tree of its own, the children with their rests as weights.
+fn one_level(tree: &Tree, node: usize, rests: &[u32]) -> Tree {
+    let weights: Vec<u16> = std::iter::once(tree.weights[node])
+        .chain(tree.children[node].iter().map(|&child| rests[child]))
+        .map(|weight| weight as u16)
+        .collect();
+    let mut parents = vec![1; weights.len()];
+    parents[0] = 0;
+    let table = Table::new(tree.limit as u16, &parents, &weights);
+    read(&table.bytes()).expect("an accepted table")
+}
+
+/// All planners' plans are feasible, and none is better than best.
+#[test]
+fn plans_of_large_trees() {
+    let random = &mut Random::new(406);
+    for round in 0..60 {
+        let limit = random.pick(&[1, 5, 30, 200, 1024]);
+        let count = random.pick(&[50, 200, 1024]);
+        let table = random_table(random, FORMS[round % 5], count, limit).bytes();
+        let best = score(Kind::Best, &table);
+        for kind in KINDS {
+            assert!(best <= score(kind, &table), "{kind:?}");
+        }
+    }
+}

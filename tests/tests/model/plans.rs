@@ -1,0 +1,85 @@
+//! The judge, and the sequences of sibling runs.
+
+use balduqen_tests::check::Seen;
+use balduqen_tests::exhaustive::*;
+use balduqen_tests::gen::*;
+use balduqen_tests::model::{judge, read, Answer, Tree};
+use std::collections::{BTreeMap, BTreeSet};
+
+/// The judge's answer as the exhaustive search tells it. `prefixes` are all the first parts of
+/// allowed plans: marks are allowed up to where they leave these.
+fn told(tree: &Tree, prefixes: &BTreeSet<Vec<u8>>, marks: &[u8]) -> Answer {
+    let bad = (1..=marks.len()).find(|&length| !prefixes.contains(&marks[..length]));
+    if let Some(node) = bad {
+        return Answer::refused(10, node);
+    }
+    let weights = page_weights(tree, marks);
+    match weights.iter().position(|&weight| weight > tree.limit) {
+        Some(index) => Answer::refused(11, index + 1),
+        None => Answer::accepted(weights.len(), weights[0]),
+    }
+}
+
+#[test]
+fn judge_of_all_marks() {
+    let mut seen = Seen::default();
+    for_each_table(1..=5, &[1, 3], &[3, 5], |table| {
+        let tree = read(table).expect("an accepted table");
+        let mut prefixes = BTreeSet::new();
+        for_each_plan(&tree, |marks| {
+            prefixes.extend((1..=marks.len()).map(|length| marks[..length].to_vec()));
+        });
+        for_each_marks(tree.node_count(), |marks| {
+            let answer = judge(table, marks);
+            assert_eq!(answer, told(&tree, &prefixes, marks), "{tree:?} {marks:?}");
+            seen.add(answer);
+        });
+    });
+    seen.expect(&[0, 10, 11], 1000);
+}
+
+#[test]
+fn judge_of_marks_of_another_length() {
+    let random = &mut Random::new(301);
+    for _ in 0..2000 {
+        let table = any_table(random, 30, 30);
+        let count = table.records.len();
+        let length = random.pick(&[0, count - 1, count + 1, 2 * count]);
+        let marks = random.bytes(length);
+        assert_eq!(judge(&table.bytes(), &marks), Answer::refused(8, count));
+    }
+}
+
+/// Each set of runs that holds the tree is the runs of one plan, and each plan's runs are one.
+#[test]
+fn run_sets_are_the_plans() {
+    for count in 1..=6 {
+        for parents in all_parents(count) {
+            let weights: Vec<u16> = (1..=count as u16).collect();
+            let table = Table::new(12, &parents, &weights).bytes();
+            let tree = read(&table).expect("an accepted table");
+            let mut sets = BTreeMap::new();
+            for_each_run_set(&tree, |runs| {
+                let mut sorted = runs.to_vec();
+                sorted.sort();
+                assert_eq!(sets.insert(sorted, score_of_runs(&tree, runs)), None);
+            });
+            let mut plans = BTreeMap::new();
+            for_each_plan(&tree, |marks| {
+                let runs = runs_of_plan(&tree, marks);
+                assert_eq!(plans.insert(runs, score_of_plan(&tree, marks)), None);
+            });
+            assert_eq!(sets, plans);
+        }
+    }
+}
+
+#[test]
+fn best_of_run_sets_is_best_of_plans() {
+    let random = &mut Random::new(302);
+    for _ in 0..4000 {
+        let table = any_table(random, 7, 12);
+        let tree = read(&table.bytes()).expect("an accepted table");
+        assert_eq!(best_of_run_sets(&tree), best_of_plans(&tree), "{tree:?}");
+    }
+}
