@@ -47,7 +47,10 @@ pub fn case_c() -> Table {
 }
 
 pub fn case_d() -> Table {
-    Table { limit: 4, ..case_c() }
+    Table {
+        limit: 4,
+        ..case_c()
+    }
 }
 
 pub fn case_e() -> Table {
@@ -67,7 +70,14 @@ pub fn made() -> Vec<Made> {
     let mut list = vec![];
     let mut add = |name, table: Table, kinds: &[Kind], marks: &[u8], pages, root| {
         for &kind in kinds {
-            list.push(Made { name, table: table.clone(), kind, marks: marks.to_vec(), pages, root });
+            list.push(Made {
+                name,
+                table: table.clone(),
+                kind,
+                marks: marks.to_vec(),
+                pages,
+                root,
+            });
         }
     };
     use Kind::*;
@@ -81,7 +91,14 @@ pub fn made() -> Vec<Made> {
     add("F", case_f(), &[Best, Level, Single], &[1, 1, 0], 2, 4);
     // Node 2 and its sibling weigh 6, so the sibling is cut, and the rest fits node 1's page.
     add("F", case_f(), &[Pair], &[1, 0, 1], 2, 4);
-    add("G", case_g(), &[Best, Level, Single], &[1, 1, 0, 0, 0], 2, 5);
+    add(
+        "G",
+        case_g(),
+        &[Best, Level, Single],
+        &[1, 1, 0, 0, 0],
+        2,
+        5,
+    );
     add("G", case_g(), &[Pair], &[1, 1, 0, 1, 2], 3, 1);
     list
 }
@@ -98,7 +115,15 @@ pub fn refused_tables() -> Vec<(Vec<u8>, u32, usize)> {
         (vec![0, 1, 0, 5, 0], 4, 12),
         (light.bytes(), 5, 3),
         (bad_link, 6, 1),
-        (Table { limit: 4, ..case_e() }.bytes(), 7, 1),
+        (
+            Table {
+                limit: 4,
+                ..case_e()
+            }
+            .bytes(),
+            7,
+            1,
+        ),
         (case_b().bytes(), 7, 1),
     ]
 }

@@ -14,14 +14,23 @@ impl Seen {
 
     /// Each of these numbers came at least so many times, and no other came.
     pub fn expect(&self, numbers: &[u32], least: usize) {
-        assert_eq!(self.0.keys().copied().collect::<Vec<u32>>(), numbers, "{:?}", self.0);
+        assert_eq!(
+            self.0.keys().copied().collect::<Vec<u32>>(),
+            numbers,
+            "{:?}",
+            self.0
+        );
         assert!(self.0.values().all(|&times| times >= least), "{:?}", self.0);
     }
 }
 
 /// The first bytes in base 16, for messages.
 pub fn show(bytes: &[u8]) -> String {
-    let shown: Vec<String> = bytes.iter().take(200).map(|byte| format!("{byte:02x}")).collect();
+    let shown: Vec<String> = bytes
+        .iter()
+        .take(200)
+        .map(|byte| format!("{byte:02x}"))
+        .collect();
     format!("{} bytes: {}", bytes.len(), shown.join(" "))
 }
 
@@ -39,7 +48,11 @@ impl<T: Copy + PartialEq> Lent<T> {
         let mut all = vec![margin; MARGIN];
         all.extend(content);
         all.extend([margin; MARGIN]);
-        Lent { all, length: content.len(), margin }
+        Lent {
+            all,
+            length: content.len(),
+            margin,
+        }
     }
 
     pub fn slice(&mut self) -> &mut [T] {

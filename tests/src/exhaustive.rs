@@ -52,7 +52,11 @@ pub fn score_of_plan(tree: &Tree, marks: &[u8]) -> Option<Score> {
 fn first_of_page(tree: &Tree, marks: &[u8], node: usize) -> usize {
     match marks[node - 1] {
         0 => first_of_page(tree, marks, tree.parents[node]),
-        2 => first_of_page(tree, marks, tree.before[node].expect("a sibling before a 2")),
+        2 => first_of_page(
+            tree,
+            marks,
+            tree.before[node].expect("a sibling before a 2"),
+        ),
         _ => node,
     }
 }
@@ -152,7 +156,9 @@ pub fn score_of_runs(tree: &Tree, runs: &[Run]) -> Option<Score> {
 
 pub fn best_of_run_sets(tree: &Tree) -> Score {
     let mut best = None;
-    for_each_run_set(tree, |runs| keep_smaller(&mut best, score_of_runs(tree, runs)));
+    for_each_run_set(tree, |runs| {
+        keep_smaller(&mut best, score_of_runs(tree, runs))
+    });
     best.expect("the runs of one node each hold the tree within the limit")
 }
 

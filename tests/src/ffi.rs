@@ -44,7 +44,16 @@ macro_rules! planner {
             let (table, table_length) = (table.as_ptr(), table.len());
             let (marks, marks_length) = (marks.as_mut_ptr(), marks.len());
             let (scratch, scratch_length) = (scratch.as_mut_ptr(), scratch.len());
-            unsafe { $entry(table, table_length, marks, marks_length, scratch, scratch_length) }
+            unsafe {
+                $entry(
+                    table,
+                    table_length,
+                    marks,
+                    marks_length,
+                    scratch,
+                    scratch_length,
+                )
+            }
         }
     };
 }
@@ -74,7 +83,14 @@ pub fn write_archive(table: &[u8], marks: &[u8], archive: &mut [u8]) -> Answer {
     let (marks, marks_length) = (marks.as_ptr(), marks.len());
     let (archive, archive_length) = (archive.as_mut_ptr(), archive.len());
     unsafe {
-        balduqen_write_archive(table, table_length, marks, marks_length, archive, archive_length)
+        balduqen_write_archive(
+            table,
+            table_length,
+            marks,
+            marks_length,
+            archive,
+            archive_length,
+        )
     }
 }
 
@@ -94,6 +110,13 @@ pub fn read_archive(archive: &[u8], table: &mut [u8], marks: &mut [u8]) -> Answe
     let (table, table_length) = (table.as_mut_ptr(), table.len());
     let (marks, marks_length) = (marks.as_mut_ptr(), marks.len());
     unsafe {
-        balduqen_read_archive(archive, archive_length, table, table_length, marks, marks_length)
+        balduqen_read_archive(
+            archive,
+            archive_length,
+            table,
+            table_length,
+            marks,
+            marks_length,
+        )
     }
 }

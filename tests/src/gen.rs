@@ -10,7 +10,7 @@ impl Random {
         Random(seed)
     }
 
-    pub fn next(&mut self) -> u64 {
+    pub fn number(&mut self) -> u64 {
         self.0 = self.0.wrapping_add(0x9e37_79b9_7f4a_7c15);
         let mut bits = self.0;
         bits = (bits ^ (bits >> 30)).wrapping_mul(0xbf58_476d_1ce4_e5b9);
@@ -20,15 +20,15 @@ impl Random {
 
     /// A number from `low` to `high`, both included.
     pub fn between(&mut self, low: usize, high: usize) -> usize {
-        low + (self.next() % (high - low + 1) as u64) as usize
+        low + (self.number() % (high - low + 1) as u64) as usize
     }
 
     pub fn byte(&mut self) -> u8 {
-        self.next() as u8
+        self.number() as u8
     }
 
     pub fn word(&mut self) -> u16 {
-        self.next() as u16
+        self.number() as u16
     }
 
     pub fn pick<T: Copy>(&mut self, choices: &[T]) -> T {
@@ -59,17 +59,17 @@ pub enum Form {
     /// Each node hangs below the node before it or one of that one's ancestors.
     Mixed,
     /// The children of a node are leaves and branches in turn. With heavy parents, as
-    /// `random_table` makes them, second plans often pay off in such a tree, and seldom in others.
+    /// `random_table` makes them, second plans are often taken, and seldom in other trees.
     Comb,
 }
 
 pub const FORMS: [Form; 5] = [Form::Flat, Form::Bushy, Form::Deep, Form::Mixed, Form::Comb];
 
 pub fn random_parents(random: &mut Random, form: Form, count: usize) -> Parents {
-    let mut parents = vec![0];
     if let Form::Bushy = form {
         return bushy_parents(random, count);
     }
+    let mut parents = vec![0];
     if let Form::Comb = form {
         add_comb(random, &mut parents, 1, count - 1);
         return parents;
@@ -143,7 +143,11 @@ pub fn all_weights(count: usize, choices: &[u16]) -> Vec<Vec<u16>> {
     for _ in 0..count {
         all = all
             .iter()
-            .flat_map(|list| choices.iter().map(move |&weight| [&list[..], &[weight]].concat()))
+            .flat_map(|list| {
+                choices
+                    .iter()
+                    .map(move |&weight| [&list[..], &[weight]].concat())
+            })
             .collect();
     }
     all
@@ -172,7 +176,12 @@ impl Table {
         assert_eq!(parents.len(), weights.len());
         let mut records: Vec<Record> = (1..)
             .zip(weights)
-            .map(|(label, &weight)| Record { weight, label, first_child: 0, next_sibling: 0 })
+            .map(|(label, &weight)| Record {
+                weight,
+                label,
+                first_child: 0,
+                next_sibling: 0,
+            })
             .collect();
         let mut last_child = vec![0usize; parents.len() + 1];
         for (node, &parent) in (1..).zip(parents).skip(1) {
@@ -182,13 +191,22 @@ impl Table {
             }
             last_child[parent] = node;
         }
-        Table { count: records.len() as u16, limit, records }
+        Table {
+            count: records.len() as u16,
+            limit,
+            records,
+        }
     }
 
     pub fn bytes(&self) -> Vec<u8> {
         let mut words = vec![self.count, self.limit];
         for record in &self.records {
-            words.extend([record.weight, record.label, record.first_child, record.next_sibling]);
+            words.extend([
+                record.weight,
+                record.label,
+                record.first_child,
+                record.next_sibling,
+            ]);
         }
         words.iter().flat_map(|word| word.to_be_bytes()).collect()
     }
@@ -241,7 +259,9 @@ pub fn for_each_linking(count: usize, mut visit: impl FnMut(&Table)) {
 /// Calls `visit` with every list of so many bytes from 0 to 3.
 pub fn for_each_marks(count: usize, mut visit: impl FnMut(&[u8])) {
     for code in 0..4usize.pow(count as u32) {
-        let marks: Vec<u8> = (0..count).map(|place| (code >> (2 * place) & 3) as u8).collect();
+        let marks: Vec<u8> = (0..count)
+            .map(|place| (code >> (2 * place) & 3) as u8)
+            .collect();
         visit(&marks);
     }
 }
@@ -260,7 +280,11 @@ fn any_weights(random: &mut Random, count: usize, limit: usize) -> Vec<u16> {
     // The most that a weight usually is, and how often one up to the limit comes in between.
     let (usual, rare) = random.pick(&[(1, 9), (3, 9), (3, 1000), (limit / 4 + 1, 9), (limit, 9)]);
     let mut weight = || {
-        let most = if random.once_in(rare) { limit } else { usual.min(limit) };
+        let most = if random.once_in(rare) {
+            limit
+        } else {
+            usual.min(limit)
+        };
         random.between(1, most) as u16
     };
     (0..count).map(|_| weight()).collect()
@@ -270,11 +294,11 @@ fn any_weights(random: &mut Random, count: usize, limit: usize) -> Vec<u16> {
 fn comb_weights(random: &mut Random, parents: &[usize], limit: usize) -> Vec<u16> {
     let mut children = vec![0; parents.len() + 1];
     parents.iter().for_each(|&parent| children[parent] += 1);
-    let mut weight = |node: usize| match children[node] >= 3 {
+    let weight = |node: usize| match children[node] >= 3 {
         true => random.between((limit - 1).max(1), limit) as u16,
         false => random.between(1, (limit / 2).max(1)) as u16,
     };
-    (1..=parents.len()).map(|node| weight(node)).collect()
+    (1..=parents.len()).map(weight).collect()
 }
 
 /// A table of an accepted tree of any form, with up to so many nodes and up to that limit.

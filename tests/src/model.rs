@@ -28,15 +28,28 @@ pub struct Answer {
 
 impl Answer {
     /// Acceptance where there is no plan.
-    pub const ACCEPTED: Answer = Answer { number: 0, place: 0, pages: 0, root: 0 };
+    pub const ACCEPTED: Answer = Answer {
+        number: 0,
+        place: 0,
+        pages: 0,
+        root: 0,
+    };
 
     /// Acceptance of a plan with this page count and root weight.
     pub fn accepted(pages: usize, root: u32) -> Answer {
-        Answer { pages: pages as u32, root, ..Answer::ACCEPTED }
+        Answer {
+            pages: pages as u32,
+            root,
+            ..Answer::ACCEPTED
+        }
     }
 
     pub fn refused(number: u32, place: usize) -> Answer {
-        Answer { number, place: place as u32, ..Answer::ACCEPTED }
+        Answer {
+            number,
+            place: place as u32,
+            ..Answer::ACCEPTED
+        }
     }
 
     pub fn is_accepted(&self) -> bool {

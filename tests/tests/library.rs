@@ -27,6 +27,10 @@ use std::hint::black_box;
 fn with_copy<T>(input: &[u8], call: impl FnOnce(&[u8]) -> T) -> T {
     let copy = input.to_vec();
     let result = call(black_box(&copy));
-    assert!(*black_box(&copy) == input, "an input was written: {}", show(input));
+    assert!(
+        *black_box(&copy) == input,
+        "an input was written: {}",
+        show(input)
+    );
     result
 }

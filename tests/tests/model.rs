@@ -20,6 +20,9 @@ fn plan(kind: Kind, table: &[u8]) -> (Answer, Vec<u8>) {
     let mut marks = vec![9; count];
     let mut scratch = vec![9; scratch_length(count, word(table, 1)) + 1];
     let answer = kind.model()(table, &mut marks, &mut scratch);
-    assert!(scratch.iter().all(|&word| word == 0), "scratch is left behind");
+    assert!(
+        scratch.iter().all(|&word| word == 0),
+        "scratch is left behind"
+    );
     (answer, marks)
 }

@@ -1,5 +1,6 @@
 // Doors for C and Rust: each entry of the library under a plain name, with its answer as four numbers.
-use model::{Answer, Verdict};
+use model::Answer;
+use model::Verdict;
 ghost use mathlib.Core.Path.{_≡_};
 ghost use Rattle.model.specs.Refusals.{readTree};
 ghost use Rattle.embed.specs.Figures.{figuresOf};

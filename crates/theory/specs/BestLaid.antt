@@ -1,21 +1,22 @@
 -- The marks that best and level lay from the root down weigh what their entries say.
--- Defines FeasibleShape, pagesBelow, pagesOf. Proves laid-feasible: these marks are allowed, every page is within K, and the page count and
+-- Defines Figured, pagesBelow, pagesOf. Proves laid-feasible: these marks are allowed, every page is within K, and the page count and
 -- the root page are the entries'. Assumes nothing.
 use Prim.Native.Nat.{ℕ, suc, _+_, _≤_}
 use mathlib.Core.Path.{_≡_, refl, sym, ap, _∙_}
 use mathlib.Core.Bool.{Bool, true, false}
 use mathlib.Core.List.{List, [], _∷_, _++_, reverse, reverseAux, reverse-reverse}
 use native.Mathlib.Omega.{arith}
-use lib.ListN.{length, getD}
+use lib.ListN.{length}
 use Rattle.model.specs.Basics.{pick}
 use Rattle.model.specs.Table.{Chain, end, node}
 use Rattle.model.specs.Plan.{stays, begins, continues}
 use Rattle.model.specs.Steps.{Child, Choice, entryAt, childOf, childrenFrom, childrenOf, choicesOf, layMarks, rootChoice}
-use Rattle.theory.specs.Shape.{size, allowed, weighed, AllWithin, EachWithin}
+use Rattle.theory.specs.Shape.{weighed, EachWithin}
 use Rattle.theory.specs.Greedy.{Offers, best, second}
 use Rattle.theory.specs.Level.{Fair, RunSoFar, noRun, aRun, Level, empty, stay, begin, go, run-within}
 use Rattle.theory.specs.Entries.{Reaches}
 use Rattle.theory.specs.Nodes.{bestEntry, secondEntry, node-rest, node-best, SecondPlan, node-second, children-fair}
+use Rattle.theory.specs.Laid.{FeasibleShape}
 use Rattle.theory.specs.NodeMarks.{Weighs, node-page, weighs-end, weighs-stays, weighs-begins, weighs-continues}
 
 -- the pages that begin in a chain and below it where each node follows its best plan: the counts of their best entries
@@ -232,15 +233,10 @@ lay-chain gains {K} (node w z kids next) before e l =
 
 -- ---- The whole tree
 
--- A plan of a tree that is feasible within K: one allowed mark a node, the root begins a page, every page is within K. With its page
--- count and the weight of the root's page.
-pub record FeasibleShape (K : ℕ) (c : Chain) (ms : List ℕ) (pages root : ℕ) : Type 0 where
-  pub sized : length ms ≡ size c
-  pub first : getD ms 0 0 ≡ 1
-  pub fine : allowed false c ms ≡ true
-  pub within : AllWithin K (weighed c ms .pages)
+-- a feasible plan of a tree, with its page count and the weight of the root's page
+pub record Figured (K : ℕ) (c : Chain) (ms : List ℕ) (pages root : ℕ) : Type 0 where
+  pub feasible : FeasibleShape K c ms root
   pub count : length (weighed c ms .pages) ≡ pages
-  pub root-is : getD (weighed c ms .pages) 0 0 ≡ root
 
 -- the page count of best or level by its entries: a page for the root, and the count of each node's best entry
 abbrev pub pagesOf : Bool → ℕ → Chain → ℕ
@@ -248,7 +244,7 @@ pagesOf gains K c = suc (pagesBelow gains K c)
 
 pub laid-feasible : (gains : Bool) (K w l : ℕ) (kids : Chain)
     → EachWithin K (node w l kids end)
-    → FeasibleShape K (node w l kids end) (layMarks gains K (node w l kids end) rootChoice) (pagesOf gains K (node w l kids end))
+    → Figured K (node w l kids end) (layMarks gains K (node w l kids end) rootChoice) (pagesOf gains K (node w l kids end))
     (entryAt K (childrenOf gains K kids) w .rest)
 unfolding layMarks childrenOf EachWithin pagesBelow
 laid-feasible gains K w l kids e =
@@ -264,10 +260,13 @@ laid-feasible gains K w l kids e =
     weighs-begins w l kids end ms [] false (p .marks) (weighs-end K true) (omega (arith, b .within, p .total))
     in
     record {
-      sized = q .sized;
-      first = refl;
-      fine = q .fine;
-      within = q .within;
+      feasible =
+          record {
+            long = q .sized;
+            first = refl;
+            allows = q .fine;
+            within = q .within;
+            root-page = omega (arith, node-page w l kids end ms [] (p .marks .sized), p .total, p .marks .stays-is, weighs-end K true .carry-is);
+          };
       count = omega (arith, q .pages-are, p .more);
-      root-is = omega (arith, node-page w l kids end ms [] (p .marks .sized), p .total, p .marks .stays-is, weighs-end K true .carry-is);
     }

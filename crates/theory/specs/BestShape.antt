@@ -11,20 +11,20 @@ use Rattle.model.specs.Table.{Chain, end, node}
 use Rattle.model.specs.Steps.{entryAt, childrenOf, bestMarks, levelMarks}
 use Rattle.theory.specs.Shape.{allowed, allowedMark, joined, weighed, AllWithin, EachWithin, Positive}
 use Rattle.theory.specs.Nodes.{bestEntry, NoBetter, node-least, children-fair}
-use Rattle.theory.specs.BestLaid.{pagesBelow, pagesOf, FeasibleShape, laid-feasible}
+use Rattle.theory.specs.BestLaid.{pagesBelow, pagesOf, Figured, laid-feasible}
 use Rattle.theory.specs.NodeMarks.{all-within-left}
 use Rattle.theory.specs.RealPlans.{Matching, match-children}
 use Rattle.theory.specs.Reach.{Reaching, positive-reaching}
 
 module _ (K w l : ℕ) (kids : Chain) (each : EachWithin K (node w l kids end)) where
   -- best's plan is feasible; its page count and the weight of its root page are the entries'
-  pub best-feasible : FeasibleShape K (node w l kids end) (bestMarks K (node w l kids end)) (pagesOf true K (node w l kids end))
+  pub best-feasible : Figured K (node w l kids end) (bestMarks K (node w l kids end)) (pagesOf true K (node w l kids end))
       (entryAt K (childrenOf true K kids) w .rest)
   unfolding bestMarks
   best-feasible = laid-feasible true K w l kids each
 
   -- and so is level's
-  pub level-feasible : FeasibleShape K (node w l kids end) (levelMarks K (node w l kids end)) (pagesOf false K (node w l kids end))
+  pub level-feasible : Figured K (node w l kids end) (levelMarks K (node w l kids end)) (pagesOf false K (node w l kids end))
       (entryAt K (childrenOf false K kids) w .rest)
   unfolding levelMarks
   level-feasible = laid-feasible false K w l kids each
@@ -65,7 +65,7 @@ module _ (K w l : ℕ) (kids : Chain) where
       → NoBetterThanBest K (node w l kids end) (1 ∷ ms)
   unfolding EachWithin Reaching pagesBelow childrenOf
   root-least ms e g r =
-      let b : FeasibleShape K (node w l kids end) (bestMarks K (node w l kids end)) _ _ = best-feasible K w l kids e in
+      let b : Figured K (node w l kids end) (bestMarks K (node w l kids end)) _ _ = best-feasible K w l kids e in
       let m : Matching K (childrenOf true K kids) (pagesBelow true K kids) (length (weighed kids ms .pages)) (weighed kids ms .stay) =
       match-children kids ms (e .1) (g .1) (r .fine) (r .within) (omega (arith, r .root-within))
       in
@@ -74,7 +74,7 @@ module _ (K w l : ℕ) (kids : Chain) where
       in
       record {
         count = omega (arith, b .count, c .count, m .few, r .count);
-        root = λ q. omega (arith, b .root-is, r .root-is, m .light, c .rest (omega (arith, b .count, m .few, r .count)));
+        root = λ q. omega (arith, b .feasible .root-page, r .root-is, m .light, c .rest (omega (arith, b .count, m .few, r .count)));
       }
 
   -- no feasible plan is better than best's

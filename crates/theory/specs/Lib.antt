@@ -13,11 +13,21 @@ pub mod Pages
 pub mod Marks
 pub mod Bridge
 pub mod Feasible
+pub mod NodeMarks
+pub mod Laid
+-- Sequences of sibling runs
+pub mod Chains
+pub mod Listed
+pub mod RunLists
+pub mod SameRuns
+pub mod MarkedRuns
+pub mod RunsOfPlan
+pub mod PlanOfRuns
+pub mod Held
 -- Single and pair
 pub mod Reduce
 pub mod ReduceCount
 pub mod ReduceLevel
-pub mod Laid
 pub mod SingleShape
 pub mod PairShape
 -- Level and best
@@ -26,8 +36,9 @@ pub mod Level
 pub mod Candidates
 pub mod Entries
 pub mod Nodes
-pub mod NodeMarks
 pub mod BestLaid
 pub mod Reach
 pub mod RealPlans
 pub mod BestShape
+-- Demand 3
+pub mod Lowest

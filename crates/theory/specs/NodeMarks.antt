@@ -71,7 +71,7 @@ module _ (w l : ℕ) (kids next : Chain) (ms ns : List ℕ) where
   unfolding allowed
   node-fine after k m s p q = rw (m, allowed-front false kids ms ns (omega arith), p, drop-at ms ns (size kids) s) q
 
-  node-weighed : (k : ℕ)
+  pub node-weighed : (k : ℕ)
       → length ms ≡ size kids
       → weighed (node w l kids next) (k ∷ (ms ++ ns)) ≡ joined k w (weighed kids ms) (weighed next ns)
   unfolding weighed

@@ -10,7 +10,11 @@ pub fn archive_length(pages: usize, nodes: usize) -> usize {
 fn to_bytes(words: &[usize]) -> Vec<u8> {
     words
         .iter()
-        .flat_map(|&word| u16::try_from(word).expect("a word of 16 bits").to_be_bytes())
+        .flat_map(|&word| {
+            u16::try_from(word)
+                .expect("a word of 16 bits")
+                .to_be_bytes()
+        })
         .collect()
 }
 
@@ -19,7 +23,11 @@ pub fn archive_bytes(tree: &Tree, marks: &[u8]) -> Vec<u8> {
     let pages = pages(tree, marks);
     let mut words = vec![tree.node_count(), tree.limit as usize, pages.len()];
     for (index, page) in pages.iter().enumerate() {
-        let next = if index + 1 == pages.len() { 0 } else { index + 2 };
+        let next = if index + 1 == pages.len() {
+            0
+        } else {
+            index + 2
+        };
         words.extend([page.first, page.last, page.weight as usize, next]);
     }
     let mut next = vec![0; tree.node_count() + 1];
@@ -80,8 +88,7 @@ fn rebuild(archive: &[u8]) -> Option<(Vec<u8>, Vec<u8>)> {
         return None;
     }
     let page_word = |page: usize, field| word(archive, 3 + 4 * (page - 1) + field);
-    let node_word =
-        |node: usize, field| word(archive, 3 + 4 * page_count + 4 * (node - 1) + field);
+    let node_word = |node: usize, field| word(archive, 3 + 4 * page_count + 4 * (node - 1) + field);
 
     // Siblings are in rising order, since the walk meets all nodes in order.
     let mut children = vec![vec![]; count + 1];

@@ -68,22 +68,38 @@ fn entries_of_all(tree: &Tree, with_gains: bool) -> Vec<Option<Node>> {
             .iter()
             .map(|&child| nodes[child].as_ref().expect("children come first").seen)
             .collect();
-        nodes[number] = Some(entries_of_one(tree.weights[number], children, tree.limit, with_gains));
+        nodes[number] = Some(entries_of_one(
+            tree.weights[number],
+            children,
+            tree.limit,
+            with_gains,
+        ));
     }
     nodes
 }
 
 fn entries_of_one(weight: u32, children: Vec<Child>, limit: u32, with_gains: bool) -> Node {
-    // The same for every start.
-    let runs: Vec<Vec<Option<u32>>> =
-        (0..=children.len()).map(|j| runs_ending_at(&children[..j], limit)).collect();
+    // For j = 1, 2, .. They are the same for every start.
+    let runs: Vec<Vec<Option<u32>>> = (1..=children.len())
+        .map(|j| runs_ending_at(&children[..j], limit))
+        .collect();
     let seen = Child { rest: 0, gain: 0 };
-    let mut node = Node { weight, limit, entries: vec![], seen, children };
+    let mut node = Node {
+        weight,
+        limit,
+        entries: vec![],
+        seen,
+        children,
+    };
     // A child that stays leads to an entry at a higher start.
     for start in (weight..=limit).rev() {
-        let mut row = vec![Entry { count: 0, rest: start, choice: Choice::None }];
-        for j in 1..=node.children.len() {
-            row.push(choose(&node, start, &row, &runs[j]));
+        let mut row = vec![Entry {
+            count: 0,
+            rest: start,
+            choice: Choice::None,
+        }];
+        for runs in &runs {
+            row.push(choose(&node, start, &row, runs));
         }
         node.entries.push(row);
     }
@@ -104,7 +120,11 @@ fn entries_of_one(weight: u32, children: Vec<Child>, limit: u32, with_gains: boo
 fn choose(node: &Node, start: u32, row: &[Entry], runs: &[Option<u32>]) -> Entry {
     let j = row.len();
     // Every candidate has a smaller count than this.
-    let mut chosen = Entry { count: u32::MAX, rest: 0, choice: Choice::None };
+    let mut chosen = Entry {
+        count: u32::MAX,
+        rest: 0,
+        choice: Choice::None,
+    };
     let mut offer = |candidate: Entry| {
         if (candidate.count, candidate.rest) < (chosen.count, chosen.rest) {
             chosen = candidate;
@@ -112,7 +132,10 @@ fn choose(node: &Node, start: u32, row: &[Entry], runs: &[Option<u32>]) -> Entry
     };
     let stayed = start + node.children[j - 1].rest;
     if stayed <= node.limit {
-        offer(Entry { choice: Choice::Stay, ..node.entry(stayed, j - 1) });
+        offer(Entry {
+            choice: Choice::Stay,
+            ..node.entry(stayed, j - 1)
+        });
     }
     for (index, run) in runs.iter().enumerate() {
         if let Some(taken) = run {
@@ -150,7 +173,9 @@ fn seconds_taken(run: &[Child], limit: u32) -> Option<Vec<usize>> {
     if sum <= limit {
         return Some(vec![]);
     }
-    let mut gainers: Vec<usize> = (0..run.len()).filter(|&place| run[place].gain > 0).collect();
+    let mut gainers: Vec<usize> = (0..run.len())
+        .filter(|&place| run[place].gain > 0)
+        .collect();
     // This sort keeps the order of equals.
     gainers.sort_by_key(|&place| std::cmp::Reverse(run[place].gain));
     let mut taken = vec![];
@@ -170,7 +195,11 @@ fn lay(tree: &Tree, nodes: &[Option<Node>]) -> Vec<u8> {
     let mut second = vec![false; tree.node_count() + 1];
     for number in tree.nodes() {
         let node = nodes[number].as_ref().expect("every node has entries");
-        let mut start = if second[number] { node.second_start() } else { node.weight };
+        let mut start = if second[number] {
+            node.second_start()
+        } else {
+            node.weight
+        };
         let mut j = node.children.len();
         while j > 0 {
             match node.entry(start, j).choice {

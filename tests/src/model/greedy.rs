@@ -14,7 +14,10 @@ fn cut(tree: &Tree, children: impl Fn(usize) -> Vec<usize>) -> Vec<bool> {
             tree.weights[node] + uncut.iter().map(|&child| remainder[child]).sum::<u32>();
         while remainder[node] > tree.limit {
             let heaviest = uncut.iter().map(|&child| remainder[child]).max().unwrap();
-            let place = uncut.iter().position(|&child| remainder[child] == heaviest).unwrap();
+            let place = uncut
+                .iter()
+                .position(|&child| remainder[child] == heaviest)
+                .unwrap();
             let child = uncut.remove(place);
             is_cut[child] = true;
             remainder[node] -= remainder[child];
@@ -25,7 +28,9 @@ fn cut(tree: &Tree, children: impl Fn(usize) -> Vec<usize>) -> Vec<bool> {
 
 pub fn single(tree: &Tree) -> Vec<u8> {
     let is_cut = cut(tree, |node| tree.children[node].clone());
-    tree.nodes().map(|node| u8::from(node == 1 || is_cut[node])).collect()
+    tree.nodes()
+        .map(|node| u8::from(node == 1 || is_cut[node]))
+        .collect()
 }
 
 pub fn pair(tree: &Tree) -> Vec<u8> {

@@ -36,7 +36,12 @@ pub fn pages(tree: &Tree, marks: &[u8]) -> Vec<Page> {
         page_of[node] = match marks[node - 1] {
             0 => page_of[tree.parents[node]],
             1 => {
-                pages.push(Page { first: node, last: node, weight: 0, nodes: vec![] });
+                pages.push(Page {
+                    first: node,
+                    last: node,
+                    weight: 0,
+                    nodes: vec![],
+                });
                 pages.len() - 1
             }
             _ => {

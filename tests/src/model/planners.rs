@@ -23,12 +23,7 @@ pub fn plan_pair(table: &[u8], marks: &mut [u8], scratch: &mut [u32]) -> Answer 
     plan(table, marks, scratch, greedy::pair)
 }
 
-fn plan(
-    table: &[u8],
-    marks: &mut [u8],
-    scratch: &mut [u32],
-    make: fn(&Tree) -> Vec<u8>,
-) -> Answer {
+fn plan(table: &[u8], marks: &mut [u8], scratch: &mut [u32], make: fn(&Tree) -> Vec<u8>) -> Answer {
     let tree = match read(table) {
         Ok(tree) => tree,
         Err(refusal) => return refusal,
@@ -43,7 +38,10 @@ fn plan(
     }
     let made = make(&tree);
     let answer = verdict(&tree, &made);
-    assert!(answer.is_accepted(), "a planner made a plan that is refused: {answer:?}");
+    assert!(
+        answer.is_accepted(),
+        "a planner made a plan that is refused: {answer:?}"
+    );
     marks.copy_from_slice(&made);
     // Also the words beyond those asked for.
     scratch.fill(0);

@@ -13,7 +13,9 @@ fn judge(table: &[u8], marks: &[u8]) -> Answer {
 }
 
 fn check(table: &[u8], marks: &[u8], expected: Answer) -> Answer {
-    let answer = with_copy(table, |table| with_copy(marks, |marks| ffi::judge(table, marks)));
+    let answer = with_copy(table, |table| {
+        with_copy(marks, |marks| ffi::judge(table, marks))
+    });
     assert_eq!(answer, expected, "{}; {}", show(table), show(marks));
     answer
 }
@@ -22,10 +24,18 @@ fn check(table: &[u8], marks: &[u8], expected: Answer) -> Answer {
 fn cases() {
     for made in made() {
         let answer = judge(&made.table.bytes(), &made.marks);
-        assert_eq!(answer, Answer::accepted(made.pages, made.root), "{}", made.name);
+        assert_eq!(
+            answer,
+            Answer::accepted(made.pages, made.root),
+            "{}",
+            made.name
+        );
     }
     for (marks, number, place) in refused_marks() {
-        assert_eq!(judge(&case_e().bytes(), &marks), Answer::refused(number, place));
+        assert_eq!(
+            judge(&case_e().bytes(), &marks),
+            Answer::refused(number, place)
+        );
     }
     for (table, number, place) in refused_tables() {
         assert_eq!(judge(&table, &[]), Answer::refused(number, place));
@@ -141,7 +151,11 @@ fn heavy_pages() {
         let mut marks = feasible_plan(random, &tree);
         // Joins a page to the one before it or above it.
         let place = random.between(1, 39);
-        marks[place] = if tree.before[place + 1].is_some() { 2 } else { 0 };
+        marks[place] = if tree.before[place + 1].is_some() {
+            2
+        } else {
+            0
+        };
         let answer = judge(&table, &marks);
         if answer.number == 11 {
             places.insert(answer.place);

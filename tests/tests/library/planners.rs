@@ -9,12 +9,12 @@ use balduqen_tests::model::{scratch_length, word, Answer, Planner};
 
 /// A planner of the library and which one it is.
 #[derive(Clone, Copy)]
-struct Both {
+struct Tested {
     kind: Kind,
     library: Planner,
 }
 
-impl Both {
+impl Tested {
     /// The library's answer and marks; both, and the scratch left behind, checked against the
     /// model's. The buffers hold these on entry.
     fn plan(self, table: &[u8], marks: &[u8], scratch: &[u32]) -> (Answer, Vec<u8>) {
@@ -29,9 +29,20 @@ impl Both {
         });
         assert_eq!(answer, model_answer, "{:?}: {}", self.kind, show(table));
         let marks = lent_marks.content();
-        assert_eq!(marks, model_marks, "{:?} {answer:?}: {}", self.kind, show(table));
+        assert_eq!(
+            marks,
+            model_marks,
+            "{:?} {answer:?}: {}",
+            self.kind,
+            show(table)
+        );
         let same_scratch = lent_scratch.content() == model_scratch;
-        assert!(same_scratch, "scratch after {:?} {answer:?}: {}", self.kind, show(table));
+        assert!(
+            same_scratch,
+            "scratch after {:?} {answer:?}: {}",
+            self.kind,
+            show(table)
+        );
         (answer, marks.to_vec())
     }
 
@@ -39,33 +50,43 @@ impl Both {
     fn plan_with_good_buffers(self, random: &mut Random, table: &[u8]) -> (Answer, Vec<u8>) {
         let (count, limit) = (word(table, 0), word(table, 1));
         let marks = random.bytes(count);
-        let filling = random.next() as u32;
+        let filling = random.number() as u32;
         self.plan(table, &marks, &vec![filling; scratch_length(count, limit)])
     }
 }
 
-fn cases(both: Both) {
+fn cases(tested: Tested) {
     let random = &mut Random::new(801);
-    for made in made().into_iter().filter(|made| made.kind == both.kind) {
-        let answer = both.plan_with_good_buffers(random, &made.table.bytes());
-        assert_eq!(answer, (Answer::accepted(made.pages, made.root), made.marks), "{}", made.name);
+    for made in made().into_iter().filter(|made| made.kind == tested.kind) {
+        let answer = tested.plan_with_good_buffers(random, &made.table.bytes());
+        assert_eq!(
+            answer,
+            (Answer::accepted(made.pages, made.root), made.marks),
+            "{}",
+            made.name
+        );
     }
     for (table, number, place) in refused_tables() {
         let refusal = Answer::refused(number, place);
-        assert_eq!(both.plan(&table, &[7; 6], &[7; 192]).0, refusal);
-        assert_eq!(both.plan(&table, &[], &[]).0, refusal);
+        assert_eq!(tested.plan(&table, &[7; 6], &[7; 192]).0, refusal);
+        assert_eq!(tested.plan(&table, &[], &[]).0, refusal);
+        assert_eq!((tested.library)(&table, &mut [], &mut []), refusal);
     }
 }
 
 /// Case E with a fault for any selection of the numbers 1 to 9.
-fn order_of_the_checks(both: Both) {
+fn order_of_the_checks(tested: Tested) {
     for (table, number, place) in faulty_tables() {
         for marks in 5..=7 {
             for scratch in [0, 191, 192, 193] {
-                let answer = both.plan(&table, &vec![7; marks], &vec![7; scratch]).0;
+                let answer = tested.plan(&table, &vec![7; marks], &vec![7; scratch]).0;
                 let expected = match (number, marks, scratch) {
                     (0, 6, 0 | 191) => Answer::refused(9, 192),
-                    (0, 6, _) => Answer { number: 0, place: 0, ..answer },
+                    (0, 6, _) => Answer {
+                        number: 0,
+                        place: 0,
+                        ..answer
+                    },
                     (0, _, _) => Answer::refused(8, 6),
                     _ => Answer::refused(number, place),
                 };
@@ -75,45 +96,51 @@ fn order_of_the_checks(both: Both) {
     }
 }
 
-fn all_small_trees(both: Both) {
+fn all_small_trees(tested: Tested) {
     let random = &mut Random::new(802);
     let mut seen = Seen::default();
     for_each_table(1..=5, &[1, 2, 3], &[1, 2, 3, 4], |table| {
-        seen.add(both.plan_with_good_buffers(random, table).0);
+        seen.add(tested.plan_with_good_buffers(random, table).0);
     });
     for_each_table(6..=6, &[1, 2], &[2, 3, 4, 5], |table| {
-        seen.add(both.plan_with_good_buffers(random, table).0);
+        seen.add(tested.plan_with_good_buffers(random, table).0);
     });
     seen.expect(&[0, 7], 1000);
 }
 
-fn random_trees(both: Both) {
+fn random_trees(tested: Tested) {
     let random = &mut Random::new(803);
     let mut seen = Seen::default();
     for _ in 0..12000 {
         let limit = random.pick(&[6, 12, 30]);
         let table = any_table(random, 40, limit).bytes();
-        seen.add(both.plan_with_good_buffers(random, &table).0);
+        seen.add(tested.plan_with_good_buffers(random, &table).0);
     }
     seen.expect(&[0], 12000);
 }
 
 /// Larger trees of the form that most needs second plans.
-fn comb_trees(both: Both) {
+fn comb_trees(tested: Tested) {
     let random = &mut Random::new(804);
     for _ in 0..2000 {
         let (count, limit) = (random.between(30, 200), random.between(4, 30));
         let table = random_table(random, Form::Comb, count, limit).bytes();
-        assert!(both.plan_with_good_buffers(random, &table).0.is_accepted());
+        assert!(tested
+            .plan_with_good_buffers(random, &table)
+            .0
+            .is_accepted());
     }
 }
 
-fn largest_trees(both: Both) {
+fn largest_trees(tested: Tested) {
     let random = &mut Random::new(805);
     for form in FORMS {
         for limit in [1, 9, 150, 1024] {
             let table = random_table(random, form, 1024, limit).bytes();
-            assert!(both.plan_with_good_buffers(random, &table).0.is_accepted());
+            assert!(tested
+                .plan_with_good_buffers(random, &table)
+                .0
+                .is_accepted());
         }
     }
     // One page that is full, and one node too many for it.
@@ -121,14 +148,14 @@ fn largest_trees(both: Both) {
         for form in [Form::Deep, Form::Mixed] {
             let parents = random_parents(random, form, count);
             let table = Table::new(1023, &parents, &vec![1; count]).bytes();
-            let answer = both.plan_with_good_buffers(random, &table).0;
+            let answer = tested.plan_with_good_buffers(random, &table).0;
             assert_eq!(answer.pages == 1, count == 1023);
         }
     }
 }
 
 /// Good trees with buffers that are too short, too long or just right.
-fn lengths_of_buffers(both: Both) {
+fn lengths_of_buffers(tested: Tested) {
     let random = &mut Random::new(806);
     let mut seen = Seen::default();
     for _ in 0..10000 {
@@ -138,12 +165,12 @@ fn lengths_of_buffers(both: Both) {
         let marks = random.pick(&[count, count, count, count - 1, count + 1, 0, 3 * count]);
         let scratch = random.pick(&[asked, asked + 1, asked + 9, asked - 1, asked / 4, 0]);
         let marks = random.bytes(marks);
-        seen.add(both.plan(&table, &marks, &vec![0xdead_beef; scratch]).0);
+        seen.add(tested.plan(&table, &marks, &vec![0xdead_beef; scratch]).0);
     }
     seen.expect(&[0, 8, 9], 500);
 }
 
-fn damaged_tables(both: Both) {
+fn damaged_tables(tested: Tested) {
     let random = &mut Random::new(807);
     let mut seen = Seen::default();
     for _ in 0..20000 {
@@ -153,7 +180,7 @@ fn damaged_tables(both: Both) {
         // Often enough for the table before the damage.
         let scratch = random.pick(&[0, 720, 800]);
         let marks = random.bytes(count);
-        seen.add(both.plan(&damaged, &marks, &vec![0xdead_beef; scratch]).0);
+        seen.add(tested.plan(&damaged, &marks, &vec![0xdead_beef; scratch]).0);
     }
     seen.expect(&[0, 1, 2, 3, 4, 5, 6, 7, 8, 9], 50);
 }
@@ -163,12 +190,12 @@ macro_rules! planner_tests {
         mod $name {
             use super::*;
 
-            pub const BOTH: Both = Both { kind: $kind, library: $library };
+            pub const TESTED: Tested = Tested { kind: $kind, library: $library };
 
             $(
                 #[test]
                 fn $test() {
-                    super::$test(BOTH);
+                    super::$test(TESTED);
                 }
             )*
         }
@@ -201,9 +228,14 @@ mod search {
     /// Checks one tree and gives the library's score.
     fn check(random: &mut Random, table: &[u8]) -> (usize, u32) {
         let tree = read(table).expect("an accepted table");
-        let (answer, marks) = best::BOTH.plan_with_good_buffers(random, table);
+        let (answer, marks) = best::TESTED.plan_with_good_buffers(random, table);
         let score = best_of_plans(&tree);
-        assert_eq!((answer.pages as usize, answer.root), score, "{}", show(table));
+        assert_eq!(
+            (answer.pages as usize, answer.root),
+            score,
+            "{}",
+            show(table)
+        );
         assert_eq!(score_of_plan(&tree, &marks), Some(score), "{}", show(table));
         score
     }
@@ -232,7 +264,12 @@ mod search {
         for _ in 0..2000 {
             let table = any_table(random, 7, 10).bytes();
             let tree = read(&table).expect("an accepted table");
-            assert_eq!(check(random, &table), best_of_run_sets(&tree), "{}", show(&table));
+            assert_eq!(
+                check(random, &table),
+                best_of_run_sets(&tree),
+                "{}",
+                show(&table)
+            );
         }
     }
 }

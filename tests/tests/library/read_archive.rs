@@ -27,7 +27,11 @@ fn read_into(archive: &[u8], table: &[u8], marks: &[u8]) -> (Answer, Vec<u8>, Ve
 
 /// Reads into buffers of the lengths that the archive's first word asks for.
 fn read_archive(archive: &[u8]) -> Answer {
-    let count = if archive.len() < 2 { 0 } else { word(archive, 0) };
+    let count = if archive.len() < 2 {
+        0
+    } else {
+        word(archive, 0)
+    };
     read_into(archive, &vec![7; 4 + 8 * count], &vec![7; count]).0
 }
 
@@ -50,9 +54,15 @@ fn small_archives() -> Vec<Vec<u8>> {
 
 #[test]
 fn case_e_and_its_plan() {
-    let told = (Answer::accepted(3, 5), case_e().bytes(), MARKS_OF_E.to_vec());
+    let told = (
+        Answer::accepted(3, 5),
+        case_e().bytes(),
+        MARKS_OF_E.to_vec(),
+    );
     assert_eq!(read_into(&archive_of_e(), &[7; 52], &[7; 6]), told);
     assert_eq!(read_into(&[], &[], &[]).0, Answer::refused(13, 0));
+    let refusal = ffi::read_archive(&archive_of_e(), &mut [], &mut []);
+    assert_eq!(refusal, Answer::refused(12, 52));
     assert_eq!(read_into(&[], &[7; 52], &[7; 6]).0, Answer::refused(13, 0));
 }
 
@@ -71,7 +81,10 @@ fn order_of_the_checks() {
                 (52, _) => Answer::refused(8, 6),
                 _ => Answer::refused(12, 52),
             };
-            assert_eq!(read_into(&good, &vec![7; table], &vec![7; marks]).0, expected);
+            assert_eq!(
+                read_into(&good, &vec![7; table], &vec![7; marks]).0,
+                expected
+            );
         }
     }
 }
@@ -91,7 +104,10 @@ fn all_plans_of_small_trees() {
         tree.limit = 1;
         if tree.weights.contains(&2) {
             let ones = vec![1; tree.node_count()];
-            assert_eq!(read_archive(&archive_bytes(&tree, &ones)), Answer::refused(13, 0));
+            assert_eq!(
+                read_archive(&archive_bytes(&tree, &ones)),
+                Answer::refused(13, 0)
+            );
         }
     });
     seen.expect(&[0, 13], 1000);
@@ -190,7 +206,10 @@ fn exchanged_records() {
     for _ in 0..10000 {
         let (_, archive) = random_archive(random, 8, 12);
         let records = archive.len() / 8;
-        let (first, second) = (random.between(0, records - 1), random.between(0, records - 1));
+        let (first, second) = (
+            random.between(0, records - 1),
+            random.between(0, records - 1),
+        );
         let mut changed = archive.clone();
         for byte in 0..8 {
             changed.swap(6 + 8 * first + byte, 6 + 8 * second + byte);

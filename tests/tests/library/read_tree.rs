@@ -122,10 +122,16 @@ fn all_links_of_small_tables() {
 fn valid_tables() {
     let random = &mut Random::new(602);
     for _ in 0..5000 {
-        assert_eq!(read_tree(&any_table(random, 60, 1024).bytes()), Answer::ACCEPTED);
+        assert_eq!(
+            read_tree(&any_table(random, 60, 1024).bytes()),
+            Answer::ACCEPTED
+        );
     }
     for _ in 0..200 {
-        assert_eq!(read_tree(&any_table(random, 1024, 1024).bytes()), Answer::ACCEPTED);
+        assert_eq!(
+            read_tree(&any_table(random, 1024, 1024).bytes()),
+            Answer::ACCEPTED
+        );
     }
 }
 
@@ -218,7 +224,10 @@ fn longest_tables() {
         longer.count = 1025;
         longer.records.push(table.records[1023]);
         assert_eq!(read_tree(&longer.bytes()), Answer::refused(2, 1025));
-        let over = Table { limit: 1025, ..table };
+        let over = Table {
+            limit: 1025,
+            ..table
+        };
         assert_eq!(read_tree(&over.bytes()), Answer::refused(3, 1025));
     }
 }

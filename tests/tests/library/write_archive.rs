@@ -14,11 +14,19 @@ fn write_archive(table: &[u8], marks: &[u8], archive: &[u8]) -> (Answer, Vec<u8>
     let model_answer = model::write_archive(table, marks, &mut model_archive);
     let mut lent = Lent::new(archive, 0xa5);
     let answer = with_copy(table, |table| {
-        with_copy(marks, |marks| ffi::write_archive(table, marks, lent.slice()))
+        with_copy(marks, |marks| {
+            ffi::write_archive(table, marks, lent.slice())
+        })
     });
     assert_eq!(answer, model_answer, "{}; {}", show(table), show(marks));
     let archive = lent.content();
-    assert_eq!(archive, model_archive, "{answer:?}: {}; {}", show(table), show(marks));
+    assert_eq!(
+        archive,
+        model_archive,
+        "{answer:?}: {}; {}",
+        show(table),
+        show(marks)
+    );
     (answer, archive.to_vec())
 }
 
@@ -37,6 +45,8 @@ fn case_e_and_its_plan() {
         let refusal = Answer::refused(12, 78);
         assert_eq!(answer == refusal, length != 78);
     }
+    let refusal = ffi::write_archive(&table, &MARKS_OF_E, &mut []);
+    assert_eq!(refusal, Answer::refused(12, 78));
 }
 
 /// Case E with a fault for any selection of the numbers 1 to 8, 10, 11 and 12.
@@ -59,7 +69,10 @@ fn order_of_the_checks() {
         }
     }
     for (table, number, place) in refused_tables() {
-        assert_eq!(write_archive(&table, &[], &[]).0, Answer::refused(number, place));
+        assert_eq!(
+            write_archive(&table, &[], &[]).0,
+            Answer::refused(number, place)
+        );
     }
 }
 
@@ -105,7 +118,9 @@ fn largest_archives() {
         let tree = read(&table).expect("an accepted table");
         for marks in [vec![1; 1024], feasible_plan(random, &tree)] {
             let length = right_length(&table, &marks);
-            assert!(write_archive(&table, &marks, &vec![7; length]).0.is_accepted());
+            assert!(write_archive(&table, &marks, &vec![7; length])
+                .0
+                .is_accepted());
             let refusal = write_archive(&table, &marks, &vec![7; length - 1]).0;
             assert_eq!(refusal, Answer::refused(12, length));
         }
@@ -144,7 +159,14 @@ fn round_trips() {
         assert_eq!(verdict, judge(&table, &marks));
         let mut new_table = vec![7; table.len()];
         let mut new_marks = vec![7; marks.len()];
-        assert_eq!(ffi::read_archive(&archive, &mut new_table, &mut new_marks), verdict);
-        assert!(new_table == table && new_marks == marks, "{}", show(&archive));
+        assert_eq!(
+            ffi::read_archive(&archive, &mut new_table, &mut new_marks),
+            verdict
+        );
+        assert!(
+            new_table == table && new_marks == marks,
+            "{}",
+            show(&archive)
+        );
     }
 }

@@ -17,7 +17,11 @@ fn written(table: &[u8], marks: &[u8]) -> Vec<u8> {
 
 /// Table and marks of an archive, or none where the reader refuses it.
 fn read_back(archive: &[u8]) -> Option<(Vec<u8>, Vec<u8>)> {
-    let count = if archive.len() < 2 { 0 } else { word(archive, 0) };
+    let count = if archive.len() < 2 {
+        0
+    } else {
+        word(archive, 0)
+    };
     let mut table = vec![7; 4 + 8 * count];
     let mut marks = vec![7; count];
     let answer = read_archive(archive, &mut table, &mut marks);

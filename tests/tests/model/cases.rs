@@ -10,13 +10,21 @@ fn plans_of_the_cases() {
     for made in made() {
         let (answer, marks) = plan(made.kind, &made.table.bytes());
         assert_eq!(marks, made.marks, "{} {:?}", made.name, made.kind);
-        assert_eq!(answer, Answer::accepted(made.pages, made.root), "{} {:?}", made.name, made.kind);
+        assert_eq!(
+            answer,
+            Answer::accepted(made.pages, made.root),
+            "{} {:?}",
+            made.name,
+            made.kind
+        );
     }
 }
 
 #[test]
 fn tables_refused_by_every_entry() {
-    let faulty = faulty_tables().into_iter().filter(|&(_, number, _)| number != 0);
+    let faulty = faulty_tables()
+        .into_iter()
+        .filter(|&(_, number, _)| number != 0);
     for (table, number, place) in refused_tables().into_iter().chain(faulty) {
         let refusal = Answer::refused(number, place);
         assert_eq!(read_tree(&table), refusal);
@@ -105,8 +113,15 @@ fn largest_tree_and_limit() {
     for kind in KINDS {
         assert!(plan(kind, &table.bytes()).0.is_accepted());
     }
-    let longer = Table { count: 1025, records: table.records.repeat(2)[..1025].to_vec(), limit: 9 };
+    let longer = Table {
+        count: 1025,
+        records: table.records.repeat(2)[..1025].to_vec(),
+        limit: 9,
+    };
     assert_eq!(read_tree(&longer.bytes()), Answer::refused(2, 1025));
-    let over = Table { limit: 1025, ..table };
+    let over = Table {
+        limit: 1025,
+        ..table
+    };
     assert_eq!(read_tree(&over.bytes()), Answer::refused(3, 1025));
 }

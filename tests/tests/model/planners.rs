@@ -12,7 +12,11 @@ fn score(kind: Kind, table: &[u8]) -> Score {
     let (answer, marks) = plan(kind, table);
     let score = score_of_plan(&tree, &marks).expect("a feasible plan");
     assert_eq!((answer.number, answer.place), (0, 0));
-    assert_eq!((answer.pages as usize, answer.root), score, "{kind:?} {tree:?}");
+    assert_eq!(
+        (answer.pages as usize, answer.root),
+        score,
+        "{kind:?} {tree:?}"
+    );
     score
 }
 

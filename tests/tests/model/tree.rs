@@ -42,11 +42,15 @@ fn tree_of_a_table() {
             let node = index + 1;
             assert_eq!(tree.weights[node], u32::from(record.weight));
             assert_eq!(tree.labels[node], u32::from(record.label));
-            let children: Vec<usize> =
-                (1..=count).filter(|&child| parents[child - 1] == node).collect();
+            let children: Vec<usize> = (1..=count)
+                .filter(|&child| parents[child - 1] == node)
+                .collect();
             assert_eq!(tree.children[node], children);
             for two in children.windows(2) {
-                assert_eq!((tree.after[two[0]], tree.before[two[1]]), (Some(two[1]), Some(two[0])));
+                assert_eq!(
+                    (tree.after[two[0]], tree.before[two[1]]),
+                    (Some(two[1]), Some(two[0]))
+                );
             }
         }
     }
@@ -96,11 +100,19 @@ fn places_of_a_failed_walk() {
     for (node, is_sibling, value, place) in changes {
         let mut table = case_e();
         let record = &mut table.records[node - 1];
-        let link = if is_sibling { &mut record.next_sibling } else { &mut record.first_child };
+        let link = if is_sibling {
+            &mut record.next_sibling
+        } else {
+            &mut record.first_child
+        };
         assert_ne!(*link, value);
         *link = value;
         let refusal = Answer::refused(6, place);
-        assert_eq!(read_tree(&table.bytes()), refusal, "node {node}, {is_sibling}, {value}");
+        assert_eq!(
+            read_tree(&table.bytes()),
+            refusal,
+            "node {node}, {is_sibling}, {value}"
+        );
     }
 }
 

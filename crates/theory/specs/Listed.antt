@@ -1,0 +1,254 @@
+-- Lists made of those numbers from 1 to n that pass a test, and counts and tests over lists.
+-- Defines listed. Proves which elements it has, its length, where each stands, and what is counted in it. Assumes nothing.
+use Prim.Native.Nat.{ℕ, zero, suc, _+_, _-_, _≤_, _<_}
+use native.Mathlib.Omega.{arith}
+use mathlib.Core.Bool.{Bool, true, false, _&&_, true≢false}
+use mathlib.Core.Path.{_≡_, refl, sym, _∙_, ap}
+use mathlib.Core.Logic.{_⊎_, inl, inr}
+use mathlib.Core.List.{List, [], _∷_, _++_, List·Memᴰ, List·Memᴰ·head, List·Memᴰ·tail, List·Memᴰ·not-nil, List·Memᴰ·append-cases, List·Memᴰ·eq-of-singleton, Memᴰ·append-left, Memᴰ·append-right}
+use lib.ListN.{length, getD, length-append, List·getD-append}
+use lib.Seq.{getD-append-seam}
+use lib.Dec.{leb}
+use borrow.Author.Tests.{leb-true, leb-false}
+use Rattle.model.specs.Basics.{pick, sumTo, countTo, listTo, every}
+use Rattle.model.specs.Runs.{countOf}
+use Rattle.theory.specs.Ranges.{Upto, upto-suc, pick-true, pick-false, sumTo-suc, countTo-zero, countTo-yes, countTo-no, listTo-zero, listTo-suc, append-nil}
+use Rattle.theory.specs.Sums.{countTo-grows, countTo-passed, Counted, countTo-reach}
+use Rattle.theory.specs.Sound.{both-true}
+
+abbrev pub Mem {ℓ} : {X : Type ℓ} → X → List X → Type ℓ
+Mem x xs = List·Memᴰ x xs
+
+-- ---- Every element
+
+module _ {ℓ} {X : Type ℓ} (p : X → Bool) where
+  pub every-all : (xs : List X) → every p xs ≡ true → (x : X) → Mem x xs → p x ≡ true
+  unfolding every
+  every-all [] e x h = absurd (List·Memᴰ·not-nil h)
+  every-all (y ∷ ys) e x (List·Memᴰ·head q) = ap p q ∙ both-true (p y) (every p ys) e .0
+  every-all (y ∷ ys) e x (List·Memᴰ·tail h) = every-all ys (both-true (p y) (every p ys) e .1) x h
+
+  pub all-every : (xs : List X) → ((x : X) → Mem x xs → p x ≡ true) → every p xs ≡ true
+  unfolding every
+  all-every [] h = refl
+  all-every (y ∷ ys) h = rw (h y (List·Memᴰ·head refl)) (all-every ys (λ x m. h x (List·Memᴰ·tail m)))
+
+  -- ---- Counts over a list
+
+  pub countOf-nil : countOf p [] ≡ 0
+  unfolding countOf
+  countOf-nil = refl
+
+  pub countOf-yes : (x : X) (xs : List X) → p x ≡ true → countOf p (x ∷ xs) ≡ suc (countOf p xs)
+  unfolding countOf
+  countOf-yes x xs e = pick-true (p x) (suc (countOf p xs)) (countOf p xs) e
+
+  pub countOf-no : (x : X) (xs : List X) → p x ≡ false → countOf p (x ∷ xs) ≡ countOf p xs
+  unfolding countOf
+  countOf-no x xs e = pick-false (p x) (suc (countOf p xs)) (countOf p xs) e
+
+  pub countOf-more : (x : X) (xs : List X) → countOf p xs ≤ countOf p (x ∷ xs)
+  countOf-more x xs = go (p x) refl
+    where
+      go : (b : Bool) → p x ≡ b → countOf p xs ≤ countOf p (x ∷ xs)
+      go true e = omega (arith, countOf-yes x xs e)
+      go false e = omega (arith, countOf-no x xs e)
+
+  pub countOf-none : (xs : List X) → ((x : X) → Mem x xs → p x ≡ false) → countOf p xs ≡ 0
+  countOf-none [] h = countOf-nil
+  countOf-none (y ∷ ys) h =
+      countOf-no y ys (h y (List·Memᴰ·head refl)) ∙ countOf-none ys (λ x m. h x (List·Memᴰ·tail m))
+
+  pub countOf-some : (xs : List X) (x : X) → Mem x xs → p x ≡ true → 1 ≤ countOf p xs
+  countOf-some [] x h e = absurd (List·Memᴰ·not-nil h)
+  countOf-some (y ∷ ys) x (List·Memᴰ·head q) e = omega (arith, countOf-yes y ys (ap p (sym q) ∙ e))
+  countOf-some (y ∷ ys) x (List·Memᴰ·tail h) e = omega (arith, countOf-some ys x h e, countOf-more y ys)
+
+  pub countOf-find : (xs : List X) → 1 ≤ countOf p xs → (x : X) × Mem x xs × (p x ≡ true)
+  countOf-find [] h = absurd (omega (arith, countOf-nil))
+  countOf-find (y ∷ ys) h = go (p y) refl (countOf-find ys)
+    where
+      go : (b : Bool) → p y ≡ b → (1 ≤ countOf p ys → (x : X) × Mem x ys × (p x ≡ true)) → (x : X) × Mem x (y ∷ ys) × (p x ≡ true)
+      go true e ih = (y, List·Memᴰ·head refl, e)
+      go false e ih = let r = ih (omega (arith, countOf-no y ys e)) in (r .0, List·Memᴰ·tail (r .1), r .2)
+
+  -- where one at most is counted, two that are counted are the same
+  pub countOf-one : (xs : List X) (x y : X) → countOf p xs ≤ 1 → Mem x xs → Mem y xs → p x ≡ true → p y ≡ true → x ≡ y
+  countOf-one [] x y h a b e e′ = absurd (List·Memᴰ·not-nil a)
+  countOf-one (z ∷ zs) x y h (List·Memᴰ·head q) (List·Memᴰ·head q′) e e′ = q ∙ sym q′
+  countOf-one (z ∷ zs) x y h (List·Memᴰ·head q) (List·Memᴰ·tail b) e e′ =
+      absurd (omega (arith, countOf-some zs y b e′, countOf-yes z zs (ap p (sym q) ∙ e)))
+  countOf-one (z ∷ zs) x y h (List·Memᴰ·tail a) (List·Memᴰ·head q′) e e′ =
+      absurd (omega (arith, countOf-some zs x a e, countOf-yes z zs (ap p (sym q′) ∙ e′)))
+  countOf-one (z ∷ zs) x y h (List·Memᴰ·tail a) (List·Memᴰ·tail b) e e′ =
+      countOf-one zs x y (omega (arith, countOf-more z zs)) a b e e′
+
+  pub countOf-append : (xs ys : List X) → countOf p (xs ++ ys) ≡ countOf p xs + countOf p ys
+  countOf-append [] ys = omega (arith, countOf-nil)
+  countOf-append (x ∷ xs) ys = go (p x) refl (countOf-append xs ys)
+    where
+      go : (b : Bool) → p x ≡ b → countOf p (xs ++ ys) ≡ countOf p xs + countOf p ys
+          → countOf p (x ∷ (xs ++ ys)) ≡ countOf p (x ∷ xs) + countOf p ys
+      go true e ih = omega (arith, countOf-yes x (xs ++ ys) e, countOf-yes x xs e)
+      go false e ih = omega (arith, countOf-no x (xs ++ ys) e, countOf-no x xs e)
+
+-- a test that passes less often counts less
+pub countOf-le {ℓ} : {X : Type ℓ} (p q : X → Bool) (xs : List X) → ((x : X) → Mem x xs → p x ≡ true → q x ≡ true)
+    → countOf p xs ≤ countOf q xs
+countOf-le p q [] h = omega (arith, countOf-nil p)
+countOf-le {X = X} p q (x ∷ xs) h = go (p x) refl (countOf-le p q xs (λ y m. h y (List·Memᴰ·tail m)))
+  where
+    go : (b : Bool) → p x ≡ b → countOf p xs ≤ countOf q xs → countOf p (x ∷ xs) ≤ countOf q (x ∷ xs)
+    go true e ih = omega (arith, countOf-yes p x xs e, countOf-yes q x xs (h x (List·Memᴰ·head refl) e))
+    go false e ih = omega (arith, countOf-no p x xs e, countOf-more q x xs)
+
+-- ---- Counts of numbers
+
+module _ (p : ℕ → Bool) where
+  -- a number that passes counts itself
+  pub countTo-low : (v : ℕ) → 1 ≤ v → p v ≡ true → 1 ≤ countTo v p
+  countTo-low v low e = omega (arith, countTo-passed p 0 v (omega arith) e)
+
+  -- the only one that passes
+  pub countTo-only : (n v : ℕ) → 1 ≤ v → v ≤ n → p v ≡ true → Upto n (λ u. p u ≡ true → u ≡ v) → countTo n p ≡ 1
+  countTo-only n v low high e only = go (leb (countTo n p) 1) refl
+    where
+      least : countTo v p ≤ countTo n p
+      least = countTo-grows p v n high
+
+      go : (b : Bool) → leb (countTo n p) 1 ≡ b → countTo n p ≡ 1
+      go true q = omega (arith, leb-true (countTo n p) 1 q, countTo-low v low e, least)
+      go false q =
+          let more : 1 < countTo n p = leb-false (countTo n p) 1 q in
+          let a : Counted p n 1 = countTo-reach p n 1 (omega arith) (omega arith) in
+          let b : Counted p n 2 = countTo-reach p n 2 (omega arith) (omega arith) in
+          let same : a .at ≡ b .at =
+          only (a .at) (a .low) (a .high) (a .passed) ∙ sym (only (b .at) (b .low) (b .high) (b .passed)) in
+          absurd (omega (arith, a .count, b .count, ap (λ u. countTo u p) same))
+
+-- one number of a sum
+pub sumTo-one : (n v : ℕ) (f : ℕ → ℕ) → 1 ≤ v → v ≤ n → f v ≤ sumTo n f
+sumTo-one zero v f low high = absurd (omega arith)
+sumTo-one (suc n) v f low high = go (upto-suc n v high) (sumTo-one n v f low)
+  where
+    go : (v ≤ n) ⊎ (v ≡ suc n) → (v ≤ n → f v ≤ sumTo n f) → f v ≤ sumTo (suc n) f
+    go (inl l) ih = omega (arith, ih l, sumTo-suc n f)
+    go (inr e) ih = omega (arith, sumTo-suc n f, ap f e)
+
+-- ---- Those that pass, listed
+
+unfoldable pub listed {ℓ} : {X : Type ℓ} → ℕ → (ℕ → Bool) → (ℕ → X) → List X
+listed n p f = listTo n (λ v. pick (p v) (f v ∷ []) [])
+
+module _ {ℓ} {X : Type ℓ} (p : ℕ → Bool) (f : ℕ → X) where
+  pub listed-zero : listed 0 p f ≡ []
+  unfolding listed
+  listed-zero = listTo-zero (λ v. pick (p v) (f v ∷ []) [])
+
+  pub listed-yes : (n : ℕ) → p (suc n) ≡ true → listed (suc n) p f ≡ listed n p f ++ (f (suc n) ∷ [])
+  unfolding listed
+  listed-yes n e =
+      listTo-suc n (λ v. pick (p v) (f v ∷ []) [])
+      ∙ ap (λ l. listed n p f ++ l) (pick-true (p (suc n)) (f (suc n) ∷ []) [] e)
+
+  pub listed-no : (n : ℕ) → p (suc n) ≡ false → listed (suc n) p f ≡ listed n p f
+  unfolding listed
+  listed-no n e =
+      listTo-suc n (λ v. pick (p v) (f v ∷ []) [])
+      ∙ ap (λ l. listed n p f ++ l) (pick-false (p (suc n)) (f (suc n) ∷ []) [] e)
+      ∙ append-nil (listed n p f)
+
+  pub length-listed : (n : ℕ) → length (listed n p f) ≡ countTo n p
+  length-listed zero = ap length listed-zero ∙ sym (countTo-zero p)
+  length-listed (suc n) = go (p (suc n)) refl (length-listed n)
+    where
+      go : (b : Bool) → p (suc n) ≡ b → length (listed n p f) ≡ countTo n p → length (listed (suc n) p f) ≡ countTo (suc n) p
+      go true e ih =
+          omega (arith, ap length (listed-yes n e), length-append (listed n p f) (f (suc n) ∷ []), countTo-yes n p e)
+      go false e ih = ap length (listed-no n e) ∙ ih ∙ sym (countTo-no n p e)
+
+  -- what is listed
+  pub record From (n : ℕ) (x : X) : Type ℓ where
+    pub number : ℕ
+    pub low : 1 ≤ number
+    pub high : number ≤ n
+    pub passed : p number ≡ true
+    pub same : x ≡ f number
+
+  from-more : (n : ℕ) (x : X) → From n x → From (suc n) x
+  from-more n x r =
+      record { number = r .number; low = r .low; high = omega (arith, r .high); passed = r .passed; same = r .same }
+
+  pub listed-from : (n : ℕ) (x : X) → Mem x (listed n p f) → From n x
+  listed-from zero x h = absurd (List·Memᴰ·not-nil (rw listed-zero at h))
+  listed-from (suc n) x h = go (p (suc n)) refl (listed-from n x)
+    where
+      go : (b : Bool) → p (suc n) ≡ b → (Mem x (listed n p f) → From n x) → From (suc n) x
+      go true e ih = by (List·Memᴰ·append-cases (listed n p f) (rw (listed-yes n e) at h))
+        where
+          by : Mem x (listed n p f) ⊎ Mem x (f (suc n) ∷ []) → From (suc n) x
+          by (inl m) = from-more n x (ih m)
+          by (inr m) =
+              record { number = suc n; low = omega arith; high = omega arith; passed = e; same = List·Memᴰ·eq-of-singleton m }
+      go false e ih = from-more n x (ih (rw (listed-no n e) at h))
+
+  pub listed-mem : (n v : ℕ) → 1 ≤ v → v ≤ n → p v ≡ true → Mem (f v) (listed n p f)
+  listed-mem zero v low high e = absurd (omega arith)
+  listed-mem (suc n) v low high e = go (upto-suc n v high) (p (suc n)) refl (listed-mem n v low)
+    where
+      go : (v ≤ n) ⊎ (v ≡ suc n) → (b : Bool) → p (suc n) ≡ b → (v ≤ n → p v ≡ true → Mem (f v) (listed n p f))
+          → Mem (f v) (listed (suc n) p f)
+      go (inl l) true q ih = rw (listed-yes n q) (Memᴰ·append-left (f (suc n) ∷ []) (ih l e))
+      go (inl l) false q ih = rw (listed-no n q) (ih l e)
+      go (inr r) true q ih = rw (listed-yes n q) (Memᴰ·append-right (listed n p f) (List·Memᴰ·head (ap f r)))
+      go (inr r) false q ih = absurd (true≢false (sym e ∙ ap p r ∙ q))
+
+  -- where it stands
+  pub listed-at : (n v : ℕ) (d : X) → 1 ≤ v → v ≤ n → p v ≡ true → getD (listed n p f) (countTo v p - 1) d ≡ f v
+  listed-at zero v d low high e = absurd (omega arith)
+  listed-at (suc n) v d low high e = go (upto-suc n v high) (p (suc n)) refl (listed-at n v d low)
+    where
+      go : (v ≤ n) ⊎ (v ≡ suc n) → (b : Bool) → p (suc n) ≡ b
+          → (v ≤ n → p v ≡ true → getD (listed n p f) (countTo v p - 1) d ≡ f v)
+          → getD (listed (suc n) p f) (countTo v p - 1) d ≡ f v
+      go (inl l) true q ih =
+          let fits : countTo v p - 1 < length (listed n p f) =
+          omega (arith, length-listed n, countTo-grows p v n l, countTo-low p v low e) in
+          rw (listed-yes n q) (List·getD-append (listed n p f) (f (suc n) ∷ []) d (countTo v p - 1) fits ∙ ih l e)
+      go (inl l) false q ih = rw (listed-no n q) (ih l e)
+      go (inr r) true q ih =
+          let place : countTo v p - 1 ≡ length (listed n p f) =
+          omega (arith, length-listed n, countTo-yes n p q, ap (λ u. countTo u p) r) in
+          rw (listed-yes n q, place) (getD-append-seam (listed n p f) (f (suc n)) [] d ∙ ap f (sym r))
+      go (inr r) false q ih = absurd (true≢false (sym e ∙ ap p r ∙ q))
+
+  -- what is counted in it
+  pub countOf-listed : (q : X → Bool) (n : ℕ) → countOf q (listed n p f) ≡ countTo n (λ v. p v && q (f v))
+  countOf-listed q zero = ap (countOf q) listed-zero ∙ countOf-nil q ∙ sym (countTo-zero (λ v. p v && q (f v)))
+  countOf-listed q (suc n) = go (p (suc n)) refl (q (f (suc n))) refl (countOf-listed q n)
+    where
+      go : (b : Bool) → p (suc n) ≡ b → (c : Bool) → q (f (suc n)) ≡ c → countOf q (listed n p f) ≡ countTo n (λ v. p v && q (f v))
+          → countOf q (listed (suc n) p f) ≡ countTo (suc n) (λ v. p v && q (f v))
+      go true e true e′ ih =
+          let yes′ : (p (suc n) && q (f (suc n))) ≡ true = rw (e, e′) in
+          omega (
+            arith,
+            ap (countOf q) (listed-yes n e),
+            countOf-append q (listed n p f) (f (suc n) ∷ []),
+            countOf-yes q (f (suc n)) [] e′,
+            countOf-nil q,
+            countTo-yes n (λ v. p v && q (f v)) yes′,
+          )
+      go true e false e′ ih =
+          let no′ : (p (suc n) && q (f (suc n))) ≡ false = rw (e, e′) in
+          omega (
+            arith,
+            ap (countOf q) (listed-yes n e),
+            countOf-append q (listed n p f) (f (suc n) ∷ []),
+            countOf-no q (f (suc n)) [] e′,
+            countOf-nil q,
+            countTo-no n (λ v. p v && q (f v)) no′,
+          )
+      go false e c e′ ih =
+          let no′ : (p (suc n) && q (f (suc n))) ≡ false = rw e in
+          ap (countOf q) (listed-no n e) ∙ ih ∙ sym (countTo-no n (λ v. p v && q (f v)) no′)

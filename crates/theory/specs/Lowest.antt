@@ -1,0 +1,109 @@
+-- Demand 3: the best plan is the lowest there is, in the words of sibling runs told from the tree alone.
+-- Defines Lowest. Proves best-judged, level-judged, single-judged, pair-judged (each planner's plan of an accepted tree is feasible),
+-- best-lowest, and best-count (no feasible plan has fewer pages). Assumes nothing.
+use Prim.Native.Nat.{ℕ, _≤_}
+use mathlib.Core.Path.{_≡_, sym, _∙_}
+use mathlib.Core.Bool.{true, false}
+use mathlib.Core.List.{List}
+use native.Mathlib.Omega.{arith}
+use lib.ListN.{length, getD}
+use Rattle.model.specs.Table.{Chain, end, node, limitOf, treeOf, weightAt, labelAt}
+use Rattle.model.specs.Plan.{markAt, pageCount, pageWeight}
+use Rattle.model.specs.Runs.{Run, holds, withinLimit, runCount, rootWeight, runsOf}
+use Rattle.model.specs.Steps.{bestMarks, levelMarks, singleMarks, pairMarks}
+use Rattle.theory.specs.Sound.{AcceptedFacts}
+use Rattle.theory.specs.Numbered.{Rooted, sound-root, tree-within, tree-positive}
+use Rattle.theory.specs.Shape.{allowed, weighed, AllWithin, EachWithin, Positive}
+use Rattle.theory.specs.Laid.{FeasibleShape}
+use Rattle.theory.specs.Feasible.{Judged, ShapePlan, judged-bridge, shape-feasible, feasible-judged}
+use Rattle.theory.specs.Bridge.{count-bridge, weight-bridge}
+use Rattle.theory.specs.SingleShape.{single-feasible}
+use Rattle.theory.specs.PairShape.{pair-feasible}
+use Rattle.theory.specs.BestShape.{NoBetterThanBest, best-feasible, level-feasible, best-least}
+use Rattle.theory.specs.Held.{PlanRuns, plan-runs, RunsPlan, runs-plan}
+
+-- A sequence of sibling runs that holds the tree within the page limit has at least P runs and, where it has exactly P, a root page of
+-- at least W; and the runs rs are such a sequence, with exactly P runs and root page W.
+pub record Lowest (t : List ℕ) (P W : ℕ) (rs : List Run) : Type 0 where
+  pub least : (qs : List Run) → holds t qs ≡ true → withinLimit t qs ≡ true → (P ≤ runCount qs) × (runCount qs ≡ P → W ≤ rootWeight t qs)
+  pub held : holds t rs ≡ true
+  pub within : withinLimit t rs ≡ true
+  pub count : runCount rs ≡ P
+  pub root : rootWeight t rs ≡ W
+
+module _ {t : List ℕ} (a : AcceptedFacts t) where
+  -- what is shown of a root with its children holds of the tree of the table
+  by-shape : (P : Chain → Type 0)
+      → ((w l : ℕ) (kids : Chain) → EachWithin (limitOf t) (node w l kids end) → Positive (node w l kids end) → P (node w l kids end))
+      → P (treeOf t)
+  by-shape P f =
+      let r : Rooted t = sound-root (a .sound) in
+      rw (r .shape)
+      (f (weightAt t 1) (labelAt t 1) (r .kids) (rw (r .shape) at (tree-within a)) (rw (r .shape) at (tree-positive (a .sound))))
+
+  -- a planner whose marks are feasible by shape
+  abbrev Plans : (ℕ → Chain → List ℕ) → Chain → Type 0
+  Plans steps c = (root : ℕ) × FeasibleShape (limitOf t) c (steps (limitOf t) c) root
+
+  judged : (steps : ℕ → Chain → List ℕ) → Plans steps (treeOf t) → Judged t (steps (limitOf t) (treeOf t))
+  judged steps p = feasible-judged t _ (shape-feasible a _ (p .0) (p .1) .0)
+
+  pub best-judged : Judged t (bestMarks (limitOf t) (treeOf t))
+  best-judged = judged bestMarks (by-shape (Plans bestMarks) (λ w l kids e p. (_, best-feasible (limitOf t) w l kids e .feasible)))
+
+  pub level-judged : Judged t (levelMarks (limitOf t) (treeOf t))
+  level-judged = judged levelMarks (by-shape (Plans levelMarks) (λ w l kids e p. (_, level-feasible (limitOf t) w l kids e .feasible)))
+
+  pub single-judged : Judged t (singleMarks (limitOf t) (treeOf t))
+  single-judged = judged singleMarks (by-shape (Plans singleMarks) (λ w l kids e p. (_, single-feasible (limitOf t) w l kids e)))
+
+  pub pair-judged : Judged t (pairMarks (limitOf t) (treeOf t))
+  pair-judged = judged pairMarks (by-shape (Plans pairMarks) (λ w l kids e p. (_, pair-feasible (limitOf t) w l kids e)))
+
+  -- the figures of a feasible plan are those of its pages by shape
+  count-is : (m : List ℕ) → Judged t m → pageCount t m ≡ length (weighed (treeOf t) m .pages)
+  count-is m j = count-bridge (a .sound) m (j .long) (judged-bridge a m (j .long) .0 j .allows)
+
+  root-is : (m : List ℕ) → Judged t m → pageWeight t m 1 ≡ getD (weighed (treeOf t) m .pages) 0 0
+  root-is m j = weight-bridge (a .sound) m (j .long) (judged-bridge a m (j .long) .0 j .allows) 1 (omega arith)
+
+  no-better : (m : List ℕ) → Judged t m → NoBetterThanBest (limitOf t) (treeOf t) m
+  unfolding markAt
+  no-better m j =
+      let s : ShapePlan t m = judged-bridge a m (j .long) .0 j in
+      by-shape
+      (λ c. allowed false c m ≡ true → AllWithin (limitOf t) (weighed c m .pages) → NoBetterThanBest (limitOf t) c m)
+      (λ w l kids e p q h. best-least (limitOf t) w l kids m e p q (s .first) h)
+      (s .allows) (s .within)
+
+  -- the best plan of the tree, and its page count and root weight
+  abbrev best : List ℕ
+  best = bestMarks (limitOf t) (treeOf t)
+
+  -- no feasible plan has fewer pages, nor as many and a lighter root page
+  pub best-least-plan : (m : List ℕ) → Judged t m
+      → (pageCount t best ≤ pageCount t m) × (pageCount t m ≡ pageCount t best → pageWeight t best 1 ≤ pageWeight t m 1)
+  best-least-plan m j =
+      let b = best-judged in
+      let n = no-better m j in (
+        omega (arith, count-is best b, count-is m j, n .count),
+        λ e. omega (arith, root-is best b, root-is m j, n .root (sym (count-is best b) ∙ (sym e ∙ count-is m j))),
+      )
+
+  -- demand 3
+  pub best-lowest : Lowest t (pageCount t best) (pageWeight t best 1) (runsOf t best)
+  best-lowest =
+      let b = best-judged in
+      let r : PlanRuns t best = plan-runs (a .sound) best (b .marks) in
+      record {
+        least =
+            λ qs h w.
+            let q : RunsPlan t qs = runs-plan (a .sound) qs h in
+            let j : Judged t (q .marks) = record { tree = a; long = q .long; marks = q .good; pages = q .limit .1 w } in
+            let n = best-least-plan (q .marks) j in
+            (omega (arith, n .0, q .count), λ e. omega (arith, n .1 (q .count ∙ e), q .root));
+        held = r .held;
+        within = r .limit .1 (b .pages);
+        count = r .count;
+        root = r .root;
+      }

@@ -1,0 +1,329 @@
+-- The runs of a plan with no bad mark, in a table of sound form: they hold the tree, one for each page, in the order of the pages; a
+-- node is in one of them where its mark says so, its home is the first node of its page's run, and the pages weigh the same.
+-- Defines Headed, OnPage. Proves runs-hold, runs-count, runs-at, in-one, in-none, home-page, home-run-page, same-page, run-weight,
+-- root-weight, within-heavy. Assumes nothing.
+use Prim.Native.Nat.{ℕ, zero, suc, _-_, _≤_, _<_}
+use native.Mathlib.Omega.{arith}
+use mathlib.Core.Bool.{Bool, true, false, not, _&&_, true≢false, false≢true}
+use mathlib.Core.Path.{_≡_, refl, sym, _∙_, ap}
+use mathlib.Core.Logic.{_↔_}
+use mathlib.Core.List.{List}
+use lib.ListN.{length, getD}
+use lib.Dec.{eqb, leb, ltb}
+use borrow.Author.Tests.{eqb-true, eq-eqb, leb-true, le-leb, ltb-false, le-ltb}
+use Rattle.model.specs.Basics.{pick, countTo}
+use Rattle.model.specs.Table.{nodeCount, limitOf, weightAt, nextAt}
+use Rattle.model.specs.Plan.{prevAt, parentAt, begins, continues, hasMark, inRun, pageOf, pageCount, pageWeight, badMark, heavyPage}
+use Rattle.model.specs.Runs.{Run, isMember, rootRun, countOf, holds, runWith, homeOf, runWeight, withinLimit, rootWeight, runsOf}
+use Rattle.model.specs.declared.Place.the-variants.{At, Nowhere}
+use Rattle.theory.specs.Ranges.{pick-true, sumTo-cong, countTo-zero, countTo-yes, countTo-none, firstTo-none, firstTo-nowhere}
+use Rattle.theory.specs.Sums.{countTo-grows, countTo-same, Counted, countTo-reach}
+use Rattle.theory.specs.Sound.{SoundFacts, both-true}
+use Rattle.theory.specs.Links.{prevAt-less, prevAt-next, parentAt-less, parent-low}
+use Rattle.theory.specs.Pages.{pageOf-begins, pageOf-continues, pageOf-stays, good-node, good-later, good-continues, root-begins}
+use Rattle.theory.specs.Chains.{here, reach-trans, reach-one, same-true}
+use Rattle.theory.specs.Listed.{Mem, every-all, all-every, countTo-low, countTo-only, length-listed, From, listed-from, listed-mem, listed-at, countOf-listed}
+use Rattle.theory.specs.RunLists.{run-path, none-runWith, HoldFacts, facts-holds, runWith-at, runWith-zero, home-run, home-up}
+use Rattle.theory.specs.MarkedRuns.{Goes, runAt, runsOf-listed, neither-inRun, ends-runLast, runAt-facts, goes-member, member-goes, goes-inRun, goes-one}
+
+-- the first node of the run that v is in
+pub record Headed (t m : List ℕ) (v : ℕ) : Type 0 where
+  pub head : ℕ
+  pub low : 1 ≤ head
+  pub high : head ≤ v
+  pub mark : hasMark m begins head ≡ true
+  pub goes : Goes t m head v
+
+-- the node that begins the page of v
+pub record OnPage (t m : List ℕ) (v : ℕ) : Type 0 where
+  pub first : ℕ
+  pub low : 1 ≤ first
+  pub high : first ≤ v
+  pub mark : hasMark m begins first ≡ true
+  pub home : homeOf t (runsOf t m) v ≡ first
+  pub page : pageOf t m v ≡ countTo first (hasMark m begins)
+
+module _ {t : List ℕ} (s : SoundFacts t) (m : List ℕ) (good : badMark t m ≡ Nowhere) where
+  -- a node that continues a run comes just after one in the run
+  continues-after : (v : ℕ) → 1 ≤ v → v ≤ nodeCount t → hasMark m continues v ≡ true → inRun m (prevAt t v) ≡ true
+  continues-after v low high e =
+      let less : prevAt t v < v = prevAt-less t v low in
+      let one : 1 ≤ prevAt t v = good-continues t m v low (good-node s m good v low high) e in
+      both-true (not (eqb (prevAt t v) 0)) (inRun m (prevAt t v))
+      (sym (pick-true (hasMark m continues v) _ _ e) ∙ sym (good-later t m v (omega arith)) ∙ good-node s m good v low high) .1
+
+  head-upto : (f v : ℕ) → v ≤ f → 1 ≤ v → v ≤ nodeCount t → inRun m v ≡ true → Headed t m v
+  head-upto zero v bound low high e = absurd (omega arith)
+  head-upto (suc f) v bound low high e = go (hasMark m begins v) refl (hasMark m continues v) refl (head-upto f (prevAt t v))
+    where
+      go : (b : Bool) → hasMark m begins v ≡ b → (c : Bool) → hasMark m continues v ≡ c
+          → (prevAt t v ≤ f → 1 ≤ prevAt t v → prevAt t v ≤ nodeCount t → inRun m (prevAt t v) ≡ true → Headed t m (prevAt t v))
+          → Headed t m v
+      go true q c q′ ih = record { head = v; low = low; high = omega arith; mark = q; goes = here }
+      go false q true q′ ih =
+          let less : prevAt t v < v = prevAt-less t v low in
+          let one : 1 ≤ prevAt t v = good-continues t m v low (good-node s m good v low high) q′ in
+          let next : nextAt t (prevAt t v) ≡ v = prevAt-next t v one in
+          let p : Headed t m (prevAt t v) = ih (omega arith) one (omega arith) (continues-after v low high q′) in
+          let last : Goes t m (prevAt t v) (nextAt t (prevAt t v)) =
+          reach-one (omega (arith, next)) (ap (hasMark m continues) next ∙ q′) in
+          record {
+            head = p .head;
+            low = p .low;
+            high = omega (arith, p .high);
+            mark = p .mark;
+            goes = reach-trans (p .goes) (rw next at last);
+          }
+      go false q false q′ ih = absurd (false≢true (sym (neither-inRun m v q q′) ∙ e))
+
+  pub headed : (v : ℕ) → 1 ≤ v → v ≤ nodeCount t → inRun m v ≡ true → Headed t m v
+  headed v low high e = head-upto v v (omega arith) low high e
+
+  -- ---- They hold the tree
+
+  pub mem-from : (r : Run) → Mem r (runsOf t m) → From (hasMark m begins) (runAt t m) (nodeCount t) r
+  mem-from r h = listed-from (hasMark m begins) (runAt t m) (nodeCount t) r (rw (runsOf-listed t m) at h)
+
+  pub runs-mem : (u : ℕ) → 1 ≤ u → u ≤ nodeCount t → hasMark m begins u ≡ true → Mem (runAt t m u) (runsOf t m)
+  runs-mem u low high e = rw (runsOf-listed t m) (listed-mem (hasMark m begins) (runAt t m) (nodeCount t) u low high e)
+
+  -- a node is in the run of the node that begins it, and in no other
+  members-count : (v : ℕ)
+      → countOf (isMember t v) (runsOf t m) ≡ countTo (nodeCount t) (λ u. hasMark m begins u && isMember t v (runAt t m u))
+  members-count v = rw (runsOf-listed t m) (countOf-listed (hasMark m begins) (runAt t m) (isMember t v) (nodeCount t))
+
+  pub in-one : (v : ℕ) → 1 ≤ v → v ≤ nodeCount t → inRun m v ≡ true → countOf (isMember t v) (runsOf t m) ≡ 1
+  in-one v low high e =
+      let h : Headed t m v = headed v low high e in
+      let top : h .head ≤ nodeCount t = omega (arith, h .high) in
+      let own : (hasMark m begins (h .head) && isMember t v (runAt t m (h .head))) ≡ true =
+      rw (h .mark, goes-member s m (h .head) v (h .low) top (h .goes)) in
+      members-count v
+      ∙ countTo-only (λ u. hasMark m begins u && isMember t v (runAt t m u)) (nodeCount t) (h .head) (h .low) top own
+      (λ u low′ high′ q.
+      let b = both-true (hasMark m begins u) (isMember t v (runAt t m u)) q in
+      goes-one s m u (h .head) v low′ high′ (h .low) top (b .0) (h .mark) (member-goes s m u v low′ high′ (b .1)) (h .goes))
+
+  not-member : (v : ℕ) → inRun m v ≡ false → (u : ℕ) → 1 ≤ u → u ≤ nodeCount t → hasMark m begins u ≡ true
+      → isMember t v (runAt t m u) ≡ false
+  not-member v e u low high a = go (isMember t v (runAt t m u)) refl
+    where
+      go : (b : Bool) → isMember t v (runAt t m u) ≡ b → isMember t v (runAt t m u) ≡ false
+      go true q = absurd (true≢false (sym (goes-inRun s m u v a (member-goes s m u v low high q)) ∙ e))
+      go false q = q
+
+  pub in-none : (v : ℕ) → inRun m v ≡ false → countOf (isMember t v) (runsOf t m) ≡ 0
+  in-none v e =
+      members-count v
+      ∙ countTo-none (nodeCount t) (λ u. hasMark m begins u && isMember t v (runAt t m u))
+      (λ u low high. go u low high (hasMark m begins u) refl)
+    where
+      go : (u : ℕ) → 1 ≤ u → u ≤ nodeCount t → (b : Bool) → hasMark m begins u ≡ b
+          → (hasMark m begins u && isMember t v (runAt t m u)) ≡ false
+      go u low high true q = rw q (not-member v e u low high q)
+      go u low high false q = rw q
+
+  -- in one exactly where the mark says so
+  pub in-one-iff : (v : ℕ) → 1 ≤ v → v ≤ nodeCount t → (inRun m v ≡ true) ↔ (countOf (isMember t v) (runsOf t m) ≡ 1)
+  in-one-iff v low high = (in-one v low high, λ e. go (inRun m v) refl e)
+    where
+      go : (b : Bool) → inRun m v ≡ b → countOf (isMember t v) (runsOf t m) ≡ 1 → inRun m v ≡ true
+      go true q e = q
+      go false q e = absurd (omega (arith, in-none v q))
+
+  root-run : runAt t m 1 ≡ rootRun
+  root-run =
+      run-path {r = runAt t m 1} {r′ = rootRun} refl
+      (ends-runLast s m 1 1 (omega arith) (s .count-low)
+      (record { goes = here; stops = λ a e. omega (arith, s .root-alone) }))
+
+  pub runs-facts : HoldFacts t (runsOf t m)
+  runs-facts =
+      record {
+        each =
+            λ r h. let f = mem-from r h in
+            rw (f .same) (runAt-facts s m (f .number) (f .low) (f .high));
+        root = rw root-run at (runs-mem 1 (omega arith) (s .count-low) (root-begins s m good));
+        once = λ v low high. go v low high (inRun m v) refl;
+      }
+    where
+      go : (v : ℕ) → 1 ≤ v → v ≤ nodeCount t → (b : Bool) → inRun m v ≡ b → countOf (isMember t v) (runsOf t m) ≤ 1
+      go v low high true q = omega (arith, in-one v low high q)
+      go v low high false q = omega (arith, in-none v q)
+
+  pub runs-hold : holds t (runsOf t m) ≡ true
+  runs-hold = facts-holds s (runsOf t m) runs-facts
+
+  -- one for each page
+  pub runs-count : length (runsOf t m) ≡ pageCount t m
+  unfolding pageCount
+  runs-count = ap length (runsOf-listed t m) ∙ length-listed (hasMark m begins) (runAt t m) (nodeCount t)
+
+  -- in the order of the pages
+  pub runs-at : (u : ℕ) (d : Run) → 1 ≤ u → u ≤ nodeCount t → hasMark m begins u ≡ true
+      → getD (runsOf t m) (countTo u (hasMark m begins) - 1) d ≡ runAt t m u
+  runs-at u d low high e =
+      ap (λ l. getD l (countTo u (hasMark m begins) - 1) d) (runsOf-listed t m)
+      ∙ listed-at (hasMark m begins) (runAt t m) (nodeCount t) u d low high e
+
+  -- ---- Homes and pages
+
+  zero-none : runWith t (runsOf t m) 0 ≡ Nowhere
+  zero-none = runWith-zero s (runsOf t m) runs-facts
+
+  pub runWith-goes : (u v : ℕ) → 1 ≤ u → u ≤ nodeCount t → hasMark m begins u ≡ true → Goes t m u v → runWith t (runsOf t m) v ≡ At u
+  runWith-goes u v low high e r =
+      runWith-at s (runsOf t m) runs-facts v (runAt t m u) (runs-mem u low high e) (goes-member s m u v low high r)
+
+  pub runWith-out : (v : ℕ) → inRun m v ≡ false → runWith t (runsOf t m) v ≡ Nowhere
+  runWith-out v e = none-runWith t (runsOf t m) v (λ r h. go r (mem-from r h))
+    where
+      go : (r : Run) → From (hasMark m begins) (runAt t m) (nodeCount t) r → isMember t v r ≡ false
+      go r f = ap (isMember t v) (f .same) ∙ not-member v e (f .number) (f .low) (f .high) (f .passed)
+
+  page-upto : (f v : ℕ) → v ≤ f → 1 ≤ v → v ≤ nodeCount t → OnPage t m v
+  page-upto zero v bound low high = absurd (omega arith)
+  page-upto (suc f) v bound low high = go (hasMark m begins v) refl (hasMark m continues v) refl (page-upto f)
+    where
+      go : (b : Bool) → hasMark m begins v ≡ b → (c : Bool) → hasMark m continues v ≡ c
+          → ((u : ℕ) → u ≤ f → 1 ≤ u → u ≤ nodeCount t → OnPage t m u) → OnPage t m v
+      go true q c q′ ih =
+          record {
+            first = v;
+            low = low;
+            high = omega arith;
+            mark = q;
+            home = home-run t (runsOf t m) zero-none v v low (runWith-goes v v low high q here);
+            page = pageOf-begins t m v low q;
+          }
+      go false q true q′ ih =
+          let less : prevAt t v < v = prevAt-less t v low in
+          let one : 1 ≤ prevAt t v = good-continues t m v low (good-node s m good v low high) q′ in
+          let next : nextAt t (prevAt t v) ≡ v = prevAt-next t v one in
+          let p : OnPage t m (prevAt t v) = ih (prevAt t v) (omega arith) one (omega arith) in
+          let h : Headed t m (prevAt t v) = headed (prevAt t v) one (omega arith) (continues-after v low high q′) in
+          let top : h .head ≤ nodeCount t = omega (arith, h .high) in
+          let last : Goes t m (prevAt t v) (nextAt t (prevAt t v)) =
+          reach-one (omega (arith, next)) (ap (hasMark m continues) next ∙ q′) in
+          let here′ : homeOf t (runsOf t m) v ≡ h .head =
+          home-run t (runsOf t m) zero-none v (h .head) low
+          (runWith-goes (h .head) v (h .low) top (h .mark) (reach-trans (h .goes) (rw next at last))) in
+          let before : homeOf t (runsOf t m) (prevAt t v) ≡ h .head =
+          home-run t (runsOf t m) zero-none (prevAt t v) (h .head) one
+          (runWith-goes (h .head) (prevAt t v) (h .low) top (h .mark) (h .goes)) in
+          record {
+            first = p .first;
+            low = p .low;
+            high = omega (arith, p .high);
+            mark = p .mark;
+            home = here′ ∙ sym before ∙ p .home;
+            page = pageOf-continues t m v low q′ ∙ p .page;
+          }
+      go false q false q′ ih =
+          let other : v ≡ 1 → ⊥ = λ e. true≢false (sym (root-begins s m good) ∙ ap (hasMark m begins) (sym e) ∙ q) in
+          let two : 2 ≤ v = omega (arith, other) in
+          let less : parentAt t v < v = parentAt-less t v low in
+          let p : OnPage t m (parentAt t v) = ih (parentAt t v) (omega arith) (parent-low s v two high) (omega arith) in
+          record {
+            first = p .first;
+            low = p .low;
+            high = omega (arith, p .high);
+            mark = p .mark;
+            home =
+                home-up t (runsOf t m) zero-none v low (runWith-out v (neither-inRun m v q q′)) ∙ p .home;
+            page = pageOf-stays t m v low q q′ ∙ p .page;
+          }
+
+  -- a node's home is the node that begins its page
+  pub home-page : (v : ℕ) → 1 ≤ v → v ≤ nodeCount t → OnPage t m v
+  home-page v low high = page-upto v v (omega arith) low high
+
+  -- so it is the first node of its page's run
+  pub home-run-page : (v : ℕ) (d : Run) → 1 ≤ v → v ≤ nodeCount t
+      → homeOf t (runsOf t m) v ≡ (getD (runsOf t m) (pageOf t m v - 1) d) .first
+  home-run-page v d low high =
+      let p : OnPage t m v = home-page v low high in
+      p .home
+      ∙ sym (ap (λ r. r .first) (ap (λ k. getD (runsOf t m) (k - 1) d) (p .page) ∙ runs-at (p .first) d (p .low) (omega (arith, p .high)) (p .mark)))
+
+  pub same-page : (u v : ℕ) → 1 ≤ u → u ≤ nodeCount t → 1 ≤ v → v ≤ nodeCount t
+      → (homeOf t (runsOf t m) u ≡ homeOf t (runsOf t m) v) ↔ (pageOf t m u ≡ pageOf t m v)
+  same-page u v low high low′ high′ = (
+    λ e. p .page ∙ ap (λ x. countTo x (hasMark m begins)) (sym (p .home) ∙ e ∙ q .home) ∙ sym (q .page),
+    λ e.
+        p .home ∙ countTo-same (hasMark m begins) (p .first) (q .first) (p .mark) (q .mark) (sym (p .page) ∙ e ∙ q .page)
+        ∙ sym (q .home),
+  )
+    where
+      p : OnPage t m u
+      p = home-page u low high
+
+      q : OnPage t m v
+      q = home-page v low′ high′
+
+  -- ---- Weights
+
+  weight-first : (u : ℕ) (r : Run) → r .first ≡ u → hasMark m begins u ≡ true
+      → runWeight t (runsOf t m) r ≡ pageWeight t m (countTo u (hasMark m begins))
+  unfolding runWeight pageWeight
+  weight-first u r same e =
+      sumTo-cong (nodeCount t) (λ v. pick (eqb (homeOf t (runsOf t m) v) (r .first)) (weightAt t v) 0)
+      (λ v. pick (eqb (pageOf t m v) (countTo u (hasMark m begins))) (weightAt t v) 0)
+      (λ v low high. ap (λ b. pick b (weightAt t v) 0) (test v (home-page v low high)))
+    where
+      test : (v : ℕ) → OnPage t m v → eqb (homeOf t (runsOf t m) v) (r .first) ≡ eqb (pageOf t m v) (countTo u (hasMark m begins))
+      test v p =
+          same-true (eqb (homeOf t (runsOf t m) v) (r .first)) (eqb (pageOf t m v) (countTo u (hasMark m begins)))
+          (λ q. eq-eqb (pageOf t m v) (countTo u (hasMark m begins))
+          (p .page
+          ∙ ap (λ x. countTo x (hasMark m begins))
+          (sym (p .home) ∙ eqb-true (homeOf t (runsOf t m) v) (r .first) q ∙ same)))
+          (λ q. eq-eqb (homeOf t (runsOf t m) v) (r .first)
+          (p .home
+          ∙ countTo-same (hasMark m begins) (p .first) u (p .mark) e
+          (sym (p .page) ∙ eqb-true (pageOf t m v) (countTo u (hasMark m begins)) q)
+          ∙ sym same))
+
+  -- run p weighs what page p weighs
+  pub run-weight : (p : ℕ) (d : Run) → 1 ≤ p → p ≤ pageCount t m
+      → runWeight t (runsOf t m) (getD (runsOf t m) (p - 1) d) ≡ pageWeight t m p
+  unfolding pageCount
+  run-weight p d low high =
+      let c : Counted (hasMark m begins) (nodeCount t) p = countTo-reach (hasMark m begins) (nodeCount t) p low high in
+      let r : getD (runsOf t m) (p - 1) d ≡ runAt t m (c .at) =
+      ap (λ k. getD (runsOf t m) (k - 1) d) (sym (c .count)) ∙ runs-at (c .at) d (c .low) (c .high) (c .passed) in
+      ap (runWeight t (runsOf t m)) r
+      ∙ weight-first (c .at) (runAt t m (c .at)) refl (c .passed)
+      ∙ ap (pageWeight t m) (c .count)
+
+  pub root-weight : rootWeight t (runsOf t m) ≡ pageWeight t m 1
+  root-weight =
+      weight-first 1 rootRun refl (root-begins s m good)
+      ∙ ap (pageWeight t m)
+      (countTo-yes 0 (hasMark m begins) (root-begins s m good) ∙ ap suc (countTo-zero (hasMark m begins)))
+
+  -- within the limit exactly where no page is heavy
+  pub within-heavy : (withinLimit t (runsOf t m) ≡ true) ↔ (heavyPage t m ≡ Nowhere)
+  unfolding withinLimit heavyPage pageCount
+  within-heavy = (
+    λ e. firstTo-none (countTo (nodeCount t) (hasMark m begins)) (λ p. ltb (limitOf t) (pageWeight t m p))
+        (λ p low high.
+        let c : Counted (hasMark m begins) (nodeCount t) p = countTo-reach (hasMark m begins) (nodeCount t) p low high in
+        let w : runWeight t (runsOf t m) (runAt t m (c .at)) ≤ limitOf t =
+        leb-true (runWeight t (runsOf t m) (runAt t m (c .at))) (limitOf t)
+        (every-all (λ r. leb (runWeight t (runsOf t m) r) (limitOf t)) (runsOf t m) e (runAt t m (c .at))
+        (runs-mem (c .at) (c .low) (c .high) (c .passed))) in
+        le-ltb (limitOf t) (pageWeight t m p)
+        (omega (arith, weight-first (c .at) (runAt t m (c .at)) refl (c .passed), ap (pageWeight t m) (c .count)))),
+    λ e. all-every (λ r. leb (runWeight t (runsOf t m) r) (limitOf t)) (runsOf t m)
+        (λ r h.
+        let f = mem-from r h in
+        let p : ℕ = countTo (f .number) (hasMark m begins) in
+        let light : pageWeight t m p ≤ limitOf t =
+        ltb-false (limitOf t) (pageWeight t m p)
+        (firstTo-nowhere (countTo (nodeCount t) (hasMark m begins)) (λ p. ltb (limitOf t) (pageWeight t m p)) e p
+        (countTo-low (hasMark m begins) (f .number) (f .low) (f .passed))
+        (countTo-grows (hasMark m begins) (f .number) (nodeCount t) (f .high))) in
+        le-leb (runWeight t (runsOf t m) r) (limitOf t)
+        (omega (arith, weight-first (f .number) r (ap (λ x. x .first) (f .same)) (f .passed)))),
+  )
