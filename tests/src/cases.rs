@@ -100,6 +100,30 @@ pub fn made() -> Vec<Made> {
         5,
     );
     add("G", case_g(), &[Pair], &[1, 1, 0, 1, 2], 3, 1);
+
+    // Two runs either way, so the shorter last run stays.
+    let equal = Table::new(5, &[0, 1, 1, 1], &[5, 2, 2, 2]);
+    add(
+        "equal runs",
+        equal.clone(),
+        &[Best, Level],
+        &[1, 1, 2, 1],
+        3,
+        5,
+    );
+    add("equal runs", equal.clone(), &[Single], &[1, 1, 1, 1], 4, 5);
+    add("equal runs", equal, &[Pair], &[1, 1, 1, 2], 3, 5);
+    // Two pages in any case, and the last candidate has the lightest root page.
+    let lighter = Table::new(3, &[0, 1, 1], &[1, 2, 1]);
+    add(
+        "lighter rest",
+        lighter.clone(),
+        &[Best, Level, Pair],
+        &[1, 1, 2],
+        2,
+        1,
+    );
+    add("lighter rest", lighter, &[Single], &[1, 1, 0], 2, 2);
     list
 }
 

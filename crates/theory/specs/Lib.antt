@@ -42,3 +42,4 @@ pub mod RealPlans
 pub mod BestShape
 -- Demand 3
 pub mod Lowest
+pub mod Promise
