@@ -1,6 +1,6 @@
 //! Trees, tables and damaged tables, random ones from fixed seeds and small ones exhaustively.
 
-use crate::model::{pages, Tree, MAX_LIMIT, MAX_NODES};
+use crate::model::{archive_bytes, pages, read, Tree, MAX_LIMIT, MAX_NODES};
 
 /// A generator of random numbers (splitmix64). The same seed gives the same numbers.
 pub struct Random(u64);
@@ -238,32 +238,50 @@ pub fn for_each_table(
     }
 }
 
-/// Calls `visit` with every table of so many nodes whose links are 0 to one above the count.
-pub fn for_each_linking(count: usize, mut visit: impl FnMut(&Table)) {
-    let mut table = Table::new(9, &all_parents(count)[0], &vec![1; count]);
-    let values = count + 2;
-    for mut code in 0..values.pow(2 * count as u32) {
-        let mut digit = || {
-            let value = code % values;
-            code /= values;
-            value as u16
+/// Calls `visit` with every list of so many bytes from 0 to `most`.
+fn for_each_list(count: usize, most: u8, mut visit: impl FnMut(&[u8])) {
+    let mut list = vec![0; count];
+    loop {
+        visit(&list);
+        let Some(place) = list.iter().position(|&byte| byte < most) else {
+            return;
         };
-        for record in &mut table.records {
-            record.first_child = digit();
-            record.next_sibling = digit();
-        }
-        visit(&table);
+        list[..place].fill(0);
+        list[place] += 1;
     }
 }
 
-/// Calls `visit` with every list of so many bytes from 0 to 3.
-pub fn for_each_marks(count: usize, mut visit: impl FnMut(&[u8])) {
-    for code in 0..4usize.pow(count as u32) {
-        let marks: Vec<u8> = (0..count)
-            .map(|place| (code >> (2 * place) & 3) as u8)
-            .collect();
-        visit(&marks);
-    }
+/// Calls `visit` with every list of so many marks from 0 to 3.
+pub fn for_each_marks(count: usize, visit: impl FnMut(&[u8])) {
+    for_each_list(count, 3, visit);
+}
+
+/// Calls `visit` with every table of so many nodes whose links are 0 to one above the count.
+pub fn for_each_linking(count: usize, mut visit: impl FnMut(&Table)) {
+    let mut table = Table::new(9, &all_parents(count)[0], &vec![1; count]);
+    for_each_list(2 * count, count as u8 + 1, |links| {
+        for (record, links) in table.records.iter_mut().zip(links.chunks(2)) {
+            record.first_child = links[0].into();
+            record.next_sibling = links[1].into();
+        }
+        visit(&table);
+    });
+}
+
+/// Calls `visit` with every archive of one page and so many nodes whose parents are 0 to one above
+/// the count. All its other words are as they should be.
+pub fn for_each_parenting(count: usize, mut visit: impl FnMut(&[u8])) {
+    let table = Table::new(9, &all_parents(count)[0], &vec![1; count]).bytes();
+    let tree = read(&table).expect("an accepted table");
+    let mut marks = vec![0; count];
+    marks[0] = 1;
+    let mut archive = archive_bytes(&tree, &marks);
+    for_each_list(count, count as u8 + 1, |parents| {
+        for (node, &parent) in parents.iter().enumerate() {
+            archive[14 + 8 * node + 5] = parent;
+        }
+        visit(&archive);
+    });
 }
 
 /// A table of an accepted tree with so many nodes and that limit.

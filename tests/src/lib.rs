@@ -8,3 +8,4 @@ pub mod exhaustive;
 pub mod ffi;
 pub mod gen;
 pub mod model;
+pub mod rule_sheet;

@@ -48,7 +48,9 @@ fn random_archive(random: &mut Random, most: usize, limit: usize) -> (Vec<u8>, V
 fn small_archives() -> Vec<Vec<u8>> {
     let random = &mut Random::new(1001);
     let mut archives = vec![archive_of_e()];
-    archives.extend((0..8).map(|_| random_archive(random, 7, 12).1));
+    for limit in [12, 100] {
+        archives.extend((0..4).map(|_| random_archive(random, 7, limit).1));
+    }
     archives
 }
 
@@ -192,11 +194,24 @@ fn changed_archives() {
     let mut seen = Seen::default();
     for round in 0..40000 {
         let most = if round % 200 == 0 { 1024 } else { 6 };
-        let (_, archive) = random_archive(random, most, 12);
+        let limit = random.pick(&[12, 100]);
+        let (_, archive) = random_archive(random, most, limit);
         seen.add(read_archive(&changed_words(random, &archive)));
         seen.add(read_archive(&flipped(random, archive)));
     }
     seen.expect(&[0, 13], 1000);
+}
+
+/// As many parents are accepted as there are shapes.
+#[test]
+fn all_parents_of_one_page() {
+    for (count, shapes) in [(1, 1), (2, 1), (3, 2), (4, 5), (5, 14)] {
+        let mut accepted = 0;
+        for_each_parenting(count, |archive| {
+            accepted += usize::from(read_archive(archive).is_accepted());
+        });
+        assert_eq!(accepted, shapes);
+    }
 }
 
 /// Two page records or two node records change places.

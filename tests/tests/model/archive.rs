@@ -157,6 +157,24 @@ fn single_byte_changes() {
     }
 }
 
+/// Of all parents, those of the shapes are read.
+#[test]
+fn all_parents_of_one_page() {
+    for count in 1..=5 {
+        let mut accepted = vec![];
+        for_each_parenting(count, |archive| {
+            if read_back(archive).is_some() {
+                let parent = |node: usize| word(archive, 7 + 4 * node + 2);
+                accepted.push((0..count).map(parent).collect::<Parents>());
+            }
+        });
+        let mut told = all_parents(count);
+        accepted.sort();
+        told.sort();
+        assert_eq!(accepted, told);
+    }
+}
+
 #[test]
 fn archives_of_another_length() {
     let archive = archive_of_e();

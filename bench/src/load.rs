@@ -1,0 +1,105 @@
+//! The trees to plan: the same ones in each run.
+
+pub const NODES: usize = 1024;
+pub const LIMITS: [usize; 3] = [64, 256, 1024];
+
+#[derive(Clone, Copy)]
+pub enum Shape {
+    Flat,
+    /// Three levels below the root.
+    Bushy,
+    /// Long branches.
+    Deep,
+    Random,
+}
+
+pub const SHAPES: [Shape; 4] = [Shape::Flat, Shape::Bushy, Shape::Deep, Shape::Random];
+
+impl Shape {
+    pub fn name(self) -> &'static str {
+        match self {
+            Shape::Flat => "flat",
+            Shape::Bushy => "bushy",
+            Shape::Deep => "deep",
+            Shape::Random => "random",
+        }
+    }
+
+    /// The depth of the node after one of this depth, where node 1 has depth 0.
+    fn next_depth(self, depth: usize, draws: &mut Draws) -> usize {
+        match self {
+            Shape::Flat => 1,
+            Shape::Bushy => draws.up_to(3.min(depth + 1)),
+            Shape::Deep if draws.up_to(8) > 1 => depth + 1,
+            Shape::Deep | Shape::Random => draws.up_to(depth + 1),
+        }
+    }
+}
+
+/// A tree's table, and what it was made from.
+pub struct Load {
+    pub shape: Shape,
+    pub limit: usize,
+    /// Weights are 1 up to this.
+    pub heaviest: usize,
+    pub table: Vec<u8>,
+}
+
+/// Each shape and limit, with light weights and with weights up to a quarter of the limit.
+pub fn loads() -> Vec<Load> {
+    let mut list = vec![];
+    for shape in SHAPES {
+        for limit in LIMITS {
+            for heaviest in [3, limit / 4] {
+                list.push(Load {
+                    shape,
+                    limit,
+                    heaviest,
+                    table: table(shape, limit, heaviest),
+                });
+            }
+        }
+    }
+    list
+}
+
+/// A linear congruential generator; a draw is the upper half of its state.
+struct Draws(u32);
+
+impl Draws {
+    /// A number from 1 to `most`.
+    fn up_to(&mut self, most: usize) -> usize {
+        self.0 = self.0.wrapping_mul(1_664_525).wrapping_add(1_013_904_223);
+        1 + (self.0 >> 16) as usize % most
+    }
+}
+
+fn table(shape: Shape, limit: usize, heaviest: usize) -> Vec<u8> {
+    let mut draws = Draws(1);
+    let mut words = vec![NODES, limit];
+    // The newest node of each depth, the newest of all at the end.
+    let mut branch: Vec<usize> = vec![];
+    for node in 1..=NODES {
+        let depth = match branch.len() {
+            0 => 0,
+            length => shape.next_depth(length - 1, &mut draws),
+        };
+        match branch.get(depth) {
+            Some(&before) => words[link(before) + 1] = node,
+            None if depth > 0 => words[link(branch[depth - 1])] = node,
+            None => {}
+        }
+        branch.truncate(depth);
+        branch.push(node);
+        words.extend([draws.up_to(heaviest), node, 0, 0]);
+    }
+    words
+        .iter()
+        .flat_map(|&word| (word as u16).to_be_bytes())
+        .collect()
+}
+
+/// The index of a node's first child among the words; its next sibling follows.
+fn link(node: usize) -> usize {
+    2 + 4 * (node - 1) + 2
+}

@@ -1,0 +1,98 @@
+//! The four planners in plain Rust, each with all that the library's entry does: the tree is read
+//! and checked, the plan is made and judged, and the whole scratch is cleared.
+
+use crate::columns;
+use crate::planner::{scratch_words, Answer, Kind, Planner};
+use crate::tree::Tree;
+
+pub fn planner(kind: Kind) -> Planner {
+    match kind {
+        Kind::Single => |table, marks, scratch| plan(table, marks, scratch, single),
+        Kind::Pair => |table, marks, scratch| plan(table, marks, scratch, pair),
+        Kind::Level => |table, marks, scratch| plan(table, marks, scratch, columns::level),
+        Kind::Best => |table, marks, scratch| plan(table, marks, scratch, columns::best),
+    }
+}
+
+fn plan(
+    table: &[u8],
+    marks: &mut [u8],
+    scratch: &mut [u32],
+    lay: impl Fn(&Tree, &mut [u8], &mut [u32]),
+) -> Answer {
+    let tree = match Tree::read(table) {
+        Ok(tree) => tree,
+        Err(refusal) => return refusal,
+    };
+    if marks.len() != tree.count() {
+        return Answer::refused(8, tree.count());
+    }
+    let asked = scratch_words(tree.count(), tree.limit);
+    if scratch.len() < asked {
+        return Answer::refused(9, asked);
+    }
+    lay(&tree, marks, scratch);
+    scratch.fill(0);
+    tree.judge(marks)
+}
+
+fn single(tree: &Tree, marks: &mut [u8], _scratch: &mut [u32]) {
+    marks.fill(0);
+    let mut remainder = vec![0; tree.count() + 1];
+    for node in (1..=tree.count()).rev() {
+        let mut total = tree.weight[node];
+        let mut child = tree.first[node];
+        while child != 0 {
+            total += remainder[child];
+            child = tree.next[child];
+        }
+        while total as usize > tree.limit {
+            let heaviest = heaviest_child(tree, &remainder, node);
+            marks[heaviest - 1] = 1;
+            // With no remainder, it is not found again.
+            total -= std::mem::take(&mut remainder[heaviest]);
+        }
+        remainder[node] = total;
+    }
+    marks[0] = 1;
+}
+
+/// The earliest of the children with the heaviest remainder.
+fn heaviest_child(tree: &Tree, remainder: &[u32], node: usize) -> usize {
+    let mut heaviest = tree.first[node];
+    let mut child = heaviest;
+    while child != 0 {
+        if remainder[child] > remainder[heaviest] {
+            heaviest = child;
+        }
+        child = tree.next[child];
+    }
+    heaviest
+}
+
+fn pair(tree: &Tree, marks: &mut [u8], _scratch: &mut [u32]) {
+    let mut cut = vec![false; tree.count() + 1];
+    let mut remainder = vec![0; tree.count() + 1];
+    for node in (1..=tree.count()).rev() {
+        let (left, right) = (tree.first[node], tree.next[node]);
+        let mut total = tree.weight[node] + remainder[left] + remainder[right];
+        while total as usize > tree.limit {
+            let side = match remainder[left] >= remainder[right] {
+                true => left,
+                false => right,
+            };
+            cut[side] = true;
+            total -= std::mem::take(&mut remainder[side]);
+        }
+        remainder[node] = total;
+    }
+    cut[1] = true;
+    for node in 1..=tree.count() {
+        let before = tree.before[node];
+        marks[node - 1] = match cut[node] {
+            true => 1,
+            false if before == 0 || marks[before - 1] == 0 => 0,
+            false => 2,
+        };
+    }
+}

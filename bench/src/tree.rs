@@ -1,0 +1,133 @@
+//! A tree read from its table, and the figures of a plan.
+
+use crate::planner::Answer;
+
+const MOST: usize = 1024;
+
+/// Nodes by number; index 0 is no node, and a link of 0 leads nowhere.
+pub struct Tree {
+    pub limit: usize,
+    pub weight: Vec<u32>,
+    pub parent: Vec<usize>,
+    pub first: Vec<usize>,
+    pub last: Vec<usize>,
+    pub next: Vec<usize>,
+    pub before: Vec<usize>,
+}
+
+impl Tree {
+    pub fn count(&self) -> usize {
+        self.weight.len() - 1
+    }
+
+    /// The tree of a table, or refusals 1 to 7 in their order.
+    pub fn read(table: &[u8]) -> Result<Tree, Answer> {
+        let (count, limit) = read_head(table)?;
+        let column = |offset| {
+            let words = (0..count).map(move |index| word(table, 2 + 4 * index + offset));
+            std::iter::once(0).chain(words)
+        };
+        let mut tree = Tree {
+            limit,
+            weight: column(0).map(|weight| weight as u32).collect(),
+            first: column(2).collect(),
+            next: column(3).collect(),
+            parent: vec![0; count + 1],
+            last: vec![0; count + 1],
+            before: vec![0; count + 1],
+        };
+        if let Some(node) = tree.first_node(|weight| weight == 0) {
+            return Err(Answer::refused(5, node));
+        }
+        tree.walk().map_err(|met| Answer::refused(6, met))?;
+        if let Some(node) = tree.first_node(|weight| weight as usize > limit) {
+            return Err(Answer::refused(7, node));
+        }
+        Ok(tree)
+    }
+
+    fn first_node(&self, test: impl Fn(u32) -> bool) -> Option<usize> {
+        (1..=self.count()).find(|&node| test(self.weight[node]))
+    }
+
+    /// Walks the chains from node 1, child before sibling, and notes the links back. An error is
+    /// the place of a walk that fails.
+    fn walk(&mut self) -> Result<(), usize> {
+        if self.next[1] != 0 {
+            return Err(0);
+        }
+        let mut met = 0;
+        let mut pending = vec![(1, 0, 0)];
+        while let Some((node, parent, before)) = pending.pop() {
+            if node == 0 {
+                self.last[parent] = before;
+                continue;
+            }
+            if node != met + 1 || node > self.count() {
+                return Err(met);
+            }
+            met = node;
+            self.parent[node] = parent;
+            self.before[node] = before;
+            pending.push((self.next[node], parent, node));
+            pending.push((self.first[node], node, 0));
+        }
+        if met == self.count() {
+            Ok(())
+        } else {
+            Err(met)
+        }
+    }
+
+    /// The judge's answer for marks that are allowed and within the limit; panics at others, since
+    /// no planner makes them.
+    pub fn judge(&self, marks: &[u8]) -> Answer {
+        let mut page = vec![0; self.count() + 1];
+        let mut weights = vec![];
+        for node in 1..=self.count() {
+            page[node] = match marks[node - 1] {
+                0 if node > 1 => page[self.parent[node]],
+                1 => {
+                    weights.push(0);
+                    weights.len() - 1
+                }
+                2 if self.before[node] != 0 && marks[self.before[node] - 1] != 0 => {
+                    page[self.before[node]]
+                }
+                mark => panic!("node {node} has mark {mark}"),
+            };
+            weights[page[node]] += self.weight[node];
+        }
+        assert!(weights
+            .iter()
+            .all(|&weight| weight as usize <= self.limit));
+        Answer {
+            pages: weights.len() as u32,
+            root: weights[0],
+            ..Answer::default()
+        }
+    }
+}
+
+/// The words N and K, or refusals 1 to 4.
+fn read_head(table: &[u8]) -> Result<(usize, usize), Answer> {
+    if table.len() < 4 {
+        return Err(Answer::refused(1, 0));
+    }
+    let (count, limit) = (word(table, 0), word(table, 1));
+    if !(1..=MOST).contains(&count) {
+        return Err(Answer::refused(2, count));
+    }
+    if !(1..=MOST).contains(&limit) {
+        return Err(Answer::refused(3, limit));
+    }
+    let length = 4 + 8 * count;
+    if table.len() != length {
+        return Err(Answer::refused(4, length));
+    }
+    Ok((count, limit))
+}
+
+fn word(table: &[u8], index: usize) -> usize {
+    usize::from(u16::from_be_bytes([table[2 * index], table[2 * index + 1]]))
+}

@@ -1,0 +1,635 @@
+//! The printed rule sheet, docs/RULE-SHEET.txt: its form, its example, and that the reader written
+//! from it alone reads archives exactly as the model and, where it is linked, the library.
+
+use balduqen_tests::cases::{archive_of_e, case_e, MARKS_OF_E};
+use balduqen_tests::check::show;
+use balduqen_tests::exhaustive::for_each_plan;
+#[cfg(any(has_write_archive, has_read_archive))]
+use balduqen_tests::ffi;
+use balduqen_tests::gen::*;
+use balduqen_tests::model::{
+    self, archive_bytes, archive_length, judge, plan_best, read, scratch_length, word, Answer,
+    MAX_NODES,
+};
+use balduqen_tests::rule_sheet::{rebuild, Rebuilt};
+use std::collections::BTreeSet;
+
+const SHEET: &str = include_str!("../../docs/RULE-SHEET.txt");
+const LINES: usize = 60;
+const COLUMNS: usize = 80;
+
+/// An archive reader, of the model or of the library: archive, table, marks.
+type Reader = fn(&[u8], &mut [u8], &mut [u8]) -> Answer;
+/// An archive writer, of the model or of the library: table, marks, archive.
+type Writer = fn(&[u8], &[u8], &mut [u8]) -> Answer;
+/// Calls its argument with one archive after another.
+type Archives = fn(&mut dyn FnMut(&[u8]));
+
+#[test]
+fn form_of_the_sheets() {
+    assert!(SHEET.ends_with('\n'));
+    let lines: Vec<&str> = SHEET.split_terminator('\n').collect();
+    for line in &lines {
+        assert!(line.len() <= COLUMNS, "{line}");
+        assert!(line.bytes().all(|byte| (32..127).contains(&byte)), "{line}");
+    }
+    assert_eq!(lines.len() % LINES, 0);
+    let sheets = lines.len() / LINES;
+    for (number, sheet) in (1..).zip(lines.chunks(LINES)) {
+        let last = sheet[LINES - 1];
+        assert!(
+            last.ends_with(&format!(" Sheet {number} of {sheets}")),
+            "{last}"
+        );
+    }
+}
+
+/// The byte that two digits in base 16 print; none for anything else.
+fn byte_printed(text: &str) -> Option<u8> {
+    let is_two_digits = text.len() == 2 && text.bytes().all(|byte| byte.is_ascii_hexdigit());
+    is_two_digits.then(|| u8::from_str_radix(text, 16).expect("two digits in base 16"))
+}
+
+/// The lines of a place and some bytes, and the lines of two places, a word's bytes and the word:
+/// both give the archive that the model writes for case E and its best plan.
+#[test]
+fn bytes_of_the_example() {
+    let table = case_e().bytes();
+    let mut marks = [9; 6];
+    assert!(plan_best(&table, &mut marks, &mut vec![9; scratch_length(6, 5)]).is_accepted());
+    assert_eq!(marks, MARKS_OF_E);
+    let mut archive = [9; 78];
+    assert!(model::write_archive(&table, &marks, &mut archive).is_accepted());
+    assert_eq!(archive[..], archive_of_e());
+
+    let (mut in_lines, mut in_words) = (vec![], vec![]);
+    for line in SHEET.lines() {
+        let items: Vec<&str> = line.split_whitespace().collect();
+        if items.len() >= 2 && items[0].parse() == Ok(in_lines.len()) {
+            if let Some(bytes) = items[1..].iter().map(|item| byte_printed(item)).collect() {
+                let bytes: Vec<u8> = bytes;
+                in_lines.extend(bytes);
+            }
+        }
+        if items.len() >= 5 && items[0] == format!("{},", in_words.len()) {
+            assert_eq!(items[1].parse(), Ok(in_words.len() + 1), "{line}");
+            in_words.extend([items[2], items[3]].map(|item| byte_printed(item).expect(line)));
+            let place = in_words.len() / 2 - 1;
+            assert_eq!(items[4].parse(), Ok(word(&in_words, place)), "{line}");
+        }
+    }
+    assert_eq!(in_lines, archive);
+    assert_eq!(in_words, archive);
+}
+
+/// The lines of the example's two tables are on the sheet, one after another.
+#[test]
+fn tables_of_the_example() {
+    fn list(numbers: &[usize]) -> String {
+        let texts: Vec<String> = numbers.iter().map(usize::to_string).collect();
+        match numbers {
+            [] => "none".to_string(),
+            _ => texts.join(", "),
+        }
+    }
+    let told = rebuild(&archive_of_e()).expect("a sound archive");
+    let mut text = "    Node  Weight  Label  Parent  Mark  Page  Next node  Children\n".to_string();
+    for (n, node) in (1..).zip(&told.nodes) {
+        text += &format!(
+            "{n:>8}{:>8}{:>7}{:>8}{:>6}{:>6}{:>11}  {}\n",
+            node.weight,
+            node.label,
+            node.parent,
+            node.mark,
+            node.page,
+            node.next_node,
+            list(&node.children)
+        );
+    }
+    assert!(SHEET.contains(&text), "{text}");
+    let mut text = "    Page  First node  Last sibling  Weight  Next page  Nodes\n".to_string();
+    for (p, page) in (1..).zip(&told.pages) {
+        text += &format!(
+            "{p:>8}{:>12}{:>14}{:>8}{:>11}  {}\n",
+            page.first_node,
+            page.last_sibling,
+            page.weight,
+            page.next_page,
+            list(&page.nodes)
+        );
+    }
+    assert!(SHEET.contains(&text), "{text}");
+}
+
+/// The second example: one page, with marks 0.
+#[test]
+fn example_with_mark_0() {
+    let words: [u16; 23] = [
+        4, 5, 1, // N, K, P
+        1, 1, 5, 0, // page 1
+        2, 7, 0, 2, // node 1
+        1, 7, 1, 3, // node 2
+        1, 7, 1, 4, // node 3
+        1, 7, 1, 0, // node 4
+    ];
+    let archive: Vec<u8> = words.iter().flat_map(|word| word.to_be_bytes()).collect();
+    let told = rebuild(&archive).expect("a sound archive");
+    assert_eq!(marks_of(&told), [1, 0, 0, 0]);
+    assert_eq!(told.pages[0].nodes, [1, 2, 3, 4]);
+}
+
+/// Case E's archive with some words set anew.
+fn changed_e(changes: &[(usize, u16)]) -> Vec<u8> {
+    let mut archive = archive_of_e();
+    for &(place, value) in changes {
+        set_word(&mut archive, place, value);
+    }
+    archive
+}
+
+fn set_word(archive: &mut [u8], place: usize, value: u16) {
+    archive[2 * place..2 * place + 2].copy_from_slice(&value.to_be_bytes());
+}
+
+/// Each check of the sheet fails for some changes to case E that leave the checks before it holding.
+#[test]
+fn each_check_can_fail() {
+    // The place of a word in a record of case E's archive, the words of a record counted from 1.
+    let page = |p: usize, word: usize| 3 + 4 * (p - 1) + word - 1;
+    let node = |n: usize, word: usize| 3 + 4 * 3 + 4 * (n - 1) + word - 1;
+    let good = archive_of_e();
+    let mut seen = BTreeSet::new();
+    let mut fails = |number: u32, archive: &[u8]| {
+        assert_eq!(rebuild(archive), Err(number), "{}", show(archive));
+        assert!(!agree(archive, model::read_archive));
+        seen.insert(number);
+    };
+    fails(1, &[]);
+    fails(1, &good[..5]);
+    fails(2, &changed_e(&[(0, 0)]));
+    fails(2, &changed_e(&[(0, 1025)]));
+    fails(3, &changed_e(&[(1, 0)]));
+    fails(3, &changed_e(&[(1, 1025)]));
+    fails(4, &changed_e(&[(2, 0)]));
+    fails(4, &changed_e(&[(2, 7)]));
+    fails(5, &good[..6]);
+    fails(5, &good[..77]);
+    fails(5, &[&good[..], &[0]].concat());
+    fails(5, &changed_e(&[(0, 5)]));
+    fails(5, &changed_e(&[(2, 2)]));
+    fails(6, &changed_e(&[(node(3, 1), 0)]));
+    fails(6, &changed_e(&[(node(6, 1), 6)]));
+    fails(7, &changed_e(&[(node(1, 3), 1)]));
+    for (n, parent) in [(2, 0), (2, 2), (3, 3), (3, 4), (5, 2), (6, 2), (6, 7)] {
+        fails(8, &changed_e(&[(node(n, 3), parent)]));
+    }
+    fails(9, &changed_e(&[(page(1, 1), 0)]));
+    fails(9, &changed_e(&[(page(1, 1), 2)]));
+    fails(9, &changed_e(&[(page(1, 2), 2)]));
+    fails(10, &changed_e(&[(page(2, 1), 0)]));
+    fails(10, &changed_e(&[(page(2, 1), 1)]));
+    fails(10, &changed_e(&[(page(3, 1), 2)]));
+    fails(10, &changed_e(&[(page(3, 1), 7)]));
+    for last in [0, 1, 4, 5, 7] {
+        fails(11, &changed_e(&[(page(2, 2), last)]));
+    }
+    fails(12, &changed_e(&[(page(3, 1), 3), (page(3, 2), 6)]));
+    fails(12, &changed_e(&[(page(3, 1), 6), (page(3, 2), 6)]));
+    for (p, next) in [(1, 0), (1, 1), (1, 3), (2, 0), (3, 1), (3, 4)] {
+        fails(13, &changed_e(&[(page(p, 4), next)]));
+    }
+    fails(14, &changed_e(&[(page(1, 3), 4)]));
+    fails(14, &changed_e(&[(page(3, 3), 5)]));
+    fails(14, &changed_e(&[(node(2, 1), 3)]));
+    fails(15, &changed_e(&[(node(2, 1), 4), (page(2, 3), 6)]));
+    for (n, next) in [(1, 1), (1, 2), (2, 0), (2, 6), (3, 4), (5, 6), (6, 2)] {
+        fails(16, &changed_e(&[(node(n, 4), next)]));
+    }
+
+    let on_the_sheet: Vec<u32> = SHEET
+        .lines()
+        .filter_map(|line| {
+            let number = line.strip_prefix("Check ")?.split_whitespace().next()?;
+            number.parse().ok()
+        })
+        .collect();
+    assert_eq!(on_the_sheet, (1..=16).collect::<Vec<u32>>());
+    assert_eq!(seen.into_iter().collect::<Vec<u32>>(), on_the_sheet);
+}
+
+fn marks_of(told: &Rebuilt) -> Vec<u8> {
+    told.nodes.iter().map(|node| node.mark).collect()
+}
+
+/// The tree table of what the sheet gets back.
+fn table_of(told: &Rebuilt) -> Vec<u8> {
+    let mut next_sibling = vec![0; told.nodes.len() + 1];
+    for two in told.nodes.iter().flat_map(|node| node.children.windows(2)) {
+        next_sibling[two[0]] = two[1];
+    }
+    let mut words = vec![told.nodes.len(), told.limit];
+    for (n, node) in (1..).zip(&told.nodes) {
+        let first_child = node.children.first().copied().unwrap_or(0);
+        words.extend([node.weight, node.label, first_child, next_sibling[n]]);
+    }
+    let high_first = |word| u16::try_from(word).expect("a word").to_be_bytes();
+    words.into_iter().flat_map(high_first).collect()
+}
+
+/// What the sheet gets back is the model's tree, marks and pages of this table and plan.
+fn assert_told(told: &Rebuilt, table: &[u8], marks: &[u8], context: &[u8]) {
+    assert_eq!(table_of(told), table, "{}", show(context));
+    assert_eq!(marks_of(told), marks, "{}", show(context));
+    let tree = read(table).expect("an accepted table");
+    assert_eq!(told.limit, tree.limit as usize);
+    assert_eq!(told.nodes.len(), tree.node_count());
+    for (n, node) in (1..).zip(&told.nodes) {
+        assert_eq!(node.weight, tree.weights[n] as usize);
+        assert_eq!(node.label, tree.labels[n] as usize);
+        assert_eq!(node.parent, tree.parents[n]);
+        assert_eq!(node.children, tree.children[n]);
+        assert!(told.pages[node.page - 1].nodes.contains(&n));
+    }
+    let pages = model::pages(&tree, marks);
+    assert_eq!(told.pages.len(), pages.len());
+    for (told, page) in told.pages.iter().zip(&pages) {
+        assert_eq!(
+            (told.first_node, told.last_sibling),
+            (page.first, page.last)
+        );
+        assert_eq!(told.weight, page.weight as usize);
+        assert_eq!(told.nodes, page.nodes);
+        let in_run: Vec<usize> = page
+            .nodes
+            .iter()
+            .copied()
+            .filter(|&node| marks[node - 1] != 0)
+            .collect();
+        assert_eq!(told.run, in_run);
+    }
+}
+
+/// The sheet and the reader both accept the archive, with the same tree, marks, pages and weights,
+/// or neither does. True where they accept.
+fn agree(archive: &[u8], reader: Reader) -> bool {
+    // Buffers of the right length for all archives that can be accepted.
+    let count = match archive.len() < 2 {
+        true => 0,
+        false => word(archive, 0).min(MAX_NODES),
+    };
+    let (mut table, mut marks) = (vec![7; 4 + 8 * count], vec![7; count]);
+    let answer = reader(archive, &mut table, &mut marks);
+    match rebuild(archive) {
+        Ok(told) => {
+            let verdict = Answer::accepted(told.pages.len(), told.pages[0].weight as u32);
+            assert_eq!(answer, verdict, "{}", show(archive));
+            assert_told(&told, &table, &marks, archive);
+            true
+        }
+        Err(check) => {
+            let refusal = Answer::refused(13, 0);
+            assert_eq!(answer, refusal, "check {check}: {}", show(archive));
+            false
+        }
+    }
+}
+
+/// Sheet and reader agree on all these archives, of which at least so many are accepted and so many
+/// are not.
+fn agree_on(archives: Archives, reader: Reader, accepted: usize, refused: usize) {
+    let mut seen = [0, 0];
+    archives(&mut |archive| seen[usize::from(agree(archive, reader))] += 1);
+    assert!(seen[1] >= accepted && seen[0] >= refused, "{seen:?}");
+}
+
+/// A table and a feasible plan, of at most so many nodes and that limit.
+fn random_table_and_plan(random: &mut Random, most: usize, limit: usize) -> (Vec<u8>, Vec<u8>) {
+    let table = any_table(random, most, limit).bytes();
+    let tree = read(&table).expect("an accepted table");
+    let marks = feasible_plan(random, &tree);
+    (table, marks)
+}
+
+fn random_archive(random: &mut Random, most: usize, limit: usize) -> Vec<u8> {
+    let (table, marks) = random_table_and_plan(random, most, limit);
+    archive_bytes(&read(&table).expect("an accepted table"), &marks)
+}
+
+/// Case E and some random ones, of up to seven nodes.
+fn small_archives() -> Vec<Vec<u8>> {
+    let random = &mut Random::new(2001);
+    let mut archives = vec![archive_of_e()];
+    archives.extend((0..8).map(|_| random_archive(random, 7, 12)));
+    archives
+}
+
+/// All plans of small trees, feasible or not, and plans of trees that are refused for weight.
+fn archives_of_all_plans(visit: &mut dyn FnMut(&[u8])) {
+    for_each_table(1..=5, &[1, 2], &[2, 3, 4], |table| {
+        let mut tree = read(table).expect("an accepted table");
+        for_each_plan(&tree, |marks| visit(&archive_bytes(&tree, marks)));
+        tree.limit = 1;
+        visit(&archive_bytes(&tree, &vec![1; tree.node_count()]));
+    });
+}
+
+fn random_archives(visit: &mut dyn FnMut(&[u8])) {
+    let random = &mut Random::new(2002);
+    for round in 0..2000 {
+        let most = if round % 50 == 0 { MAX_NODES } else { 30 };
+        let limit = random.pick(&[10, 60, 1024]);
+        visit(&random_archive(random, most, limit));
+    }
+}
+
+/// Archives of 1,024 nodes with limit 1,024, and the same with a word or some changed.
+fn largest_archives(visit: &mut dyn FnMut(&[u8])) {
+    let random = &mut Random::new(2003);
+    for form in FORMS {
+        let table = random_table(random, form, 1024, 1024).bytes();
+        let tree = read(&table).expect("an accepted table");
+        for marks in [vec![1; 1024], feasible_plan(random, &tree)] {
+            let archive = archive_bytes(&tree, &marks);
+            visit(&archive);
+            for _ in 0..10 {
+                visit(&changed_words(random, &archive));
+            }
+        }
+    }
+}
+
+fn single_byte_changes(visit: &mut dyn FnMut(&[u8])) {
+    for archive in small_archives() {
+        for place in 0..archive.len() {
+            for value in 0..=255 {
+                let mut changed = archive.clone();
+                changed[place] = value;
+                visit(&changed);
+            }
+        }
+    }
+}
+
+fn other_lengths(visit: &mut dyn FnMut(&[u8])) {
+    let random = &mut Random::new(2004);
+    for archive in small_archives() {
+        for length in 0..archive.len() {
+            visit(&archive[..length]);
+        }
+        for more in 1..=24 {
+            visit(&[&archive[..], &vec![0; more]].concat());
+            visit(&[&archive[..], &random.bytes(more)].concat());
+        }
+    }
+}
+
+/// Sets one to three words to small values, so that two changes can make good for each other.
+fn changed_words(random: &mut Random, archive: &[u8]) -> Vec<u8> {
+    let mut changed = archive.to_vec();
+    for _ in 0..random.between(1, 3) {
+        let place = random.between(0, archive.len() / 2 - 1);
+        let near = (word(archive, place) + random.between(0, 2)).saturating_sub(1);
+        let any = random.between(0, word(archive, 0) + 1);
+        let value = random.pick(&[near, any, 0]).min(65535) as u16;
+        set_word(&mut changed, place, value);
+    }
+    changed
+}
+
+/// Changed words, flipped bits and records that changed places.
+fn changed_archives(visit: &mut dyn FnMut(&[u8])) {
+    let random = &mut Random::new(2005);
+    for round in 0..20000 {
+        let most = if round % 500 == 0 { MAX_NODES } else { 6 };
+        let archive = random_archive(random, most, 12);
+        visit(&changed_words(random, &archive));
+        let mut exchanged = archive.clone();
+        let records = archive.len() / 8;
+        let (first, second) = (
+            random.between(0, records - 1),
+            random.between(0, records - 1),
+        );
+        for byte in 0..8 {
+            exchanged.swap(6 + 8 * first + byte, 6 + 8 * second + byte);
+        }
+        visit(&exchanged);
+        visit(&flipped(random, archive));
+    }
+}
+
+/// All archives of one page and up to five nodes whose parents are 0 to one above the count, with
+/// everything else as it should be.
+fn all_parent_words(visit: &mut dyn FnMut(&[u8])) {
+    for count in 1..=5 {
+        let table = Table::new(9, &all_parents(count)[0], &vec![1; count]).bytes();
+        let marks = [&[1][..], &vec![0; count - 1]].concat();
+        let mut archive = archive_bytes(&read(&table).expect("an accepted table"), &marks);
+        let values = count + 2;
+        for mut code in 0..values.pow(count as u32) {
+            for node in 0..count {
+                set_word(&mut archive, 3 + 4 + 4 * node + 2, (code % values) as u16);
+                code /= values;
+            }
+            visit(&archive);
+        }
+    }
+}
+
+/// Small archives with one end of a run moved, and with the weights and next nodes that are right
+/// for the new runs where these are runs and share no node.
+fn changed_runs(visit: &mut dyn FnMut(&[u8])) {
+    let random = &mut Random::new(2006);
+    for _ in 0..20000 {
+        let (table, marks) = random_table_and_plan(random, 7, 20);
+        let tree = read(&table).expect("an accepted table");
+        let mut runs: Vec<[usize; 2]> = model::pages(&tree, &marks)
+            .iter()
+            .map(|page| [page.first, page.last])
+            .collect();
+        let (run, end) = (random.between(0, runs.len() - 1), random.between(0, 1));
+        runs[run][end] = random.between(1, tree.node_count());
+
+        // Of two runs with the same node, the later one has it.
+        let mut run_of = vec![None; tree.node_count() + 1];
+        for (page, &[first, last]) in runs.iter().enumerate() {
+            let is_sibling = |&node: &usize| tree.parents[node] == tree.parents[first];
+            for node in (first..=last).filter(is_sibling) {
+                run_of[node] = Some(page);
+            }
+        }
+        let mut page_of = vec![0; tree.node_count() + 1];
+        let mut weights = vec![0; runs.len()];
+        let mut newest = vec![0; runs.len()];
+        let mut next = vec![0; tree.node_count() + 1];
+        for node in tree.nodes() {
+            let page = run_of[node].unwrap_or(page_of[tree.parents[node]]);
+            page_of[node] = page;
+            weights[page] += tree.weights[node] as u16;
+            next[newest[page]] = node as u16;
+            newest[page] = node;
+        }
+
+        let mut archive = archive_bytes(&tree, &marks);
+        for (page, &[first, last]) in runs.iter().enumerate() {
+            let record = 3 + 4 * page;
+            set_word(&mut archive, record, first as u16);
+            set_word(&mut archive, record + 1, last as u16);
+            set_word(&mut archive, record + 2, weights[page]);
+        }
+        for node in tree.nodes() {
+            let record = 3 + 4 * runs.len() + 4 * (node - 1);
+            set_word(&mut archive, record + 3, next[node]);
+        }
+        visit(&archive);
+    }
+}
+
+/// Heads with counts at or near the ends, and the lengths that they ask for.
+fn heads(visit: &mut dyn FnMut(&[u8])) {
+    let values: [u16; 8] = [0, 1, 2, 3, 1023, 1024, 1025, 65535];
+    for nodes in values {
+        for limit in values {
+            for pages in values {
+                let words = [nodes, limit, pages];
+                let head: Vec<u8> = words.iter().flat_map(|word| word.to_be_bytes()).collect();
+                let asked = 8 * usize::from(nodes) + 8 * usize::from(pages);
+                for length in [0, 1, 8, asked] {
+                    visit(&[&head[..], &vec![0; length]].concat());
+                }
+            }
+        }
+    }
+}
+
+/// Archives with one number of the head just outside its limits and all else as it should be, and
+/// some with the number just inside.
+fn around_the_limits(visit: &mut dyn FnMut(&[u8])) {
+    let flat = Table::new(1024, &[&[0][..], &[1; 1023]].concat(), &[1; 1024]);
+    let mut tree = read(&flat.bytes()).expect("an accepted table");
+    visit(&archive_bytes(&tree, &[1; 1024]));
+    visit(&archive_bytes(&tree, &[&[1][..], &[0; 1023]].concat()));
+    tree.weights.push(1);
+    tree.labels.push(1);
+    tree.parents.push(1);
+    tree.children[1].push(1025);
+    tree.children.push(vec![]);
+    tree.before.push(Some(1024));
+    tree.after[1024] = Some(1025);
+    tree.after.push(None);
+    visit(&archive_bytes(&tree, &[1; 1025]));
+    visit(&archive_bytes(&tree, &[&[1, 1][..], &[0; 1023]].concat()));
+
+    for limit in [1023, 1024, 1025] {
+        visit(&changed_e(&[(1, limit)]));
+    }
+    let mut tree = read(&case_e().bytes()).expect("an accepted table");
+    for limit in [4, 5] {
+        tree.limit = limit;
+        visit(&archive_bytes(&tree, &MARKS_OF_E));
+    }
+
+    // No pages, and then no nodes either.
+    let no_pages = [&[0, 6, 0, 5, 0, 0][..], &archive_of_e()[30..]].concat();
+    visit(&no_pages);
+    visit(&[0, 0, 0, 5, 0, 0]);
+    // No nodes, but a page record.
+    visit(&[0, 0, 0, 5, 0, 1, 0, 1, 0, 1, 0, 0, 0, 0]);
+}
+
+/// What a writer makes of tables and plans is sound by the sheet, which gets both back.
+fn gets_back_what_is_written_by(writer: Writer) {
+    let random = &mut Random::new(2007);
+    for round in 0..1000 {
+        let most = if round % 50 == 0 { MAX_NODES } else { 30 };
+        let limit = random.pick(&[10, 60, 1024]);
+        let (table, marks) = random_table_and_plan(random, most, limit);
+        let verdict = judge(&table, &marks);
+        let mut archive = vec![7; archive_length(verdict.pages as usize, marks.len())];
+        assert_eq!(writer(&table, &marks, &mut archive), verdict);
+        let told = rebuild(&archive).expect("a sound archive");
+        assert_told(&told, &table, &marks, &archive);
+    }
+}
+
+macro_rules! tests_of_reader {
+    ($reader:expr) => {
+        #[test]
+        fn agree_on_all_plans() {
+            agree_on(archives_of_all_plans, $reader, 10000, 10000);
+        }
+
+        #[test]
+        fn agree_on_random_archives() {
+            agree_on(random_archives, $reader, 2000, 0);
+        }
+
+        #[test]
+        fn agree_on_largest_archives() {
+            agree_on(largest_archives, $reader, 10, 50);
+        }
+
+        #[test]
+        fn agree_on_single_byte_changes() {
+            agree_on(single_byte_changes, $reader, 10000, 10000);
+        }
+
+        #[test]
+        fn agree_on_other_lengths() {
+            agree_on(other_lengths, $reader, 0, 500);
+        }
+
+        #[test]
+        fn agree_on_changed_archives() {
+            agree_on(changed_archives, $reader, 1000, 10000);
+        }
+
+        // There are 1, 1, 2, 5 and 14 trees of one to five nodes.
+        #[test]
+        fn agree_on_all_parent_words() {
+            agree_on(all_parent_words, $reader, 23, 10000);
+        }
+
+        #[test]
+        fn agree_on_changed_runs() {
+            agree_on(changed_runs, $reader, 1000, 1000);
+        }
+
+        #[test]
+        fn agree_on_heads() {
+            agree_on(heads, $reader, 0, 1000);
+        }
+
+        #[test]
+        fn agree_around_the_limits() {
+            agree_on(around_the_limits, $reader, 5, 7);
+        }
+    };
+}
+
+mod with_model {
+    use super::*;
+
+    tests_of_reader!(model::read_archive);
+
+    #[test]
+    fn gets_back_what_is_written() {
+        gets_back_what_is_written_by(model::write_archive);
+    }
+}
+
+#[cfg(has_read_archive)]
+mod with_reader_of_library {
+    use super::*;
+
+    tests_of_reader!(ffi::read_archive);
+}
+
+#[cfg(has_write_archive)]
+mod with_writer_of_library {
+    use super::*;
+
+    #[test]
+    fn gets_back_what_is_written() {
+        gets_back_what_is_written_by(ffi::write_archive);
+    }
+}

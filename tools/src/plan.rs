@@ -1,0 +1,273 @@
+//! A plan and its pages. It comes as a mark a node, or as the page program writes it.
+
+use crate::text::read_number;
+use crate::tree::Tree;
+
+/// A page: its run from first node to last sibling, and the weight of all its nodes.
+#[derive(Clone, Debug, PartialEq, Eq)]
+pub struct Page {
+    pub first: usize,
+    pub last: usize,
+    pub weight: u32,
+}
+
+#[derive(Clone, Debug, PartialEq, Eq)]
+pub struct Plan {
+    marks: Vec<u8>,
+    page_of: Vec<usize>,
+    /// Page 1 first.
+    pub pages: Vec<Page>,
+}
+
+impl Plan {
+    /// The plan of these marks, each 0, 1 or 2, if they are allowed. A page may weigh over the limit.
+    pub fn new(tree: &Tree, marks: Vec<u8>) -> Result<Plan, String> {
+        if marks.len() != tree.count() {
+            let (given, wanted) = (marks.len(), tree.count());
+            return Err(format!("{given} marks for a tree of {wanted} nodes"));
+        }
+        let mut plan = Plan {
+            marks,
+            page_of: vec![],
+            pages: vec![],
+        };
+        for number in tree.numbers() {
+            plan.check(tree, number)?;
+            plan.place(tree, number);
+        }
+        Ok(plan)
+    }
+
+    pub fn mark(&self, number: usize) -> u8 {
+        self.marks[number - 1]
+    }
+
+    pub fn page_of(&self, number: usize) -> usize {
+        self.page_of[number - 1]
+    }
+
+    pub fn page(&self, page: usize) -> &Page {
+        &self.pages[page - 1]
+    }
+
+    fn check(&self, tree: &Tree, number: usize) -> Result<(), String> {
+        let mark = self.mark(number);
+        let before = tree.node(number).before;
+        let reason = match mark {
+            0 | 2 if number == 1 => "the root begins a run and has 1",
+            2 if before == 0 => "there is no sibling before it",
+            2 if self.mark(before) == 0 => "the sibling before it is in no run",
+            _ => return Ok(()),
+        };
+        Err(format!("node {number} has mark {mark}: {reason}"))
+    }
+
+    /// Puts the node on its page. Its parent and the sibling before it have been placed.
+    fn place(&mut self, tree: &Tree, number: usize) {
+        let node = tree.node(number);
+        let page = match self.mark(number) {
+            0 => self.page_of(node.parent),
+            1 => {
+                self.pages.push(Page {
+                    first: number,
+                    last: number,
+                    weight: 0,
+                });
+                self.pages.len()
+            }
+            _ => {
+                let page = self.page_of(node.before);
+                self.pages[page - 1].last = number;
+                page
+            }
+        };
+        self.page_of.push(page);
+        self.pages[page - 1].weight += node.weight;
+    }
+}
+
+pub fn read(tree: &Tree, text: &str) -> Result<Plan, String> {
+    let text = text.trim_end();
+    match text.split_whitespace().next() {
+        None => Err("the plan is empty".to_string()),
+        Some("pages") => read_listing(tree, text),
+        Some("refused") => Err(format!("there is no plan: {text}")),
+        Some(_) => read_marks(tree, text),
+    }
+}
+
+fn read_marks(tree: &Tree, text: &str) -> Result<Plan, String> {
+    let mark = |word| read_number("mark", word, 0..=2).map(|mark| mark as u8);
+    let marks: Result<Vec<u8>, String> = text.split_whitespace().map(mark).collect();
+    Plan::new(tree, marks?)
+}
+
+/// The runs give the marks, and the marks the plan. The listing must then be that plan's, since one
+/// made for another tree would draw a wrong picture.
+fn read_listing(tree: &Tree, text: &str) -> Result<Plan, String> {
+    let mut marks = vec![0; tree.count()];
+    let mut listed = vec![];
+    let mut head = [0; 3];
+    for (line, place) in text.lines().zip(1..) {
+        let at = |fault| format!("line {place}: {fault}");
+        if place == 1 {
+            head = read_figures(line, ["pages", "root", "limit"]).map_err(at)?;
+            continue;
+        }
+        let figures = read_figures(line, ["page", "first", "last", "weight"]).map_err(at)?;
+        let [_, first, last, _] = figures;
+        mark_run(tree, &mut marks, first as usize, last as usize).map_err(at)?;
+        listed.push(figures);
+    }
+    let plan = Plan::new(tree, marks)?;
+    compare(tree, &plan, head, &listed)?;
+    Ok(plan)
+}
+
+/// The numbers of a line that has a number after each of these names.
+fn read_figures<const N: usize>(line: &str, names: [&str; N]) -> Result<[u32; N], String> {
+    let words: Vec<&str> = line.split_whitespace().collect();
+    let named = words.iter().step_by(2).eq(names.iter());
+    if words.len() != 2 * N || !named {
+        let form = names.map(|name| format!("{name} ..")).join(" ");
+        return Err(format!("{line:?} is not of the form '{form}'"));
+    }
+    let mut figures = [0; N];
+    for (index, name) in names.into_iter().enumerate() {
+        figures[index] = read_number(name, words[2 * index + 1], 0..=u32::MAX)?;
+    }
+    Ok(figures)
+}
+
+/// Marks the run from its last sibling back to its first node.
+fn mark_run(tree: &Tree, marks: &mut [u8], first: usize, last: usize) -> Result<(), String> {
+    let mut number = last;
+    loop {
+        if number == 0 || number > tree.count() {
+            return Err(format!("nodes {first} to {last} are no run of siblings"));
+        }
+        if marks[number - 1] != 0 {
+            return Err(format!("node {number} is in two runs"));
+        }
+        if number == first {
+            marks[number - 1] = 1;
+            return Ok(());
+        }
+        marks[number - 1] = 2;
+        number = tree.node(number).before;
+    }
+}
+
+fn compare(tree: &Tree, plan: &Plan, head: [u32; 3], listed: &[[u32; 4]]) -> Result<(), String> {
+    let right = [plan.pages.len() as u32, plan.page(1).weight, tree.limit];
+    if head != right {
+        let [pages, root, limit] = right;
+        return Err(format!(
+            "line 1: for this table it is 'pages {pages} root {root} limit {limit}'"
+        ));
+    }
+    for ((figures, page), number) in listed.iter().zip(&plan.pages).zip(1..) {
+        let Page {
+            first,
+            last,
+            weight,
+        } = *page;
+        if *figures != [number, first as u32, last as u32, weight] {
+            return Err(format!(
+                "line {}: for this table it is 'page {number} first {first} last {last} weight {weight}'",
+                number + 1
+            ));
+        }
+    }
+    Ok(())
+}
+
+#[cfg(test)]
+mod tests {
+    use super::*;
+    use crate::tree::tests::case_e;
+
+    const E: &str = include_str!("../samples/e.plan");
+
+    fn page(first: usize, last: usize, weight: u32) -> Page {
+        Page {
+            first,
+            last,
+            weight,
+        }
+    }
+
+    fn fault(text: &str) -> String {
+        read(&case_e(), text).expect_err(text)
+    }
+
+    /// The listing of case E with another text in one place.
+    fn changed(from: &str, to: &str) -> String {
+        assert_eq!(E.matches(from).count(), 1, "{from}");
+        fault(&E.replace(from, to))
+    }
+
+    #[test]
+    fn case_e_both_ways() {
+        let plan = read(&case_e(), "1 1 2 1 2 2\n").unwrap();
+        assert_eq!(plan.pages, [page(1, 1, 5), page(2, 6, 4), page(4, 5, 4)]);
+        assert_eq!(plan.page_of, [1, 2, 2, 3, 3, 2]);
+        assert_eq!(read(&case_e(), E), Ok(plan));
+    }
+
+    #[test]
+    fn nodes_that_stay_weigh_on_the_page() {
+        let plan = read(&case_e(), "1 1 1 0 0 1").unwrap();
+        let pages = [page(1, 1, 5), page(2, 2, 2), page(3, 3, 5), page(6, 6, 1)];
+        assert_eq!(plan.pages, pages);
+        let heavy = read(&case_e(), "1 0 0 0 0 0").unwrap();
+        assert_eq!(heavy.pages, [page(1, 1, 13)]);
+    }
+
+    #[test]
+    fn bad_marks() {
+        assert_eq!(fault(" \n"), "the plan is empty");
+        assert_eq!(
+            fault("refused 7 at 1\n"),
+            "there is no plan: refused 7 at 1"
+        );
+        assert_eq!(fault("1 1 1 1 1"), "5 marks for a tree of 6 nodes");
+        assert_eq!(fault("1 1 3 1 1 1"), "mark 3 is not in 0 to 2");
+        assert_eq!(fault("1 1 x 1 1 1"), "mark \"x\" is not a number");
+        let root = "node 1 has mark 0: the root begins a run and has 1";
+        assert_eq!(fault("0 1 1 1 1 1"), root);
+        let first = "node 2 has mark 2: there is no sibling before it";
+        assert_eq!(fault("1 2 0 0 0 0"), first);
+        let apart = "node 3 has mark 2: the sibling before it is in no run";
+        assert_eq!(fault("1 0 2 0 0 0"), apart);
+    }
+
+    #[test]
+    fn bad_listings() {
+        let form = "line 2: \"page 1\" is not of the form 'page .. first .. last .. weight ..'";
+        assert_eq!(fault("pages 1 root 5 limit 5\npage 1\n"), form);
+        let number = "line 3: last \"x\" is not a number";
+        assert_eq!(changed("last 6", "last x"), number);
+        let cousins = "line 3: nodes 2 to 5 are no run of siblings";
+        assert_eq!(changed("last 6", "last 5"), cousins);
+        let beyond = "line 3: nodes 2 to 7 are no run of siblings";
+        assert_eq!(changed("last 6", "last 7"), beyond);
+        let back = "line 4: nodes 5 to 4 are no run of siblings";
+        assert_eq!(changed("first 4 last 5", "first 5 last 4"), back);
+        let twice = "line 4: node 6 is in two runs";
+        assert_eq!(changed("first 4 last 5", "first 6 last 6"), twice);
+    }
+
+    #[test]
+    fn listings_of_another_table() {
+        let head = "line 1: for this table it is 'pages 3 root 5 limit 5'";
+        assert_eq!(changed("limit 5", "limit 6"), head);
+        assert_eq!(changed("root 5", "root 4"), head);
+        assert_eq!(changed("pages 3", "pages 4"), head);
+        let second = "line 3: for this table it is 'page 2 first 2 last 6 weight 4'";
+        assert_eq!(changed("last 6 weight 4", "last 6 weight 5"), second);
+        assert_eq!(changed("page 2", "page 3"), second);
+        let short = "line 1: for this table it is 'pages 2 root 5 limit 5'";
+        assert_eq!(changed("page 3 first 4 last 5 weight 4\n", ""), short);
+    }
+}

@@ -1,0 +1,197 @@
+//! A tree as an indented text: `limit K`, then a node a line, `weight label`, two spaces a level.
+//! Blank lines are passed over.
+
+use crate::tree::{Tree, LABELS, LIMITS, MAX_NODES, WEIGHTS};
+use std::ops::RangeInclusive;
+
+pub fn read(text: &str) -> Result<Tree, String> {
+    let mut found = None;
+    for (line, place) in text.lines().zip(1..) {
+        read_line(&mut found, line).map_err(|fault| format!("line {place}: {fault}"))?;
+    }
+    let end = text.lines().count() + 1;
+    match found {
+        None => Err(format!("line {end}: 'limit K' is missing")),
+        Some(tree) if tree.count() == 0 => Err(format!("line {end}: the root is missing")),
+        Some(tree) => Ok(tree),
+    }
+}
+
+pub fn write(tree: &Tree) -> String {
+    let mut text = format!("limit {}\n", tree.limit);
+    for number in tree.numbers() {
+        let node = tree.node(number);
+        let indent = "  ".repeat(node.depth);
+        text += &format!("{indent}{} {}\n", node.weight, node.label);
+    }
+    text
+}
+
+/// The first line that is not blank has the limit, and each later one a node.
+fn read_line(found: &mut Option<Tree>, line: &str) -> Result<(), String> {
+    if line.contains('\t') {
+        return Err("a tab; indent and separate with spaces".to_string());
+    }
+    let words: Vec<&str> = line.split(' ').filter(|word| !word.is_empty()).collect();
+    if words.is_empty() {
+        return Ok(());
+    }
+    let indent = line.len() - line.trim_start_matches(' ').len();
+    match found {
+        None => *found = Some(Tree::new(read_limit(indent, &words)?)),
+        Some(tree) => add_node(tree, indent, &words)?,
+    }
+    Ok(())
+}
+
+fn read_limit(indent: usize, words: &[&str]) -> Result<u32, String> {
+    match words {
+        ["limit", limit] if indent == 0 => read_number("limit", limit, LIMITS),
+        _ => Err("the first line is 'limit K', with no indent".to_string()),
+    }
+}
+
+fn add_node(tree: &mut Tree, indent: usize, words: &[&str]) -> Result<(), String> {
+    let depth = read_depth(tree, indent)?;
+    let &[weight, label] = words else {
+        return Err("a node is two numbers, 'weight label'".to_string());
+    };
+    let weight = read_number("weight", weight, WEIGHTS)?;
+    let label = read_number("label", label, LABELS)?;
+    if tree.count() == MAX_NODES {
+        return Err(format!("too many nodes; a table has at most {MAX_NODES}"));
+    }
+    tree.add(depth, weight, label);
+    Ok(())
+}
+
+fn read_depth(tree: &Tree, indent: usize) -> Result<usize, String> {
+    if indent % 2 == 1 {
+        return Err(format!("indent of {indent}; a level is 2 spaces"));
+    }
+    let depth = indent / 2;
+    let Some(last) = tree.numbers().last() else {
+        return match depth {
+            0 => Ok(0),
+            _ => Err("the root has no indent".to_string()),
+        };
+    };
+    let most = tree.node(last).depth + 1;
+    match depth {
+        0 => Err("a second root; every node but the first is indented".to_string()),
+        _ if depth > most => Err(format!(
+            "indent of {indent}; after the node above it is at most {}",
+            2 * most
+        )),
+        _ => Ok(depth),
+    }
+}
+
+/// Digits only: Rust's own reading would take a plus sign.
+pub fn read_number(name: &str, word: &str, range: RangeInclusive<u32>) -> Result<u32, String> {
+    if word.is_empty() || !word.bytes().all(|byte| byte.is_ascii_digit()) {
+        return Err(format!("{name} {word:?} is not a number"));
+    }
+    // What is too long to be read is out of every range.
+    let number = word.parse().ok().filter(|number| range.contains(number));
+    let (least, most) = (range.start(), range.end());
+    number.ok_or_else(|| format!("{name} {word} is not in {least} to {most}"))
+}
+
+#[cfg(test)]
+mod tests {
+    use super::*;
+    use crate::tree::tests::{case_e, random_tree};
+
+    const E: &str = include_str!("../samples/e.txt");
+
+    fn fault(text: &str) -> String {
+        read(text).expect_err(text)
+    }
+
+    #[test]
+    fn case_e_both_ways() {
+        assert_eq!(read(E), Ok(case_e()));
+        assert_eq!(write(&case_e()), E);
+    }
+
+    #[test]
+    fn reads_what_it_writes() {
+        for seed in 0..200 {
+            let tree = random_tree(seed, 1 + seed as usize % 70);
+            assert_eq!(read(&write(&tree)), Ok(tree));
+        }
+    }
+
+    #[test]
+    fn blanks_make_no_difference() {
+        let loose = "\nlimit  5 \r\n5 01\r\n\r\n  2   2\n  1 3  \n    2 4\n    2 5\n  1 6\n \n";
+        assert_eq!(read(loose), Ok(case_e()));
+        assert_eq!(read(E.trim_end()), Ok(case_e()));
+    }
+
+    #[test]
+    fn bad_limits() {
+        assert_eq!(fault(""), "line 1: 'limit K' is missing");
+        assert_eq!(fault("limit 0\n1 1"), "line 1: limit 0 is not in 1 to 1024");
+        assert_eq!(
+            fault("limit 1025"),
+            "line 1: limit 1025 is not in 1 to 1024"
+        );
+        assert_eq!(fault("limit x"), "line 1: limit \"x\" is not a number");
+        let first = "line 1: the first line is 'limit K', with no indent";
+        assert_eq!(fault("5 1\nlimit 5"), first);
+        assert_eq!(fault("  limit 5"), first);
+        assert_eq!(fault("limit 5 5"), first);
+    }
+
+    #[test]
+    fn bad_numbers() {
+        let node = |line: &str| fault(&format!("limit 5\n1 1\n{line}\n"));
+        assert_eq!(node("  x 1"), "line 3: weight \"x\" is not a number");
+        assert_eq!(node("  1 +1"), "line 3: label \"+1\" is not a number");
+        assert_eq!(node("  1 -1"), "line 3: label \"-1\" is not a number");
+        assert_eq!(node("  0 1"), "line 3: weight 0 is not in 1 to 65535");
+        assert_eq!(
+            node("  65536 1"),
+            "line 3: weight 65536 is not in 1 to 65535"
+        );
+        assert_eq!(
+            node("  1 65536"),
+            "line 3: label 65536 is not in 0 to 65535"
+        );
+        let long = "99999999999999999999";
+        let wanted = format!("line 3: label {long} is not in 0 to 65535");
+        assert_eq!(node(&format!("  1 {long}")), wanted);
+        let two = "line 3: a node is two numbers, 'weight label'";
+        assert_eq!(node("  1"), two);
+        assert_eq!(node("  1 1 1"), two);
+    }
+
+    #[test]
+    fn bad_indents() {
+        let node = |line: &str| fault(&format!("limit 5\n1 1\n\n{line}\n"));
+        assert_eq!(node(" 1 2"), "line 4: indent of 1; a level is 2 spaces");
+        assert_eq!(
+            node("    1 2"),
+            "line 4: indent of 4; after the node above it is at most 2"
+        );
+        let tab = "line 4: a tab; indent and separate with spaces";
+        assert_eq!(node("\t1 2"), tab);
+        assert_eq!(node("  1\t2"), tab);
+        assert_eq!(
+            node("1 2"),
+            "line 4: a second root; every node but the first is indented"
+        );
+        assert_eq!(fault("limit 5\n  1 1"), "line 2: the root has no indent");
+        assert_eq!(fault("limit 5\n"), "line 2: the root is missing");
+    }
+
+    #[test]
+    fn node_limit() {
+        let most = format!("limit 5\n1 1\n{}", "  1 1\n".repeat(MAX_NODES - 1));
+        assert_eq!(read(&most).map(|tree| tree.count()), Ok(MAX_NODES));
+        let wanted = "line 1026: too many nodes; a table has at most 1024";
+        assert_eq!(fault(&(most + "  1 1\n")), wanted);
+    }
+}

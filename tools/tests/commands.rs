@@ -1,0 +1,70 @@
+//! The commands as they are called: what they write, and how they end on bad input.
+
+use std::io::Write;
+use std::process::{Command, Output, Stdio};
+
+/// Runs a command in the samples' folder with this standard input.
+fn tree(words: &[&str], input: &[u8]) -> Output {
+    let mut child = Command::new(env!("CARGO_BIN_EXE_tree"))
+        .args(words)
+        .current_dir(concat!(env!("CARGO_MANIFEST_DIR"), "/samples"))
+        .stdin(Stdio::piped())
+        .stdout(Stdio::piped())
+        .stderr(Stdio::piped())
+        .spawn()
+        .expect("the program starts");
+    // A command that reads no input may have ended by now.
+    let _ = child.stdin.take().expect("an input").write_all(input);
+    child.wait_with_output().expect("the program ends")
+}
+
+fn result(words: &[&str], input: &[u8]) -> Vec<u8> {
+    let output = tree(words, input);
+    assert!(output.status.success(), "{words:?}");
+    assert_eq!(output.stderr, b"");
+    output.stdout
+}
+
+fn fault(words: &[&str], input: &[u8]) -> String {
+    let output = tree(words, input);
+    assert_eq!(output.status.code(), Some(1), "{words:?}");
+    assert_eq!(output.stdout, b"");
+    String::from_utf8(output.stderr).expect("a text")
+}
+
+#[test]
+fn case_e_there_and_back() {
+    let text = include_bytes!("../samples/e.txt");
+    let table = result(&["table", "e.txt"], b"");
+    assert_eq!(table, include_bytes!("../samples/e.table"));
+    assert_eq!(result(&["table", "-"], text), table);
+    assert_eq!(result(&["text", "e.table"], b""), text);
+    assert_eq!(result(&["text", "-"], &table), text);
+}
+
+#[test]
+fn pictures_of_case_e() {
+    let picture = include_bytes!("../../docs/case-e.svg");
+    assert_eq!(result(&["svg", "e.table", "e.plan"], b""), picture);
+    assert_eq!(result(&["svg", "e.table", "-"], b"1 1 2 1 2 2\n"), picture);
+}
+
+#[test]
+fn faults() {
+    let bad = b"limit 5\n1 1\n  \xff 1\n";
+    let wanted = "tree: -: line 3: weight \"\u{fffd}\" is not a number\n";
+    assert_eq!(fault(&["table", "-"], bad), wanted);
+    let wanted = "tree: -: 2 bytes are too few for a table\n";
+    assert_eq!(fault(&["text", "-"], &[0, 1]), wanted);
+    let wanted = "tree: -: there is no plan: refused 7 at 1\n";
+    assert_eq!(fault(&["svg", "e.table", "-"], b"refused 7 at 1\n"), wanted);
+    assert!(fault(&["text", "nowhere.table"], b"").starts_with("tree: nowhere.table: "));
+    fault(&["svg", "-", "-"], b"");
+}
+
+#[test]
+fn usage() {
+    assert_eq!(tree(&[], b"").status.code(), Some(2));
+    assert_eq!(tree(&["table"], b"").status.code(), Some(2));
+    assert!(result(&["--help"], b"").starts_with(b"tree table FILE.txt"));
+}
