@@ -46,10 +46,8 @@ impl<'a> Columns<'a> {
         };
         let mut run = Run::new(tree.limit);
         for node in (1..=tree.count()).rev() {
-            let mut child = tree.first[node];
-            while child != 0 {
+            for child in tree.children(node) {
                 columns.fill(child, &mut run);
-                child = tree.next[child];
             }
             columns.figures[node] = columns.figures_of(node, with_gains);
         }
@@ -93,7 +91,12 @@ impl<'a> Columns<'a> {
         while first != 0 && run.lightest() < self.tree.limit as u32 {
             run.add(self.figures[first]);
             if let Some(taken) = run.seconds_taken() {
-                self.relax(child, self.tree.before[first], run.length, PAGE * (1 + taken));
+                self.relax(
+                    child,
+                    self.tree.before[first],
+                    run.length,
+                    PAGE * (1 + taken),
+                );
             }
             first = self.tree.before[first];
         }
@@ -121,7 +124,10 @@ impl<'a> Columns<'a> {
         others.fill(NONE);
         if before == 0 {
             let starts = weight + rest..;
-            fitting.iter_mut().zip(starts).for_each(|(entry, start)| *entry = start as u32);
+            fitting
+                .iter_mut()
+                .zip(starts)
+                .for_each(|(entry, start)| *entry = start as u32);
         } else {
             fitting.copy_from_slice(&earlier[from..from + fitting.len()]);
         }
@@ -138,7 +144,12 @@ impl<'a> Columns<'a> {
             sweep(entries, choices, length, starts.map(|start| start + cost));
         } else {
             let earlier = &earlier[from..from + count];
-            sweep(entries, choices, length, earlier.iter().map(|entry| entry + cost));
+            sweep(
+                entries,
+                choices,
+                length,
+                earlier.iter().map(|entry| entry + cost),
+            );
         }
     }
 

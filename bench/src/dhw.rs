@@ -27,12 +27,8 @@ pub fn plan(table: &[u8], marks: &mut [u8], entries: Entries) -> Answer {
     let mut nodes: Vec<Node> = Vec::with_capacity(tree.count());
     // The last node comes first, so that children come before their parents.
     for number in (1..=tree.count()).rev() {
-        let mut children = vec![];
-        let mut child = tree.first[number];
-        while child != 0 {
-            children.push(nodes[tree.count() - child].seen);
-            child = tree.next[child];
-        }
+        let seen = |child: usize| nodes[tree.count() - child].seen;
+        let children = tree.children(number).map(seen).collect();
         nodes.push(Node::filled(&tree, number, children, entries));
     }
     nodes.reverse();
@@ -62,7 +58,7 @@ struct Entry {
 }
 
 impl Entry {
-    /// An entry without intervals.
+    /// An entry without intervals. The figure begins counts at 1, which changes no comparison.
     fn empty(card: u32, weight: u32) -> Entry {
         Entry {
             card,
@@ -231,7 +227,7 @@ fn lay(tree: &Tree, nodes: &[Node], marks: &mut [u8]) {
         if node.children.is_empty() {
             continue;
         }
-        let numbers = numbers_of_children(tree, number);
+        let numbers: Vec<usize> = tree.children(number).collect();
         let start = match second[number] {
             true => node.second_start,
             false => node.weight,
@@ -249,14 +245,4 @@ fn lay(tree: &Tree, nodes: &[Node], marks: &mut [u8]) {
             entry = node.entry(usize::from(entry.next.0), usize::from(entry.next.1));
         }
     }
-}
-
-fn numbers_of_children(tree: &Tree, node: usize) -> Vec<usize> {
-    let mut numbers = vec![];
-    let mut child = tree.first[node];
-    while child != 0 {
-        numbers.push(child);
-        child = tree.next[child];
-    }
-    numbers
 }

@@ -1,3 +1,10 @@
+//! The planners of the proved library beside the same steps in plain Rust and beside the report's
+//! DHW: on the same trees, in the same run, as ratios. Nothing passes or fails by its time.
+//!
+//! BALDUQEN_LIB names the folder of libembed.a, and BALDUQEN_ENTRIES the entries that it has;
+//! `cargo run --release` in this folder then prints the table.
+
+mod clock;
 mod columns;
 mod dhw;
 mod library;
@@ -5,27 +12,30 @@ mod load;
 mod measure;
 mod plain;
 mod planner;
+mod show;
 mod tree;
 
-use planner::{Kind, KINDS};
+use planner::KINDS;
+use show::Row;
 
 fn main() {
     let loads = load::loads();
     for load in &loads {
         for kind in KINDS {
-            measure::agree(load, kind);
+            measure::check_agreement(load, kind);
         }
     }
-    let ms = |d: std::time::Duration| d.as_secs_f64() * 1e3;
+    println!("All forms agree on {} trees.", loads.len());
+
+    show::print_head();
+    let mut rows = vec![];
     for load in &loads {
         for kind in KINDS {
-            let t = measure::times(load, kind);
-            print!("{:7} {:4} {:4} {:7} clear {:8.3} plain {:8.3}", load.shape.name(), load.heaviest, load.limit, kind.name(), ms(t.clearing), ms(t.plain));
-            if let Some(l) = t.library { print!(" lib {:8.3}", ms(l)); }
-            if kind == Kind::Best {
-                print!(" all {:9.3} {:7.2} demand {:8.3} {:7.2}", ms(t.all_entries.unwrap()), ms(t.all_entries.unwrap())/ms(t.plain), ms(t.on_demand.unwrap()), ms(t.on_demand.unwrap())/ms(t.plain));
-            }
-            println!();
+            let times = measure::least_times(load, kind);
+            let row = Row { load, kind, times };
+            row.print();
+            rows.push(row);
         }
     }
+    show::print_worst(&rows);
 }

@@ -40,17 +40,13 @@ fn single(tree: &Tree, marks: &mut [u8], _scratch: &mut [u32]) {
     marks.fill(0);
     let mut remainder = vec![0; tree.count() + 1];
     for node in (1..=tree.count()).rev() {
-        let mut total = tree.weight[node];
-        let mut child = tree.first[node];
-        while child != 0 {
-            total += remainder[child];
-            child = tree.next[child];
-        }
+        let below: u32 = tree.children(node).map(|child| remainder[child]).sum();
+        let mut total = tree.weight[node] + below;
         while total as usize > tree.limit {
-            let heaviest = heaviest_child(tree, &remainder, node);
-            marks[heaviest - 1] = 1;
+            let child = heaviest_child(tree, &remainder, node);
+            marks[child - 1] = 1;
             // With no remainder, it is not found again.
-            total -= std::mem::take(&mut remainder[heaviest]);
+            total -= std::mem::take(&mut remainder[child]);
         }
         remainder[node] = total;
     }
@@ -59,15 +55,12 @@ fn single(tree: &Tree, marks: &mut [u8], _scratch: &mut [u32]) {
 
 /// The earliest of the children with the heaviest remainder.
 fn heaviest_child(tree: &Tree, remainder: &[u32], node: usize) -> usize {
-    let mut heaviest = tree.first[node];
-    let mut child = heaviest;
-    while child != 0 {
-        if remainder[child] > remainder[heaviest] {
-            heaviest = child;
-        }
-        child = tree.next[child];
-    }
-    heaviest
+    let heavier = |heaviest: usize, child: usize| match remainder[child] > remainder[heaviest] {
+        true => child,
+        false => heaviest,
+    };
+    let heaviest = tree.children(node).reduce(heavier);
+    heaviest.expect("a node without children is within the limit")
 }
 
 fn pair(tree: &Tree, marks: &mut [u8], _scratch: &mut [u32]) {

@@ -1,6 +1,7 @@
 //! A tree read from its table, and the figures of a plan.
 
 use crate::planner::Answer;
+use std::iter::{once, successors};
 
 const MOST: usize = 1024;
 
@@ -20,12 +21,19 @@ impl Tree {
         self.weight.len() - 1
     }
 
+    pub fn children(&self, node: usize) -> impl Iterator<Item = usize> + '_ {
+        let follow = |link: usize| (link != 0).then_some(link);
+        successors(follow(self.first[node]), move |&child| {
+            follow(self.next[child])
+        })
+    }
+
     /// The tree of a table, or refusals 1 to 7 in their order.
     pub fn read(table: &[u8]) -> Result<Tree, Answer> {
         let (count, limit) = read_head(table)?;
         let column = |offset| {
             let words = (0..count).map(move |index| word(table, 2 + 4 * index + offset));
-            std::iter::once(0).chain(words)
+            once(0).chain(words)
         };
         let mut tree = Tree {
             limit,
@@ -98,9 +106,7 @@ impl Tree {
             };
             weights[page[node]] += self.weight[node];
         }
-        assert!(weights
-            .iter()
-            .all(|&weight| weight as usize <= self.limit));
+        assert!(weights.iter().all(|&weight| weight as usize <= self.limit));
         Answer {
             pages: weights.len() as u32,
             root: weights[0],

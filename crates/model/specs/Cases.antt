@@ -2,14 +2,14 @@
 -- starred cases and one for the refusals. Assumes nothing.
 use mathlib.Core.Path.{_≡_, refl}
 use Prim.Native.Nat.{ℕ}
-use mathlib.Core.Bool.{Bool, true, _&&_}
+use mathlib.Core.Bool.{Bool, true, not, _&&_}
 use mathlib.Core.List.{List, [], _∷_, _++_}
 use lib.ListN.{length, replicate, set}
 use lib.Dec.{eqb}
 use Rattle.model.specs.Basics.{pick, when, atPlace, sumTo, countTo, firstTo, lastTo, listTo, every, sameList}
 use Rattle.model.specs.Table.{wordAt, bytesOf, nodeCount, limitOf, fieldAt, weightAt, labelAt, firstAt, nextAt, walkFrom, walkPlace, chainFrom, treeOf}
 use Rattle.model.specs.Plan.{prevAt, ownerAt, parentFrom, parentAt, markAt, inRun, goodMark, pageFrom, pageOf, pageCount, pageWeight, badMark, heavyPage, verdictOf, runLastFrom, runLast}
-use Rattle.model.specs.Runs.{comesFrom, comesAfter, isRun, isMember, countOf, holds, runWith, homeFrom, homeOf, runWeight, withinLimit, runsOf, runCount, rootWeight}
+use Rattle.model.specs.Runs.{Run, comesFrom, comesAfter, isRun, isMember, countOf, holds, runWith, homeFrom, homeOf, runWeight, withinLimit, runsOf, runCount, rootWeight}
 use Rattle.model.specs.Steps.{restSum, gainSum, takenCount, largestGain, takeEarliest, reduceFrom, reduce, better, leastOf, winner, staying, asMember, runChoices, running, runOf, lightest, stopsAt, secondStart, gainOf, childOf, childrenFrom, childrenOf, choicesOf, layMarks, bestMarks, levelMarks, whole, cutDown, remainders, laySingle, singleMarks, sides, remainder, takenAt, layPair, pairMarks, entryAt, stretched}
 use Rattle.model.specs.Archive.{nextPage, pageRecords, nextOnPage, nodeRecord, archiveOf, pagesIn, pageFieldIn, nodeFieldIn, parentIn, firstIn, nextIn, tableIn, beginsIn, continuesIn, markIn, marksIn, archiveBytes}
 use Rattle.model.specs.Refusals.{shortTable, badCount, badLimit, badLength, noWeight, badWalk, heavyNode, badMarks, shortScratch, markRefused, pageRefused, badOutput, noArchive, formChecks, treeChecks, planChecks, judgeChecks, writeChecks, passes, soundForm, acceptedTree, refusedForWeight, feasiblePlan, causeOf, refused, firstOf, readTree, judgePlan, planned, planBest, planLevel, planSingle, planPair, writeArchive, isArchive, readChecks, readArchive, scratchWords, Planned}
@@ -129,3 +129,28 @@ back =
 pub back-hold : every computed back ≡ true
 unfolding computed back
 back-hold = refl
+
+-- ---- Sequences of sibling runs of E: its best plan's in any order, and those that do not hold it or not within the limit
+
+abbrev run : ℕ → ℕ → Run
+run first last = record { first = first; last = last }
+
+pub sequences : List Bool
+sequences =
+    holds (treeE 5 1) (run 4 5 ∷ run 1 1 ∷ run 2 6 ∷ [])
+    ∷ withinLimit (treeE 5 1) (run 4 5 ∷ run 1 1 ∷ run 2 6 ∷ [])
+    ∷ eqb (rootWeight (treeE 5 1) (run 4 5 ∷ run 1 1 ∷ run 2 6 ∷ [])) 5
+    ∷ not (holds (treeE 5 1) (run 4 5 ∷ run 2 6 ∷ []))
+    ∷ not (holds (treeE 5 1) (run 1 1 ∷ run 2 3 ∷ run 3 6 ∷ []))
+    ∷ not (holds (treeE 5 1) (run 1 1 ∷ run 4 5 ∷ run 4 5 ∷ []))
+    ∷ not (holds (treeE 5 1) (run 1 1 ∷ run 6 2 ∷ []))
+    ∷ not (holds (treeE 5 1) (run 1 1 ∷ run 2 4 ∷ []))
+    ∷ not (holds (treeE 5 1) (run 1 1 ∷ run 7 7 ∷ []))
+    ∷ holds (treeE 5 1) (run 1 1 ∷ run 2 2 ∷ [])
+    ∷ not (withinLimit (treeE 5 1) (run 1 1 ∷ run 2 2 ∷ []))
+    ∷ not (withinLimit (treeE 5 1) (run 1 1 ∷ run 2 6 ∷ []))
+    ∷ []
+
+pub sequences-hold : every computed sequences ≡ true
+unfolding computed sequences
+sequences-hold = refl
