@@ -11,7 +11,7 @@ use std::time::Duration;
 const FEWEST_ROUNDS: usize = 3;
 const MOST_ROUNDS: usize = 25;
 /// Once the rounds have taken so long, the fewest are enough.
-const ENOUGH: Duration = Duration::from_millis(150);
+const ENOUGH: Duration = Duration::from_millis(60);
 
 /// The least time of each form; none where it is not there or not tried.
 #[derive(Clone, Copy)]

@@ -2,7 +2,7 @@
 use model::Answer;
 use model::Verdict;
 ghost use mathlib.Core.Path.{_≡_};
-ghost use Rattle.model.specs.Refusals.{readTree};
+ghost use Rattle.model.specs.Refusals.{readTree, judgePlan};
 ghost use Rattle.embed.specs.Figures.{figuresOf};
 
 // A number and a place, and the verdict's page count and root weight, both 0 unless the number is 0.
@@ -47,4 +47,11 @@ pub extern "C" fn balduqen_read_tree(table: &[u8]) -> Figures
     ensures { λ r. ⌜ r ≡ figuresOf (readTree (now (table .entry))) ⌝ }
 {
     flatten(table::read_tree(table))
+}
+
+#[no_mangle]
+pub extern "C" fn balduqen_judge(table: &[u8], marks: &[u8]) -> Figures
+    ensures { λ r. ⌜ r ≡ figuresOf (judgePlan (now (table .entry)) (now (marks .entry))) ⌝ }
+{
+    flatten(judge::judge_plan(table, marks))
 }

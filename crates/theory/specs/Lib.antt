@@ -13,6 +13,8 @@ pub mod Pages
 pub mod Marks
 pub mod Bridge
 pub mod Feasible
+pub mod JudgePages
+pub mod Judged
 pub mod NodeMarks
 pub mod Laid
 -- Sequences of sibling runs

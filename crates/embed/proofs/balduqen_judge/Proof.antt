@@ -1,0 +1,18 @@
+-- `embed::balduqen_judge` meets its contract. Assumes nothing.
+use mathlib.Core.Path.{ap, _∙_}
+use Rattle.embed.specs.Figures.{figuresOf}
+use borrow.Author.Needs.{needs}
+use Rattle.embed.proofs.balduqen_judge.Statement.{statement}
+use Rattle.embed.proofs.balduqen_judge.Tie as tie
+
+judge-plan-requires : tie.Need-judge-plan-requires
+judge-plan-requires c κs = search needs
+
+flatten-requires : tie.Need-flatten-requires
+flatten-requires c κs = search needs
+
+returns : tie.Need-returns
+returns c = c .flatten .ensures ∙ ap figuresOf (c .before .judge-plan .ensures)
+
+pub balduqen-judge-spec : {M : Type 1} → statement M
+balduqen-judge-spec = tie.close (tie.spec judge-plan-requires flatten-requires returns)

@@ -1,0 +1,2 @@
+-- What the contracts of the judge cite.
+pub mod Rows
