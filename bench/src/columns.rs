@@ -87,18 +87,14 @@ impl<'a> Columns<'a> {
     fn fill(&mut self, child: usize, run: &mut Run) {
         self.let_stay(child);
         run.clear();
-        let mut first = child;
-        while first != 0 && run.lightest() < self.tree.limit as u32 {
-            run.add(self.figures[first]);
+        // The sibling just left of the run.
+        let mut left = child;
+        while left != 0 && run.lightest() < self.tree.limit as u32 {
+            run.add(self.figures[left]);
+            left = self.tree.before[left];
             if let Some(taken) = run.seconds_taken() {
-                self.relax(
-                    child,
-                    self.tree.before[first],
-                    run.length,
-                    PAGE * (1 + taken),
-                );
+                self.relax(child, left, run.length, PAGE * (1 + taken));
             }
-            first = self.tree.before[first];
         }
     }
 
@@ -123,11 +119,9 @@ impl<'a> Columns<'a> {
         let (fitting, others) = entries.split_at_mut(entries.len().saturating_sub(rest));
         others.fill(NONE);
         if before == 0 {
-            let starts = weight + rest..;
-            fitting
-                .iter_mut()
-                .zip(starts)
-                .for_each(|(entry, start)| *entry = start as u32);
+            for (entry, start) in fitting.iter_mut().zip(weight + rest..) {
+                *entry = start as u32;
+            }
         } else {
             fitting.copy_from_slice(&earlier[from..from + fitting.len()]);
         }
@@ -140,16 +134,11 @@ impl<'a> Columns<'a> {
         let (entries, choices, earlier) = self.column(child);
         let count = entries.len();
         if before == 0 {
-            let starts = weight..weight + count as u32;
-            sweep(entries, choices, length, starts.map(|start| start + cost));
+            let candidates = (weight..weight + count as u32).map(|start| start + cost);
+            sweep(entries, choices, length, candidates);
         } else {
-            let earlier = &earlier[from..from + count];
-            sweep(
-                entries,
-                choices,
-                length,
-                earlier.iter().map(|entry| entry + cost),
-            );
+            let candidates = earlier[from..from + count].iter().map(|entry| entry + cost);
+            sweep(entries, choices, length, candidates);
         }
     }
 

@@ -45,6 +45,13 @@ pub struct Load {
     pub table: Vec<u8>,
 }
 
+impl Load {
+    pub fn name(&self) -> String {
+        let shape = self.shape.name();
+        format!("{shape}, weights 1-{}, K {}", self.heaviest, self.limit)
+    }
+}
+
 /// Each shape and limit, with light weights and with weights up to a quarter of the limit.
 pub fn loads() -> Vec<Load> {
     let mut list = vec![];

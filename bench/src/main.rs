@@ -31,7 +31,7 @@ fn main() {
     let mut rows = vec![];
     for load in &loads {
         for kind in KINDS {
-            let times = measure::least_times(load, kind);
+            let times = measure::times(load, kind);
             let row = Row { load, kind, times };
             row.print();
             rows.push(row);

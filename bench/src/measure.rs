@@ -8,20 +8,53 @@ use crate::{library, plain};
 use std::hint::black_box;
 use std::time::Duration;
 
-const FEWEST_ROUNDS: usize = 3;
-const MOST_ROUNDS: usize = 25;
-/// Once the rounds have taken so long, the fewest are enough.
-const ENOUGH: Duration = Duration::from_millis(60);
-
-/// The least time of each form; none where it is not there or not tried.
+/// What is timed.
 #[derive(Clone, Copy)]
-pub struct Times {
+pub enum Form {
     /// The clearing of the scratch by itself.
-    pub clearing: Duration,
-    pub plain: Duration,
-    pub library: Option<Duration>,
-    pub dhw: Option<Duration>,
-    pub dhw_on_demand: Option<Duration>,
+    Clearing,
+    Library,
+    Plain,
+    Dhw,
+    DhwOnDemand,
+}
+
+pub const FORMS: [Form; 5] = [
+    Form::Clearing,
+    Form::Library,
+    Form::Plain,
+    Form::Dhw,
+    Form::DhwOnDemand,
+];
+
+impl Form {
+    fn is_tried(self, load: &Load, kind: Kind) -> bool {
+        match self {
+            Form::Clearing | Form::Plain => true,
+            Form::Library => library::planner(kind).is_some(),
+            Form::Dhw | Form::DhwOnDemand => has_dhw(load, kind),
+        }
+    }
+
+    fn run(self, load: &Load, kind: Kind, buffers: &mut Buffers) -> Option<Answer> {
+        let mut dhw = |entries| dhw::plan(&load.table, &mut buffers.marks, entries);
+        match self {
+            Form::Clearing => {
+                black_box(&mut buffers.scratch).fill(0);
+                None
+            }
+            Form::Library => Some(buffers.run(library::planner(kind)?, load)),
+            Form::Plain => Some(buffers.run(plain::planner(kind), load)),
+            Form::Dhw => Some(dhw(Entries::All)),
+            Form::DhwOnDemand => Some(dhw(Entries::OnDemand)),
+        }
+    }
+}
+
+/// Whether the report's DHW is tried. With light weights and a high limit its intervals are long,
+/// and each is ordered anew for each start: that takes minutes.
+fn has_dhw(load: &Load, kind: Kind) -> bool {
+    kind == Kind::Best && 32 * load.heaviest > load.limit
 }
 
 /// The buffers that a planner is lent.
@@ -44,79 +77,66 @@ impl Buffers {
     }
 }
 
-/// Whether the report's DHW is tried. With light weights and a high limit its intervals are long,
-/// and each is ordered anew for each start: that takes minutes.
-fn has_dhw(load: &Load, kind: Kind) -> bool {
-    kind == Kind::Best && 32 * load.heaviest > load.limit
-}
-
 /// Panics unless all forms of a planner make the same of a tree.
 pub fn check_agreement(load: &Load, kind: Kind) {
+    let place = format!("{}: {}", load.name(), kind.name());
     let mut buffers = Buffers::soiled(load);
     let answer = buffers.run(plain::planner(kind), load);
-    assert_eq!((answer.number, answer.place), (0, 0), "the tree is refused");
+    assert_eq!(answer.number, 0, "{place}: the tree is refused");
     if let Some(planner) = library::planner(kind) {
         let mut lent = Buffers::soiled(load);
-        assert_eq!(lent.run(planner, load), answer, "the answers differ");
-        assert!(lent.marks == buffers.marks, "the marks differ");
-        assert!(lent.scratch == buffers.scratch, "the scratch differs");
+        let library = lent.run(planner, load);
+        assert_eq!(library, answer, "{place}: the library's answer differs");
+        assert!(lent.marks == buffers.marks, "{place}: the marks differ");
+        assert!(
+            lent.scratch == buffers.scratch,
+            "{place}: the scratch differs"
+        );
     }
     if has_dhw(load, kind) {
         // The report leaves open which of equal plans is given, so the figures are compared.
-        for entries in [Entries::All, Entries::OnDemand] {
-            let figures = dhw::plan(&load.table, &mut buffers.marks, entries);
-            assert_eq!(figures, answer, "the figures of DHW differ");
+        for form in [Form::Dhw, Form::DhwOnDemand] {
+            let figures = form.run(load, kind, &mut buffers);
+            assert_eq!(figures, Some(answer), "{place}: DHW's figures differ");
         }
     }
 }
 
-pub fn least_times(load: &Load, kind: Kind) -> Times {
-    let mut buffers = Buffers::soiled(load);
-    let mut least = one_round(load, kind, &mut buffers);
-    let mut spent = least.sum();
-    for round in 1..MOST_ROUNDS {
-        if round >= FEWEST_ROUNDS && spent > ENOUGH {
-            break;
-        }
-        let times = one_round(load, kind, &mut buffers);
-        spent += times.sum();
-        least = least.min(times);
-    }
-    least
-}
+/// The time of each form, in the order of `FORMS`; none where it is not tried.
+pub type Times = [Option<Duration>; FORMS.len()];
 
 /// The forms take turns, so that a change in the machine's speed falls on all of them. Each is lent
 /// the buffers as the one before left them, with the scratch cleared.
-fn one_round(load: &Load, kind: Kind, buffers: &mut Buffers) -> Times {
-    let clearing = time(|| black_box(&mut buffers.scratch).fill(0));
-    let plain = time(|| buffers.run(plain::planner(kind), load));
-    let library = library::planner(kind).map(|planner| time(|| buffers.run(planner, load)));
-    let mut dhw = |entries| {
-        has_dhw(load, kind).then(|| time(|| dhw::plan(&load.table, &mut buffers.marks, entries)))
-    };
-    Times {
-        clearing,
-        plain,
-        library,
-        dhw: dhw(Entries::All),
-        dhw_on_demand: dhw(Entries::OnDemand),
-    }
-}
-
-impl Times {
-    fn min(self, other: Times) -> Times {
-        Times {
-            clearing: self.clearing.min(other.clearing),
-            plain: self.plain.min(other.plain),
-            library: self.library.min(other.library),
-            dhw: self.dhw.min(other.dhw),
-            dhw_on_demand: self.dhw_on_demand.min(other.dhw_on_demand),
+pub fn times(load: &Load, kind: Kind) -> Times {
+    let mut buffers = Buffers::soiled(load);
+    buffers.scratch.fill(0);
+    let mut samples = FORMS.map(|_| Samples::default());
+    for _ in 0..MOST {
+        for (form, samples) in FORMS.into_iter().zip(&mut samples) {
+            if form.is_tried(load, kind) && samples.are_few() {
+                samples.0.push(time(|| form.run(load, kind, &mut buffers)));
+            }
         }
     }
+    samples.map(Samples::median)
+}
 
-    fn sum(&self) -> Duration {
-        let others = [self.library, self.dhw, self.dhw_on_demand];
-        let others: Duration = others.into_iter().flatten().sum();
-        self.clearing + self.plain + others
+const FEWEST: usize = 3;
+const MOST: usize = 25;
+/// Once the samples have taken so long, the fewest are enough.
+const ENOUGH: Duration = Duration::from_millis(25);
+
+#[derive(Default)]
+struct Samples(Vec<Duration>);
+
+impl Samples {
+    fn are_few(&self) -> bool {
+        self.0.len() < FEWEST || self.0.iter().sum::<Duration>() < ENOUGH
+    }
+
+    /// Not the least: where the machine is shared, its clock of processor time can fall short.
+    fn median(mut self) -> Option<Duration> {
+        self.0.sort();
+        self.0.get(self.0.len() / 2).copied()
     }
 }

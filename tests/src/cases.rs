@@ -124,6 +124,36 @@ pub fn made() -> Vec<Made> {
         1,
     );
     add("lighter rest", lighter, &[Single], &[1, 1, 0], 2, 2);
+    // Node 2's child and its sibling both weigh 2, and pair cuts the child.
+    let sides = Table::new(5, &[0, 1, 2, 1], &[1, 2, 2, 2]);
+    add(
+        "equal sides",
+        sides.clone(),
+        &[Best, Level, Single],
+        &[1, 1, 0, 0],
+        2,
+        3,
+    );
+    add("equal sides", sides, &[Pair], &[1, 0, 1, 0], 2, 5);
+    // The children weigh 2, 9 and 2. Node 4's second plan, with the larger gain, brings them all
+    // into one run; node 2's comes earlier and would not be enough.
+    let gains = Table::new(10, &[0, 1, 2, 1, 4, 1], &[10, 1, 1, 1, 8, 2]);
+    add(
+        "larger gain",
+        gains.clone(),
+        &[Best, Pair],
+        &[1, 1, 0, 2, 1, 2],
+        3,
+        10,
+    );
+    add(
+        "larger gain",
+        gains,
+        &[Level, Single],
+        &[1, 1, 0, 1, 0, 1],
+        4,
+        10,
+    );
     list
 }
 

@@ -2,8 +2,9 @@
 use model::Answer;
 use model::Verdict;
 ghost use mathlib.Core.Path.{_≡_};
-ghost use Rattle.model.specs.Refusals.{readTree, judgePlan};
+ghost use Rattle.model.specs.Refusals.{readTree, judgePlan, planSingle, planPair};
 ghost use Rattle.embed.specs.Figures.{figuresOf};
+ghost use Rattle.embed.specs.Left.{left, leftBy};
 
 // A number and a place, and the verdict's page count and root weight, both 0 unless the number is 0.
 #[repr(C)]
@@ -54,4 +55,18 @@ pub extern "C" fn balduqen_judge(table: &[u8], marks: &[u8]) -> Figures
     ensures { λ r. ⌜ r ≡ figuresOf (judgePlan (now (table .entry)) (now (marks .entry))) ⌝ }
 {
     flatten(judge::judge_plan(table, marks))
+}
+
+#[no_mangle]
+pub extern "C" fn balduqen_plan_single(table: &[u8], marks: &mut [u8], scratch: &mut [u32]) -> Figures
+    ensures { λ r. ⌜ left r (now (marks .exit)) (now (scratch .exit)) ≡ leftBy (planSingle (now (table .entry)) (now (marks .entry)) (now (scratch .entry))) ⌝ }
+{
+    flatten(planner::plan_single(table, marks, scratch))
+}
+
+#[no_mangle]
+pub extern "C" fn balduqen_plan_pair(table: &[u8], marks: &mut [u8], scratch: &mut [u32]) -> Figures
+    ensures { λ r. ⌜ left r (now (marks .exit)) (now (scratch .exit)) ≡ leftBy (planPair (now (table .entry)) (now (marks .entry)) (now (scratch .entry))) ⌝ }
+{
+    flatten(planner::plan_pair(table, marks, scratch))
 }

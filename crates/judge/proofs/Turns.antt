@@ -1,6 +1,6 @@
 -- One turn of each pass of the judge, for node v + 1 after the nodes 1 to v, and what a pass has at its end. Assumes nothing.
 use mathlib.Core.Path.{_≡_, refl, sym, ap, ap₂, _∙_}
-use mathlib.Core.Bool.{Bool, true, false, not}
+use mathlib.Core.Bool.{Bool, true, false}
 use mathlib.Core.List.{List}
 use mathlib.Core.Logic.{_⊎_, inl, inr}
 use lib.Dec.{eqb, ltb}
@@ -10,16 +10,16 @@ use native.Mathlib.Numerals.{add-one}
 use lib.ListN.{length, getD, set}
 use lib.Seq.{getD-set-same, getD-set-other}
 use borrow.Author.Tests.{eqb-true, eqb-false, eq-eqb, ne-eqb}
-use Rattle.model.specs.Basics.{pick, sumTo, countTo, firstTo, lastTo}
+use Rattle.model.specs.Basics.{pick, countTo, firstTo, lastTo}
 use Rattle.model.specs.Table.{nodeCount, limitOf, weightAt, nextAt}
-use Rattle.model.specs.Plan.{prevAt, parentAt, markAt, hasMark, begins, continues, inRun, goodMark, pageOf, pageCount, pageWeight, heavyPage}
-use Rattle.theory.specs.Ranges.{Upto, upto-suc, pick-true, pick-false, sumTo-zero, sumTo-suc, sumTo-cong, countTo-suc, firstTo-cong, lastTo-zero, lastTo-yes, lastTo-no}
-use Rattle.theory.specs.Sound.{SoundFacts, AcceptedFacts}
-use Rattle.theory.specs.Links.{next-le, next-later, prevAt-less, parentAt-less}
-use Rattle.theory.specs.JudgePages.{stepBack, back-less, pageOf-none, pageOf-step, pageOf-le, parentAt-step, sumTo-most}
+use Rattle.model.specs.Plan.{prevAt, parentAt, markAt, hasMark, begins, inRun, goodMark, pageOf, pageCount, pageWeight, heavyPage}
+use Rattle.theory.specs.Ranges.{upto-suc, pick-true, pick-false, sumTo-zero, sumTo-suc, countTo-suc, firstTo-cong, lastTo-zero, lastTo-yes, lastTo-no}
+use Rattle.theory.specs.Sound.{AcceptedFacts}
+use Rattle.theory.specs.Links.{next-le, next-later, prevAt-less}
+use Rattle.theory.specs.JudgePages.{stepBack, back-less, pageOf-none, pageOf-step, parentAt-step, sumTo-most}
 use Rattle.theory.specs.Judged.{pageCount-le}
 use Rattle.model.specs.declared.Place.{Place}
-use Rattle.judge.specs.Rows.{slots, Row, goodCase, weightOn}
+use Rattle.judge.specs.Rows.{slots, Row, goodCase, weightOn, weights-page}
 
 -- one more node
 row-add : (f : ℕ → ℕ) (l : List ℕ) (v x : ℕ) → Row v f l → v + 1 < length l → x ≡ f (v + 1) → Row (v + 1) f (set l (v + 1) x)
@@ -124,35 +124,28 @@ module _ (t m : List ℕ) where
   home-is l v zero row root high = root ∙ sym (pageOf-none t m)
   home-is l v (suc u) row root high = row (suc u) (omega arith) high
 
-  pub page-turn : (before parents l : List ℕ) (n v mark next home x : ℕ) → Row n (prevAt t) before → Row n (parentAt t) parents → v < n
-      → Row v (pageOf t m) l → getD l 0 0 ≡ 0 → v + 1 < length l → mark ≡ markAt m (v + 1) → next ≡ countTo (v + 1) (hasMark m begins)
-      → home ≡ pick (eqb mark 2) (getD before (v + 1) 0) (getD parents (v + 1) 0) → x ≡ pick (eqb mark 1) next (getD l home 0)
-      → Row (v + 1) (pageOf t m) (set l (v + 1) x)
-  page-turn before parents l n v mark next home x rb rp less row root fits e q g r =
+  pub page-turn : (l : List ℕ) (v mark next home x : ℕ) → Row v (pageOf t m) l → getD l 0 0 ≡ 0 → v + 1 < length l
+      → mark ≡ markAt m (v + 1) → next ≡ countTo (v + 1) (hasMark m begins) → home ≡ stepBack t m (v + 1)
+      → x ≡ pick (eqb mark 1) next (getD l home 0) → Row (v + 1) (pageOf t m) (set l (v + 1) x)
+  page-turn l v mark next home x row root fits e q back r =
       row-add (pageOf t m) l v x row fits
       (r
       ∙ ap (λ (k : ℕ). pick (eqb mark 1) next k) there
       ∙ ap₂ (λ (k j : ℕ). pick (eqb k 1) j (pageOf t m (stepBack t m (v + 1)))) e q
       ∙ sym (pageOf-step t m (v + 1) (omega arith)))
     where
-      back : home ≡ stepBack t m (v + 1)
-      back =
-          g ∙ ap₂ (λ (i j : ℕ). pick (eqb mark 2) i j) (rb (v + 1) (omega arith) (omega arith)) (rp (v + 1) (omega arith) (omega arith))
-          ∙ ap (λ (k : ℕ). pick (eqb k 2) (prevAt t (v + 1)) (parentAt t (v + 1))) e
-
       there : getD l home 0 ≡ pageOf t m (stepBack t m (v + 1))
       there =
           home-is l v home row root (omega (arith, back-less t m (v + 1) (omega arith), back)) ∙ ap (pageOf t m) back
 
-  pub home-fits : (before parents : List ℕ) (n v mark home : ℕ) → Row n (prevAt t) before → Row n (parentAt t) parents → v < n → mark ≡ markAt m (v + 1)
-      → home ≡ pick (eqb mark 2) (getD before (v + 1) 0) (getD parents (v + 1) 0) → home ≤ v
-  home-fits before parents n v mark home rb rp less e g =
-      omega (
-        arith,
-        back-less t m (v + 1) (omega arith),
-        g ∙ ap₂ (λ (i j : ℕ). pick (eqb mark 2) i j) (rb (v + 1) (omega arith) (omega arith)) (rp (v + 1) (omega arith) (omega arith))
-            ∙ ap (λ (k : ℕ). pick (eqb k 2) (prevAt t (v + 1)) (parentAt t (v + 1))) e,
-      )
+  -- the node one step back, by the rows of siblings and of parents
+  pub home-back : (before parents : List ℕ) (n v mark home : ℕ) → Row n (prevAt t) before → Row n (parentAt t) parents → v < n
+      → mark ≡ markAt m (v + 1) → home ≡ pick (eqb mark 2) (getD before (v + 1) 0) (getD parents (v + 1) 0)
+      → home ≡ stepBack t m (v + 1)
+  home-back before parents n v mark home rb rp less e g =
+      g
+      ∙ ap₂ (λ (i j : ℕ). pick (eqb mark 2) i j) (rb (v + 1) (omega arith) (omega arith)) (rp (v + 1) (omega arith) (omega arith))
+      ∙ ap (λ (k : ℕ). pick (eqb k 2) (prevAt t (v + 1)) (parentAt t (v + 1))) e
 
 -- ---- Weights
 
@@ -211,13 +204,6 @@ row-end f l n v row le ge u low high = row u low (omega arith)
 
 pub weights-end : (t page l : List ℕ) (n v : ℕ) → Weighed t page v l → v ≤ n → n ≤ v → Weighed t page n l
 weights-end t page l n v h le ge = let same : v ≡ n = omega arith in rw same at h
-
--- the weights of a row of pages are those of the plan
-pub weights-page : (t m page : List ℕ) (p : ℕ) → Row (nodeCount t) (pageOf t m) page → weightOn (nodeCount t) t page p ≡ pageWeight t m p
-unfolding weightOn pageWeight
-weights-page t m page p row =
-    sumTo-cong (nodeCount t) (λ v. pick (eqb (getD page v 0) p) (weightAt t v) 0) (λ v. pick (eqb (pageOf t m v) p) (weightAt t v) 0)
-    (λ v low high. ap (λ (k : ℕ). pick (eqb k p) (weightAt t v) 0) (row v low high))
 
 -- ---- Marks
 

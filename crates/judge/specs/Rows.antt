@@ -1,13 +1,15 @@
--- Defines what the arrays of the judge hold, and the test of a mark by numbers. Assumes nothing.
+-- Defines what the arrays of the judge hold, and the test of a mark by numbers. The weights of a plan's pages are those that the row
+-- of its pages gives. Assumes nothing.
 use Prim.Native.Nat.{ℕ, _+_}
-use mathlib.Core.Path.{_≡_}
+use mathlib.Core.Path.{_≡_, ap}
 use mathlib.Core.Bool.{Bool, not, _&&_, _||_}
 use mathlib.Core.List.{List}
 use lib.ListN.{getD}
 use lib.Dec.{eqb}
 use Rattle.model.specs.Basics.{pick, sumTo}
-use Rattle.model.specs.Table.{maxNodes, weightAt}
-use Rattle.theory.specs.Ranges.{Upto}
+use Rattle.model.specs.Table.{maxNodes, nodeCount, weightAt}
+use Rattle.model.specs.Plan.{pageOf, pageWeight}
+use Rattle.theory.specs.Ranges.{Upto, sumTo-cong}
 
 -- a place for each node and for each page, by number, and one for 0
 abbrev pub slots : ℕ
@@ -26,3 +28,10 @@ goodCase v mark before prior =
 -- the weight of those of the nodes 1 to n that a list of pages has on page p
 unfoldable pub weightOn : ℕ → List ℕ → List ℕ → ℕ → ℕ
 weightOn n t page p = sumTo n (λ v. pick (eqb (getD page v 0) p) (weightAt t v) 0)
+
+-- the weights of a row of pages are those of the plan
+pub weights-page : (t m page : List ℕ) (p : ℕ) → Row (nodeCount t) (pageOf t m) page → weightOn (nodeCount t) t page p ≡ pageWeight t m p
+unfolding weightOn pageWeight
+weights-page t m page p row =
+    sumTo-cong (nodeCount t) (λ v. pick (eqb (getD page v 0) p) (weightAt t v) 0) (λ v. pick (eqb (pageOf t m v) p) (weightAt t v) 0)
+    (λ v low high. ap (λ (k : ℕ). pick (eqb k p) (weightAt t v) 0) (row v low high))

@@ -1,10 +1,9 @@
 // The judge of plans: bad marks, page weights, and the verdict. Refusals 1 to 8, 10 and 11.
-mod marks;
+pub mod marks;
 pub mod pages;
 
 use marks::first_bad_mark;
 use model::Answer;
-use model::Place;
 use model::Verdict;
 use pages::count_pages;
 use pages::find_before;

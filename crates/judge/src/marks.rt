@@ -3,11 +3,8 @@ use crate::pages::SLOTS;
 use model::Place;
 use table::words::node_count;
 ghost use mathlib.Core.Path.{_≡_};
-ghost use lib.Dec.{eqb};
-ghost use mathlib.Core.Bool.{_&&_, _||_, not};
-ghost use Rattle.model.specs.Basics.{pick};
 ghost use Rattle.model.specs.Table.{nodeCount};
-ghost use Rattle.model.specs.Plan.{markAt, prevAt, badMark, hasMark, begins};
+ghost use Rattle.model.specs.Plan.{markAt, prevAt, badMark};
 ghost use Rattle.theory.specs.Sound.{AcceptedFacts};
 ghost use Rattle.judge.specs.Rows.{Row, goodCase};
 

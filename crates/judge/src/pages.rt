@@ -5,10 +5,10 @@ use table::words::next_at;
 use table::words::node_count;
 use table::words::weight_at;
 ghost use mathlib.Core.Path.{_≡_};
-ghost use Prim.Native.Nat.{ℕ, _≤_, _<_};
-ghost use lib.Dec.{eqb, ltb};
+ghost use Prim.Native.Nat.{ℕ, _<_};
+ghost use lib.Dec.{ltb};
 ghost use lib.ListN.{getD};
-ghost use Rattle.model.specs.Basics.{pick, countTo, firstTo};
+ghost use Rattle.model.specs.Basics.{pick, firstTo};
 ghost use Rattle.model.specs.Table.{nodeCount};
 ghost use Rattle.model.specs.Plan.{prevAt, parentAt, pageOf, pageCount};
 ghost use Rattle.theory.specs.Ranges.{Upto};
@@ -111,7 +111,7 @@ pub fn weigh_pages(table: &[u8], page: &[u16; SLOTS]) -> [u32; SLOTS]
 
 // The first page that weighs over the limit.
 pub fn first_heavy(weights: &[u32; SLOTS], pages: u16, limit: u16) -> Place
-    requires { ⌜ pages ≤ 1024 ⌝ }
+    requires { ⌜ pages < slots ⌝ }
     ensures { λ r. ⌜ r ≡ firstTo pages (λ p. ltb limit (getD (now (weights .entry)) p 0)) ⌝ }
 {
     let mut p: u16 = 0;

@@ -1,6 +1,6 @@
 -- The page and the parent of a node by one step back, with no bound on the steps: what a pass over the nodes in their order computes.
 -- Assumes nothing.
-use Prim.Native.Nat.{ℕ, zero, suc, _+_, _-_, _*_, _≤_, _<_}
+use Prim.Native.Nat.{ℕ, zero, suc, _-_, _*_, _≤_, _<_}
 use native.Mathlib.Omega.{arith}
 use mathlib.Core.Bool.{Bool, true, false}
 use mathlib.Core.Path.{_≡_, refl, sym, _∙_, ap}
@@ -12,7 +12,7 @@ use Rattle.model.specs.Table.{nodeCount, firstAt}
 use Rattle.model.specs.Plan.{prevAt, parentFrom, parentAt, hasMark, begins, continues, pageFrom, pageOf}
 use Rattle.theory.specs.Ranges.{Upto, upto-less, upto-last, pick-true, pick-false, sumTo-zero, sumTo-suc, countTo-zero, countTo-le, lastTo-zero}
 use Rattle.theory.specs.Sound.{SoundFacts}
-use Rattle.theory.specs.Links.{first-step, prevAt-one, prevAt-less, parentAt-one, parentAt-less, parentAt-first, parentAt-later, parent-low, parent-first}
+use Rattle.theory.specs.Links.{first-step, prevAt-less, parentAt-one, parentAt-less, parentAt-later, parent-low, parent-first}
 
 -- ---- The step back
 

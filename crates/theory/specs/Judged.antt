@@ -1,8 +1,8 @@
 -- The answer of the judge: a refusal of the tree stands; then the marks' length, the bad marks and the heavy pages.
 -- Defines planAnswer. Assumes nothing.
-use mathlib.Core.Path.{_≡_, refl, sym, ap, ap₂, _∙_}
+use mathlib.Core.Path.{_≡_, refl, sym, ap, _∙_}
 use mathlib.Core.Bool.{true, not}
-use mathlib.Core.List.{List, [], _∷_, _++_}
+use mathlib.Core.List.{List, [], _∷_}
 use Prim.Native.Nat.{ℕ, _≤_}
 use native.Mathlib.Omega.{arith}
 use lib.Dec.{eqb}
@@ -11,7 +11,7 @@ use borrow.Author.Tests.{eq-eqb, ne-eqb}
 use Rattle.model.specs.Basics.{when, atPlace}
 use Rattle.model.specs.Table.{nodeCount}
 use Rattle.model.specs.Plan.{badMark, heavyPage, pageCount, pageWeight, verdictOf}
-use Rattle.model.specs.Refusals.{shortTable, badCount, badLimit, badLength, noWeight, badWalk, heavyNode, badMarks, markRefused, pageRefused, formChecks, treeChecks, judgeChecks, passes, acceptedTree, refused, accepted, firstOf, readTree, judgePlan}
+use Rattle.model.specs.Refusals.{shortTable, badCount, badLimit, badLength, noWeight, badWalk, heavyNode, badMarks, markRefused, pageRefused, formChecks, treeChecks, judgeChecks, acceptedTree, refused, accepted, firstOf, readTree, judgePlan}
 use Rattle.model.specs.declared.Place.{Place}
 use Rattle.model.specs.declared.Place.the-variants.{At, Nowhere}
 use Rattle.model.specs.declared.Cause.the-variants.{BadMark, HeavyPage}

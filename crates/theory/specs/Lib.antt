@@ -6,6 +6,8 @@ pub mod Checks
 pub mod Sound
 pub mod Numbered
 pub mod Links
+pub mod ChainAt
+pub mod Siblings
 pub mod Encode
 -- Plans by number and by shape
 pub mod Shape
@@ -17,6 +19,11 @@ pub mod JudgePages
 pub mod Judged
 pub mod NodeMarks
 pub mod Laid
+pub mod Chosen
+pub mod RunMarks
+-- The archive
+pub mod ArchiveWords
+pub mod ArchiveBack
 -- Sequences of sibling runs
 pub mod Chains
 pub mod Listed

@@ -10,7 +10,8 @@ use Rattle.model.specs.declared.Answer.{Answer}
 use Rattle.model.specs.declared.Verdict.the-variants.{Feasible}
 use Rattle.theory.specs.JudgePages.{pageOf-le}
 use Rattle.theory.specs.Judged.{plan-answer, pageCount-le}
-use Rattle.judge.proofs.Turns.{heavy-is, weights-page}
+use Rattle.judge.specs.Rows.{weights-page}
+use Rattle.judge.proofs.Turns.{heavy-is}
 use borrow.Author.Needs.{needs}
 use Rattle.judge.proofs.judge_marks.Statement.{statement}
 use Rattle.judge.proofs.judge_marks.Tie as tie

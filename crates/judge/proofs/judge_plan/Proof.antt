@@ -1,5 +1,6 @@
 -- `judge::judge_plan` meets its contract. Assumes nothing.
 use mathlib.Core.Path.{_≡_, sym, ap, _∙_}
+use native.Mathlib.Omega.{arith}
 use denote.Ref.{now}
 use Rattle.model.specs.Refusals.{refused, readTree}
 use Rattle.model.specs.declared.Answer.{Answer}
@@ -38,7 +39,7 @@ returns-2 c =
     let n = c .before .before in
     let a = n .before .before .before .before .before .before .args in
     c .refuse .ensures ∙ ap (refused 8) (n .node-count .ensures)
-    ∙ judge-length (now (a .table)) (now (a .marks)) (read-zero (n .before)) (λ z. c .before .if2 .taken (z ∙ sym (n .node-count .ensures)))
+    ∙ judge-length (now (a .table)) (now (a .marks)) (read-zero (n .before)) (λ z. omega (arith, c .before .if2, n .node-count .ensures))
 
 judge-marks-requires : tie.Need-judge-marks-requires
 judge-marks-requires c κs = tree-facts _ (read-zero (c .before .before))
@@ -48,7 +49,7 @@ returns-3 c =
     let n = c .before .before in
     let a = n .before .before .before .before .before .before .args in
     c .judge-marks .ensures
-    ∙ judge-goes-on (now (a .table)) (now (a .marks)) (read-zero (n .before)) (c .before .if2 .left ∙ n .node-count .ensures)
+    ∙ judge-goes-on (now (a .table)) (now (a .marks)) (read-zero (n .before)) (omega (arith, c .before .if2, n .node-count .ensures))
 
 pub judge-plan-spec : {M : Type 1} → statement M
 judge-plan-spec =

@@ -1,16 +1,15 @@
 -- `judge::marks::first_bad_mark` meets its contract: no node passed so far has a bad mark. Assumes nothing.
 use mathlib.Core.Path.{_≡_, sym, _∙_, ap}
 use mathlib.Core.Bool.{not}
-use Prim.Native.Nat.{_-_, _≤_}
+use Prim.Native.Nat.{_+_, _-_, _≤_}
+use native.Mathlib.Omega.{arith}
+use denote.Ref.{now}
 use Rattle.model.specs.Basics.{firstTo}
 use Rattle.model.specs.Plan.{goodMark, badMark}
 use Rattle.model.specs.declared.Place.the-variants.{Nowhere}
 use Rattle.theory.specs.Ranges.{firstTo-zero}
 use Rattle.table.proofs.First.{pass, pass-all, find}
 use Rattle.judge.proofs.Turns.{good-is}
-use Prim.Native.Nat.{_+_}
-use denote.Ref.{now}
-use native.Mathlib.Omega.{arith}
 use borrow.Author.Needs.{needs}
 use Rattle.judge.proofs.marks.first_bad_mark.Statement.{statement}
 use Rattle.judge.proofs.marks.first_bad_mark.Tie as tie

@@ -14,13 +14,13 @@ use Rattle.judge.proofs.pages.first_heavy.Tie as tie
 
 abbrev Inv-loop : tie.InvT-loop
 Inv-loop weights pages limit p₀ p =
-    (p ≤ pages) × (firstTo p (λ q. ltb limit (getD weights q 0)) ≡ Nowhere)
+    (firstTo p (λ q. ltb limit (getD weights q 0)) ≡ Nowhere) × (p ≤ pages)
 
 abbrev μ-loop : tie.MeasureT-loop
 μ-loop weights pages limit p₀ p = pages - p
 
 loop-holds : tie.Need-loop-holds Inv-loop μ-loop
-loop-holds c = (search needs, firstTo-zero _)
+loop-holds c = (firstTo-zero _, search needs)
 
 add-p : tie.Need-add-p Inv-loop μ-loop
 add-p c = search needs
@@ -40,7 +40,7 @@ cast-t12 c = search needs
 returns : tie.Need-returns Inv-loop μ-loop
 returns c =
     let l = c .before .before .before .loop in
-    sym (find _ (l .p) (l .inv .1) _ (c .before .before .loop-test .taken) (lt-ltb _ _ (c .if1 .taken)))
+    sym (find _ (l .p) (l .inv .0) _ (c .before .before .loop-test .taken) (lt-ltb _ _ (c .if1 .taken)))
 
 loop-less : tie.Need-loop-less Inv-loop μ-loop
 loop-less c = search needs
@@ -48,10 +48,10 @@ loop-less c = search needs
 loop-again : tie.Need-loop-again Inv-loop μ-loop
 loop-again c =
     let l = c .before .before .before .loop in
-    (search needs, pass _ (l .p) (l .inv .1) (le-ltb _ _ (c .if1 .left)))
+    (pass _ (l .p) (l .inv .0) (le-ltb _ _ (c .if1 .left)), search needs)
 
 returns-2 : tie.Need-returns-2 Inv-loop μ-loop
-returns-2 c = pass-all _ _ (c .before .loop .inv .1) _ (c .before .loop .inv .0) (c .loop-test .left)
+returns-2 c = pass-all _ _ (c .before .loop .inv .0) _ (c .before .loop .inv .1) (c .loop-test .left)
 
 pub first-heavy-spec : {M : Type 1} → statement M
 first-heavy-spec =

@@ -1,13 +1,14 @@
 -- `judge::pages::lay_pages` meets its contract. Assumes nothing.
-use mathlib.Core.Path.{_≡_, refl, sym, ap, _∙_}
+use mathlib.Core.Path.{_≡_, refl, sym, _∙_}
 use Prim.Native.Nat.{_+_, _-_, _≤_, _<_}
 use native.Mathlib.Omega.{arith}
 use lib.ListN.{length, length-set, getD}
 use Rattle.model.specs.Basics.{countTo}
 use Rattle.model.specs.Plan.{hasMark, begins, pageOf}
 use Rattle.theory.specs.Ranges.{countTo-zero, countTo-le}
+use Rattle.theory.specs.JudgePages.{stepBack, back-less}
 use Rattle.judge.specs.Rows.{slots, Row}
-use Rattle.judge.proofs.Turns.{row-end, count-turn, page-turn, home-fits}
+use Rattle.judge.proofs.Turns.{row-end, count-turn, page-turn, home-back}
 use lib.Seq.{getD-set-other}
 use denote.Ref.{now}
 use borrow.Author.Needs.{needs}
@@ -21,13 +22,24 @@ Inv-loop table marks before parents nodes page₀ pages₀ v₀ page pages v =
 abbrev μ-loop : tie.MeasureT-loop
 μ-loop table marks before parents nodes page₀ pages₀ v₀ page pages v = nodes - v
 
--- the node one step back is within the array
-fits : (c : tie.After-choose2 Inv-loop μ-loop) → c .choose2 .result < slots
-fits c =
+-- the node one step back
+back : (c : tie.After-choose2 Inv-loop μ-loop)
+    → c .choose2 .result
+    ≡ stepBack (now (c .before .before .before .before .before .before .before .before .before .before .args .table))
+    (now (c .before .before .before .before .before .before .before .before .before .before .args .marks))
+    (c .before .before .before .before .before .before .loop .v + 1)
+back c =
     let a = c .before .before .before .before in
     let l = a .before .before .loop in
     let e = a .before .before .before .before .before .before in
-    omega (arith, home-fits _ _ (now (e .args .before)) (now (e .args .parents)) _ (l .v) _ _ (e .pre .1) (e .pre .2) (omega arith) (a .mark-at .ensures) (c .choose2 .ensures))
+    home-back _ _ (now (e .args .before)) (now (e .args .parents)) _ (l .v) _ _ (e .pre .1) (e .pre .2) (omega arith) (a .mark-at .ensures)
+    (c .choose2 .ensures)
+
+fits : (c : tie.After-choose2 Inv-loop μ-loop) → c .choose2 .result < slots
+fits c =
+    let l = c .before .before .before .before .before .before .loop in
+    let a = c .before .before .before .before .before .before .before .before .before .before .args in
+    omega (arith, back c, back-less (now (a .table)) (now (a .marks)) (l .v + 1) (omega arith))
 
 node-count-requires : tie.Need-node-count-requires Inv-loop μ-loop
 node-count-requires c κs = search needs
@@ -104,7 +116,7 @@ loop-again c =
       simp length-set (l .inv .0),
       omega arith,
       n,
-      page-turn _ _ (now (e .args .before)) (now (e .args .parents)) (l .page) _ (l .v) _ _ _ _ (e .pre .1) (e .pre .2) (omega arith) (l .inv .3) (l .inv .4) (omega arith) (a .mark-at .ensures) n (c .before .choose2 .ensures) (c .choose3 .ensures),
+      page-turn _ _ (l .page) (l .v) _ _ _ _ (l .inv .3) (l .inv .4) (omega arith) (a .mark-at .ensures) n (back (c .before)) (c .choose3 .ensures),
       getD-set-other (l .page) (l .v + 1) 0 _ 0 other ∙ l .inv .4,
     )
 

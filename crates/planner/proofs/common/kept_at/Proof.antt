@@ -1,0 +1,27 @@
+-- `planner::common::kept_at` meets its contract. Assumes nothing.
+use mathlib.Core.Path.{_≡_, sym, ap, _∙_}
+use native.Mathlib.Omega.{arith}
+use denote.Ref.{now}
+use Rattle.planner.specs.Nodes.{kept, kept-none, kept-some}
+use borrow.Author.Needs.{needs}
+use Rattle.planner.proofs.common.kept_at.Statement.{statement}
+use Rattle.planner.proofs.common.kept_at.Tie as tie
+
+sub-result : tie.Need-sub-result
+sub-result c = search needs
+
+mul-result : tie.Need-mul-result
+mul-result c = search needs
+
+shared-slice-read-result : tie.Need-shared-slice-read-result
+shared-slice-read-result c = search needs
+
+returns : tie.Need-returns
+returns c = sym (ap (kept (now (c .before .args .scratch))) (c .if1 .taken) ∙ kept-none _)
+
+returns-2 : tie.Need-returns-2
+returns-2 c = let n : c .before .before .args .v ≡ 0 → ⊥ = c .before .if1 .left in kept-some _ _ (omega arith)
+
+pub kept-at-spec : {M : Type 1} → statement M
+kept-at-spec =
+    tie.close (tie.spec sub-result mul-result shared-slice-read-result returns returns-2)

@@ -1,0 +1,93 @@
+-- `planner::pair::lay_below` meets its contract. Assumes nothing.
+use mathlib.Core.Path.{ap, ap₂, _∙_}
+use mathlib.Core.List.{List}
+use mathlib.Core.Bool.{Bool}
+use Prim.Native.Nat.{ℕ}
+use native.Mathlib.Omega.{arith}
+use denote.Ref.{now}
+use Rattle.model.specs.Basics.{pick}
+use Rattle.planner.specs.Nodes.{kept-some}
+use Rattle.planner.specs.Pair.{put, uncutAfter}
+use Rattle.planner.proofs.TwoWay.{first-node, next-node, below-is}
+use borrow.Author.Needs.{needs}
+use Rattle.planner.proofs.pair.lay_below.Statement.{statement}
+use Rattle.planner.proofs.pair.lay_below.Tie as tie
+
+cuts-first-requires : tie.Need-cuts-first-requires
+cuts-first-requires c κs = search needs
+
+mark-of-requires : tie.Need-mark-of-requires
+mark-of-requires c κs = search needs
+
+cuts-next-requires : tie.Need-cuts-next-requires
+cuts-next-requires c κs = search needs
+
+sub-uncut-after : tie.Need-sub-uncut-after
+sub-uncut-after c = search needs
+
+slice-read-uncut-after : tie.Need-slice-read-uncut-after
+slice-read-uncut-after c = search needs
+
+uncut-after-requires : tie.Need-uncut-after-requires
+uncut-after-requires c κs = search needs
+
+mark-of-requires-2 : tie.Need-mark-of-requires-2
+mark-of-requires-2 c κs = search needs
+
+first-at-requires : tie.Need-first-at-requires
+first-at-requires c κs = search needs
+
+put-mark-requires : tie.Need-put-mark-requires
+put-mark-requires c κs =
+    let b = c .before .before .before .before .before .before .before .before .before .before .before in
+    omega (arith, first-node (b .pre .0) (c .first-at .result) (c .first-at .ensures), b .pre .1)
+
+next-at-requires : tie.Need-next-at-requires
+next-at-requires c κs = search needs
+
+put-mark-requires-2 : tie.Need-put-mark-requires-2
+put-mark-requires-2 c κs =
+    let b = c .before .before .before .before .before .before .before .before .before .before .before .before .before .before .before .before in
+    omega (arith, next-node (b .pre .0) (c .next-at .result) (c .next-at .ensures), c .before .before .before .before .put-mark .kept .0, b .pre .1)
+
+same-length : tie.Need-same-length
+same-length c = search needs
+
+returns : tie.Need-returns
+returns c =
+    let p2 = c .before .before in
+    let n = p2 .before in
+    let p1 = n .before .before .before .before in
+    let f = p1 .before in
+    let m2 = f .before .before in
+    let u = m2 .before in
+    let x2 = u .before .before in
+    let m1 = x2 .before in
+    let x1 = m1 .before in
+    let b = x1 .before .before .before .before in
+    let a = now (b .args .marks) in
+    p2 .put-mark2 .ensures
+    ∙ ap (λ (l : List ℕ). put l (n .next-at .result) (m2 .mark-of2 .result)) (p1 .put-mark .ensures)
+    ∙ below-is (now (b .args .table)) a (b .args .v) (f .first-at .result) (n .next-at .result) (m1 .mark-of .result) (m2 .mark-of2 .result)
+    (f .first-at .ensures) (n .next-at .ensures) (m1 .mark-of .ensures ∙ ap (λ (o : Bool). pick o 1 0) (x1 .cuts-first .ensures))
+    (m2 .mark-of2 .ensures
+    ∙ ap₂ (λ (o : Bool) (k : ℕ). pick o 1 k) (x2 .cuts-next .ensures)
+    (u .uncut-after .ensures ∙ ap uncutAfter (kept-some a (b .args .v) (b .pre .0 .low))))
+
+pub lay-below-spec : {M : Type 1} → statement M
+lay-below-spec =
+    tie.close
+    (tie.spec
+    cuts-first-requires
+    mark-of-requires
+    cuts-next-requires
+    sub-uncut-after
+    slice-read-uncut-after
+    uncut-after-requires
+    mark-of-requires-2
+    first-at-requires
+    put-mark-requires
+    next-at-requires
+    put-mark-requires-2
+    same-length
+    returns)

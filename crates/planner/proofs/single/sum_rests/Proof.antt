@@ -1,0 +1,71 @@
+-- `planner::single::sum_rests` meets its contract: the sum so far and what is left come to the whole. Assumes nothing.
+use mathlib.Core.Path.{_≡_, refl, sym, _∙_}
+use Prim.Native.Nat.{_+_, _≤_}
+use native.Mathlib.Omega.{arith}
+use denote.Ref.{now}
+use Rattle.model.specs.Table.{nodeCount}
+use Rattle.theory.specs.Shape.{size}
+use Rattle.theory.specs.ChainAt.{chainAt}
+use Rattle.planner.specs.Single.{restAt}
+use Rattle.planner.proofs.Scan.{next-less, next-high, sum-more, sum-fits, sum-end}
+use borrow.Author.Needs.{needs}
+use Rattle.planner.proofs.single.sum_rests.Statement.{statement}
+use Rattle.planner.proofs.single.sum_rests.Tie as tie
+
+abbrev Inv-loop : tie.InvT-loop
+Inv-loop table scratch v sum₀ u₀ sum u =
+    (u ≤ nodeCount table) × (sum + restAt table scratch u (chainAt table u) ≡ restAt table scratch v (chainAt table v))
+
+abbrev μ-loop : tie.MeasureT-loop
+μ-loop table scratch v sum₀ u₀ sum u = size (chainAt table u)
+
+loop-holds : tie.Need-loop-holds Inv-loop μ-loop
+loop-holds c = search needs
+
+kept-at-requires : tie.Need-kept-at-requires Inv-loop μ-loop
+kept-at-requires c κs = search needs
+
+add-sum : tie.Need-add-sum Inv-loop μ-loop
+add-sum c =
+    let l = c .before .before .loop in
+    let b = c .before .before .before .before .before in
+    omega (arith, b .pre .1, sum-fits (b .pre .0 .sound) (now (b .args .scratch)) (l .u) (l .sum) _ (c .kept-at .result) (omega arith) (l .inv .0) (c .kept-at .ensures) (l .inv .1))
+
+next-at-requires : tie.Need-next-at-requires Inv-loop μ-loop
+next-at-requires c κs = search needs
+
+loop-less : tie.Need-loop-less Inv-loop μ-loop
+loop-less c =
+    let l = c .before .before .before .loop in
+    let b = c .before .before .before .before .before .before in
+    next-less (b .pre .0 .sound) (now (b .args .scratch)) (l .u) (c .next-at .result) (omega arith) (l .inv .0) (c .next-at .ensures)
+
+loop-again : tie.Need-loop-again Inv-loop μ-loop
+loop-again c =
+    let l = c .before .before .before .loop in
+    let b = c .before .before .before .before .before .before in
+    let sound = b .pre .0 .sound in
+    let s = now (b .args .scratch) in (
+      next-high sound s (l .u) (c .next-at .result) (omega arith) (l .inv .0) (c .next-at .ensures),
+      sum-more sound s (l .u) (c .next-at .result) (l .sum) _ (c .before .kept-at .result) (omega arith) (l .inv .0) (c .next-at .ensures) (c .before .kept-at .ensures) (l .inv .1),
+    )
+
+returns : tie.Need-returns Inv-loop μ-loop
+returns c =
+    let l = c .before .loop in
+    let b = c .before .before .before .before in
+    sum-end (b .pre .0 .sound) (now (b .args .scratch)) (l .u) (l .sum) _ (c .loop-test .left) (l .inv .1)
+
+pub sum-rests-spec : {M : Type 1} → statement M
+sum-rests-spec =
+    tie.close
+    (tie.spec
+    Inv-loop
+    μ-loop
+    loop-holds
+    kept-at-requires
+    add-sum
+    next-at-requires
+    loop-less
+    loop-again
+    returns)

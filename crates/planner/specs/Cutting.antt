@@ -1,0 +1,64 @@
+-- What the functions that cut children ask and promise.
+-- Defines Heaviest, CutReady, CutDone, SettleReady. Assumes nothing.
+use Prim.Native.Nat.{ℕ, suc, _+_, _-_, _*_, _≤_, _<_}
+use mathlib.Core.Path.{_≡_}
+use mathlib.Core.List.{List}
+use lib.ListN.{length}
+use Rattle.model.specs.Table.{maxNodes, nodeCount, limitOf, firstAt, Chain}
+use Rattle.model.specs.Steps.{Member, restSum, reduce}
+use Rattle.theory.specs.Sound.{SoundFacts, AcceptedFacts}
+use Rattle.theory.specs.Shape.{size}
+use Rattle.theory.specs.ChainAt.{chainAt}
+use Rattle.planner.specs.Nodes.{Outside}
+use Rattle.planner.specs.Single.{members, LaidAt, EarliestAt, largestAt, restAt}
+use Rattle.planner.specs.Settled.{Fresh, kidsOf}
+
+-- the siblings from node v on are scanned: the table is of sound form, and the scratch has a word for each node
+pub record Scanned (t s : List ℕ) (v : ℕ) : Type 0 where
+  pub sound : SoundFacts t
+  pub high : v ≤ nodeCount t
+  pub long : nodeCount t ≤ length s
+
+-- the sum of so many remainders at most, so that it fits a word
+abbrev pub mostSum : ℕ
+mostSum = 1048576
+
+-- of the siblings from v on, h has the largest remainder, the earliest among equals
+pub record Heaviest (t s : List ℕ) (v h : ℕ) : Type 0 where
+  pub low : 1 ≤ h
+  pub high : h ≤ nodeCount t
+  pub earliest : EarliestAt t s (largestAt t s v (chainAt t v)) v (chainAt t v) h
+
+-- the children of node v as members
+abbrev pub kidMembers : List ℕ → List ℕ → List ℕ → ℕ → List Member
+kidMembers t s a v = members t s a (firstAt t v) (kidsOf t v)
+
+pub record CutReady (t s a : List ℕ) (v : ℕ) : Type 0 where
+  pub sound : SoundFacts t
+  pub low : 1 ≤ v
+  pub high : v ≤ nodeCount t
+  pub marks-long : length a ≡ nodeCount t
+  pub long : nodeCount t ≤ length s
+  pub small : restAt t s (firstAt t v) (kidsOf t v) ≤ mostSum
+  pub laid : LaidAt (limitOf t) t a (firstAt t v) (kidsOf t v) (kidMembers t s a v)
+
+-- the children of node v are reduced to the room, and r is what they weigh
+pub record CutDone (t : List ℕ) (v room : ℕ) (s a s′ a′ : List ℕ) (r : ℕ) : Type 0 where
+  pub laid : LaidAt (limitOf t) t a′ (firstAt t v) (kidsOf t v) (reduce room (kidMembers t s a v))
+  pub sum : r ≡ restSum (reduce room (kidMembers t s a v))
+  pub rests-outside : Outside v (v + size (kidsOf t v)) s s′
+  pub marks-outside : Outside v (v + size (kidsOf t v)) a a′
+
+pub record SettleReady (t s a : List ℕ) (v : ℕ) : Type 0 where
+  pub tree : AcceptedFacts t
+  pub low : 1 ≤ v
+  pub high : v ≤ nodeCount t
+  pub marks-long : length a ≡ nodeCount t
+  pub long : nodeCount t ≤ length s
+  pub fresh : Fresh t s a (firstAt t v) (kidsOf t v)
+
+-- what laying a plan asks of what it was lent
+pub record LayReady (t a s : List ℕ) : Type 0 where
+  pub tree : AcceptedFacts t
+  pub marks-long : length a ≡ nodeCount t
+  pub long : nodeCount t ≤ length s

@@ -1,0 +1,48 @@
+// What all planners share: the refusals 1 to 9, the words that the scratch keeps of each node, and the clearing of the scratch.
+use model::Answer;
+use model::Verdict;
+use table::accept;
+use table::earlier;
+use table::place_if;
+use table::read_tree;
+use table::words::limit_of;
+use table::words::node_count;
+ghost use mathlib.Core.Path.{_≡_};
+ghost use Prim.Native.Nat.{_≤_};
+ghost use lib.ListN.{length, replicate};
+ghost use Rattle.model.specs.Refusals.{planChecks, firstOf, accepted};
+ghost use Rattle.planner.specs.Nodes.{kept};
+
+// 1 to 9: the answer, or acceptance with nothing judged.
+pub fn check_plan(table: &[u8], marks: &[u8], scratch: &[u32]) -> Answer
+    ensures { λ r. ⌜ r ≡ firstOf (planChecks (now (table .entry)) (now (marks .entry)) (now (scratch .entry))) (accepted Verdict.NotJudged) ⌝ }
+{
+    let tree = read_tree(table);
+    if tree.number != 0 {
+        return tree;
+    }
+    let nodes = node_count(table);
+    let words = 4 * (nodes as u32) * ((limit_of(table) as u32) + 3);
+    let short = place_if(scratch.len() < words as usize, words);
+    let wrong = place_if(marks.len() != nodes as usize, nodes as u32);
+    earlier(8, wrong, earlier(9, short, accept()))
+}
+
+// What the scratch keeps of node v; 0 for no node.
+pub fn kept_at(scratch: &[u32], v: u16) -> u32
+    requires { ⌜ v ≤ length (now scratch) ⌝ }
+    ensures { λ r. ⌜ r ≡ kept (now (scratch .entry)) v ⌝ }
+{
+    if v == 0 { 0 } else { scratch[(v as usize) - 1] }
+}
+
+// Every word of the scratch is 0.
+pub fn clear(scratch: &mut [u32])
+    ensures { λ r. ⌜ now (scratch .exit) ≡ replicate (length (now (scratch .entry))) 0 ⌝ }
+{
+    let mut i = 0;
+    while i < scratch.len() {
+        scratch[i] = 0;
+        i += 1;
+    }
+}

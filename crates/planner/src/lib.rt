@@ -1,0 +1,40 @@
+// The planners: each refuses, or lays its plan, clears the scratch and answers with the judge.
+mod common;
+mod pair;
+mod single;
+
+use common::check_plan;
+use common::clear;
+use judge::judge_plan;
+use model::Answer;
+use pair::lay_pair;
+use single::lay_single;
+ghost use mathlib.Core.Path.{_≡_};
+ghost use Rattle.model.specs.Refusals.{planSingle, planPair};
+ghost use Rattle.planner.specs.Outcome.{outcome};
+
+// Entry: the single planner.
+pub fn plan_single(table: &[u8], marks: &mut [u8], scratch: &mut [u32]) -> Answer
+    ensures { λ r. ⌜ outcome r (now (marks .exit)) (now (scratch .exit)) ≡ planSingle (now (table .entry)) (now (marks .entry)) (now (scratch .entry)) ⌝ }
+{
+    let checked = check_plan(table, marks, scratch);
+    if checked.number != 0 {
+        return checked;
+    }
+    lay_single(table, marks, scratch);
+    clear(scratch);
+    judge_plan(table, marks)
+}
+
+// Entry: the pair planner.
+pub fn plan_pair(table: &[u8], marks: &mut [u8], scratch: &mut [u32]) -> Answer
+    ensures { λ r. ⌜ outcome r (now (marks .exit)) (now (scratch .exit)) ≡ planPair (now (table .entry)) (now (marks .entry)) (now (scratch .entry)) ⌝ }
+{
+    let checked = check_plan(table, marks, scratch);
+    if checked.number != 0 {
+        return checked;
+    }
+    lay_pair(table, marks, scratch);
+    clear(scratch);
+    judge_plan(table, marks)
+}

@@ -1,0 +1,128 @@
+-- The numbers of 1 to n that pass a test, by their rank: how many pass up to each, which is the first, second, .., and the list of
+-- what is made of each of them.
+-- Defines Ranked. Assumes nothing.
+use Prim.Native.Nat.{ℕ, zero, suc, _+_, _≤_, _<_}
+use native.Mathlib.Omega.{arith}
+use mathlib.Core.Bool.{Bool, true, false, true≢false}
+use mathlib.Core.Path.{_≡_, refl, sym, _∙_, ap}
+use mathlib.Core.Logic.{_⊎_, inl, inr}
+use mathlib.Core.List.{List, [], _∷_, _++_}
+use lib.ListN.{length, getD, length-append, List·getD-append}
+use lib.Seq.{getD-append-seam}
+use Rattle.model.specs.Basics.{pick, countTo, listTo}
+use Rattle.theory.specs.Ranges.{Upto, pick-true, pick-false, upto-suc, countTo-zero, countTo-suc, countTo-yes, countTo-no, countTo-le, listTo-zero, listTo-suc, append-nil}
+
+module _ (p : ℕ → Bool) where
+  pub countTo-step : (n : ℕ) → countTo n p ≤ countTo (suc n) p
+  countTo-step n = omega (arith, countTo-suc n p)
+
+  pub countTo-mono : (m n : ℕ) → m ≤ n → countTo m p ≤ countTo n p
+  countTo-mono m zero h = let z : m ≡ 0 = omega arith in rw z (omega arith)
+  countTo-mono m (suc n) h = go (upto-suc n m h) (countTo-mono m n)
+    where
+      go : (m ≤ n) ⊎ (m ≡ suc n) → (m ≤ n → countTo m p ≤ countTo n p) → countTo m p ≤ countTo (suc n) p
+      go (inl l) ih = omega (arith, ih l, countTo-step n)
+      go (inr e) ih = rw e (omega arith)
+
+  -- one that passes adds one to the count
+  pub countTo-pass : (v : ℕ) → 1 ≤ v → p v ≡ true → (u : ℕ) → u < v → countTo u p < countTo v p
+  countTo-pass zero low e u h = absurd (omega arith)
+  countTo-pass (suc v) low e u h = omega (arith, countTo-yes v p e, countTo-mono u v (omega arith))
+
+  pub countTo-some : (n v : ℕ) → 1 ≤ v → v ≤ n → p v ≡ true → 1 ≤ countTo n p
+  countTo-some n v low high e = omega (arith, countTo-pass v low e 0 low, countTo-mono v n high)
+
+  -- v is the q-th of 1 to n that pass
+  pub record Ranked (n q v : ℕ) : Type 0 where
+    pub low : 1 ≤ v
+    pub high : v ≤ n
+    pub passed : p v ≡ true
+    pub rank : countTo v p ≡ q
+
+  pub ranked-more : {n q v : ℕ} → Ranked n q v → Ranked (suc n) q v
+  ranked-more r = record { low = r .low; high = omega (arith, r .high); passed = r .passed; rank = r .rank }
+
+  pub ranked : (n q : ℕ) → 1 ≤ q → q ≤ countTo n p → (v : ℕ) × Ranked n q v
+  ranked zero q low high = absurd (omega (arith, countTo-zero p))
+  ranked (suc n) q low high = go (p (suc n)) refl (ranked n q low)
+    where
+      last : p (suc n) ≡ true → (q ≤ countTo n p) ⊎ (q ≡ suc (countTo n p)) → (q ≤ countTo n p → (v : ℕ) × Ranked n q v)
+          → (v : ℕ) × Ranked (suc n) q v
+      last e (inl l) ih = let r = ih l in (r .0, ranked-more (r .1))
+      last e (inr l) ih =
+          (suc n, record { low = omega arith; high = omega arith; passed = e; rank = countTo-yes n p e ∙ sym l })
+
+      go : (b : Bool) → p (suc n) ≡ b → (q ≤ countTo n p → (v : ℕ) × Ranked n q v) → (v : ℕ) × Ranked (suc n) q v
+      go true e ih = last e (upto-suc (countTo n p) q (omega (arith, countTo-yes n p e))) ih
+      go false e ih = let r = ih (omega (arith, countTo-no n p e)) in (r .0, ranked-more (r .1))
+
+  -- there is one of each rank
+  pub ranked-one : {n q u v : ℕ} → Ranked n q u → Ranked n q v → u ≡ v
+  ranked-one {n} {q} {u} {v} r s = go (upto-cases u v)
+    where
+      upto-cases : (a b : ℕ) → (a < b) ⊎ (b ≤ a)
+      upto-cases a zero = inr (omega arith)
+      upto-cases zero (suc b) = inl (omega arith)
+      upto-cases (suc a) (suc b) = more (upto-cases a b)
+        where
+          more : (a < b) ⊎ (b ≤ a) → (suc a < suc b) ⊎ (suc b ≤ suc a)
+          more (inl h) = inl (omega arith)
+          more (inr h) = inr (omega arith)
+
+      last : (v < u) ⊎ (u ≤ v) → v ≤ u → u ≡ v
+      last (inl h) k = absurd (omega (arith, countTo-pass u (r .low) (r .passed) v h, r .rank, s .rank))
+      last (inr h) k = omega arith
+
+      go : (u < v) ⊎ (v ≤ u) → u ≡ v
+      go (inl h) = absurd (omega (arith, countTo-pass v (s .low) (s .passed) u h, r .rank, s .rank))
+      go (inr h) = last (upto-cases v u) h
+
+-- ---- The list of what is made of each that passes
+
+module _ {ℓ} {X : Type ℓ} (p : ℕ → Bool) (f : ℕ → X) where
+  abbrev pub chosen : ℕ → List X
+  chosen n = listTo n (λ v. pick (p v) (f v ∷ []) [])
+
+  pub chosen-yes : (n : ℕ) → p (suc n) ≡ true → chosen (suc n) ≡ chosen n ++ (f (suc n) ∷ [])
+  chosen-yes n e =
+      listTo-suc n (λ v. pick (p v) (f v ∷ []) [])
+      ∙ ap (λ (r : List X). chosen n ++ r) (pick-true (p (suc n)) (f (suc n) ∷ []) [] e)
+
+  pub chosen-no : (n : ℕ) → p (suc n) ≡ false → chosen (suc n) ≡ chosen n
+  chosen-no n e =
+      listTo-suc n (λ v. pick (p v) (f v ∷ []) [])
+      ∙ ap (λ (r : List X). chosen n ++ r) (pick-false (p (suc n)) (f (suc n) ∷ []) [] e) ∙ append-nil (chosen n)
+
+  pub length-chosen : (n : ℕ) → length (chosen n) ≡ countTo n p
+  length-chosen zero = ap length (listTo-zero (λ v. pick (p v) (f v ∷ []) [])) ∙ sym (countTo-zero p)
+  length-chosen (suc n) = go (p (suc n)) refl (length-chosen n)
+    where
+      go : (b : Bool) → p (suc n) ≡ b → length (chosen n) ≡ countTo n p → length (chosen (suc n)) ≡ countTo (suc n) p
+      go true e ih =
+          ap length (chosen-yes n e) ∙ length-append (chosen n) (f (suc n) ∷ []) ∙ omega (arith, countTo-yes n p e)
+      go false e ih = ap length (chosen-no n e) ∙ ih ∙ sym (countTo-no n p e)
+
+  -- what is made of the one of rank i + 1 stands at i
+  pub getD-chosen : (n v i : ℕ) (d : X) → Ranked p n (suc i) v → getD (chosen n) i d ≡ f v
+  getD-chosen zero v i d r = absurd (omega (arith, r .low, r .high))
+  getD-chosen (suc n) v i d r = by-last (p (suc n)) refl (upto-suc n v (r .high)) (getD-chosen n v i d)
+    where
+      earlier : v ≤ n → Ranked p n (suc i) v
+      earlier h = record { low = r .low; high = h; passed = r .passed; rank = r .rank }
+
+      within : v ≤ n → i < length (chosen n)
+      within h = omega (arith, length-chosen n, r .rank, countTo-mono p v n h)
+
+      by-last : (b : Bool) → p (suc n) ≡ b → (v ≤ n) ⊎ (v ≡ suc n) → (Ranked p n (suc i) v → getD (chosen n) i d ≡ f v)
+          → getD (chosen (suc n)) i d ≡ f v
+      by-last true e (inl h) ih =
+          ap (λ l. getD l i d) (chosen-yes n e) ∙ List·getD-append (chosen n) (f (suc n) ∷ []) d i (within h) ∙ ih (earlier h)
+      by-last true e (inr q) ih =
+          let here : i ≡ length (chosen n) =
+          omega (arith, length-chosen n, r .rank, countTo-yes n p e, ap (λ u. countTo u p) q) in
+          ap (λ l. getD l i d) (chosen-yes n e)
+          ∙ ap (λ k. getD (chosen n ++ (f (suc n) ∷ [])) k d) here
+          ∙ getD-append-seam (chosen n) (f (suc n)) [] d
+          ∙ ap f (sym q)
+      by-last false e (inl h) ih = ap (λ l. getD l i d) (chosen-no n e) ∙ ih (earlier h)
+      by-last false e (inr q) ih = absurd (true≢false (sym (r .passed) ∙ ap p q ∙ e))
