@@ -58,7 +58,11 @@ pub extern "C" fn balduqen_judge(table: &[u8], marks: &[u8]) -> Figures
 }
 
 #[no_mangle]
-pub extern "C" fn balduqen_plan_single(table: &[u8], marks: &mut [u8], scratch: &mut [u32]) -> Figures
+pub extern "C" fn balduqen_plan_single(
+    table: &[u8],
+    marks: &mut [u8],
+    scratch: &mut [u32],
+) -> Figures
     ensures { λ r. ⌜ left r (now (marks .exit)) (now (scratch .exit)) ≡ leftBy (planSingle (now (table .entry)) (now (marks .entry)) (now (scratch .entry))) ⌝ }
 {
     flatten(planner::plan_single(table, marks, scratch))

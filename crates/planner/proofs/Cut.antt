@@ -95,10 +95,11 @@ module _ {t : List ℕ} {v : ℕ} {s₀ a₀ : List ℕ} (ready : CutReady t s�
       turns =
           record {
             over = omega (arith, x .sum-is, members-rest t s a (firstAt t v) (kidsOf t v));
-            some = omega
-                (arith,
-                members-largest t s a (firstAt t v) (kidsOf t v),
-                largest-some t s (firstAt t v) (kidsOf t v) (omega (arith, x .sum-is)));
+            some = omega (
+              arith,
+              members-largest t s a (firstAt t v) (kidsOf t v),
+              largest-some t s (firstAt t v) (kidsOf t v) (omega (arith, x .sum-is)),
+            );
           }
 
       next-members : kidMembers t (set s (h - 1) 0) (set a (h - 1) 1) v ≡ takeEarliest most (kidMembers t s a v)
@@ -120,11 +121,12 @@ module _ {t : List ℕ} {v : ℕ} {s₀ a₀ : List ℕ} (ready : CutReady t s�
           record {
             long = simp length-set (x .long);
             marks-long = simp length-set (x .marks-long);
-            sum-is = omega
-                (arith,
-                x .sum-is,
-                r .0,
-                cut-rest s most h (node .below) earliest (omega (arith, last-high, x .long, ready .long)));
+            sum-is = omega (
+              arith,
+              x .sum-is,
+              r .0,
+              cut-rest s most h (node .below) earliest (omega (arith, last-high, x .long, ready .long)),
+            );
             goes-on = next-goes-on ∙ x .goes-on;
             laid = rw next-members
                 (cut-laid (limitOf t) s a most h (node .below) earliest (omega (arith, last-high, x .marks-long, ready .marks-long)) (x .laid));

@@ -45,14 +45,15 @@ module _ {t s a : List ℕ} {v : ℕ} (ready : SettleReady t s a v) where
         high = ready .high;
         marks-long = ready .marks-long;
         long = ready .long;
-        small = omega
-            (arith,
-            members-rest t s a (firstAt t v) (kidsOf t v),
-            ap restSum (ready .fresh .rests),
-            small,
-            sized,
-            last-high,
-            ready .tree .sound .count-high);
+        small = omega (
+          arith,
+          members-rest t s a (firstAt t v) (kidsOf t v),
+          ap restSum (ready .fresh .rests),
+          small,
+          sized,
+          last-high,
+          ready .tree .sound .count-high,
+        );
         laid = rw (ready .fresh .rests) (ready .fresh .laid);
       }
 

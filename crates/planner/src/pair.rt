@@ -45,7 +45,12 @@ fn cuts_first(table: &[u8], scratch: &[u32], v: u16) -> bool
 {
     let left = kept_at(scratch, first_at(table, v));
     let right = kept_at(scratch, next_at(table, v));
-    cuts_left(limit_of(table) as u32, weight_at(table, v) as u32, left, right)
+    cuts_left(
+        limit_of(table) as u32,
+        weight_at(table, v) as u32,
+        left,
+        right,
+    )
 }
 
 // Whether node v cuts its next sibling.
@@ -55,7 +60,12 @@ fn cuts_next(table: &[u8], scratch: &[u32], v: u16) -> bool
 {
     let left = kept_at(scratch, first_at(table, v));
     let right = kept_at(scratch, next_at(table, v));
-    cuts_right(limit_of(table) as u32, weight_at(table, v) as u32, left, right)
+    cuts_right(
+        limit_of(table) as u32,
+        weight_at(table, v) as u32,
+        left,
+        right,
+    )
 }
 
 // What is left of a side.
@@ -70,8 +80,14 @@ fn weigh_node(table: &[u8], scratch: &[u32], v: u16) -> u32
     requires { ⌜ PairReady (now table) (now scratch) v ⌝ }
     ensures { λ r. ⌜ r ≡ remainderAt (now (table .entry)) v ⌝ }
 {
-    let left = unless_cut(cuts_first(table, scratch, v), kept_at(scratch, first_at(table, v)));
-    let right = unless_cut(cuts_next(table, scratch, v), kept_at(scratch, next_at(table, v)));
+    let left = unless_cut(
+        cuts_first(table, scratch, v),
+        kept_at(scratch, first_at(table, v)),
+    );
+    let right = unless_cut(
+        cuts_next(table, scratch, v),
+        kept_at(scratch, next_at(table, v)),
+    );
     (weight_at(table, v) as u32) + left + right
 }
 
@@ -117,7 +133,10 @@ fn lay_below(table: &[u8], marks: &mut [u8], scratch: &[u32], v: u16)
     ensures { λ r. ⌜ now (marks .exit) ≡ laidBelow (now (table .entry)) (now (marks .entry)) v ⌝ }
 {
     let first = mark_of(cuts_first(table, scratch, v), 0);
-    let next = mark_of(cuts_next(table, scratch, v), uncut_after(marks[(v as usize) - 1]));
+    let next = mark_of(
+        cuts_next(table, scratch, v),
+        uncut_after(marks[(v as usize) - 1]),
+    );
     put_mark(marks, first_at(table, v), first);
     put_mark(marks, next_at(table, v), next);
 }

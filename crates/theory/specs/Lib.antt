@@ -24,6 +24,7 @@ pub mod RunMarks
 -- The archive
 pub mod ArchiveWords
 pub mod ArchiveBack
+pub mod ArchiveAnswers
 -- Sequences of sibling runs
 pub mod Chains
 pub mod Listed
@@ -49,6 +50,15 @@ pub mod BestLaid
 pub mod Reach
 pub mod RealPlans
 pub mod BestShape
+-- The best planner's columns
+pub mod Cells
+pub mod CellsFront
+pub mod CellsRun
+pub mod CellsNode
+pub mod CellsPlan
+pub mod CellsLay
+pub mod CellsMarks
+pub mod CellsChosen
 -- Demand 3
 pub mod Lowest
 pub mod Promise

@@ -122,7 +122,7 @@ fn one_level(tree: &Tree, node: usize, rests: &[u32]) -> Tree {
 #[test]
 fn plans_of_large_trees() {
     let random = &mut Random::new(406);
-    for round in 0..60 {
+    for round in 0..30 {
         let limit = random.pick(&[1, 5, 30, 200, 1024]);
         let count = random.pick(&[50, 200, 1024]);
         let table = random_table(random, FORMS[round % 5], count, limit).bytes();

@@ -1,0 +1,53 @@
+-- Parts of the reader's own arrays, and its answers. Assumes nothing.
+use Prim.Native.Nat.{ℕ, _+_, _*_, _≤_, _<_}
+use native.Mathlib.Omega.{arith}
+use mathlib.Core.Bool.{true}
+use mathlib.Core.Path.{_≡_, refl, sym, _∙_, ap, ap₂}
+use mathlib.Core.List.{List, _++_}
+use lib.ListN.{length, take, replicate, length-append, length-replicate}
+use lib.Seq.{length-take-le, take-at}
+use Rattle.model.specs.Basics.{sameList}
+use Rattle.model.specs.Table.{nodeCount, tableBytes}
+use Rattle.model.specs.Plan.{verdictOf}
+use Rattle.model.specs.Archive.{tableIn, marksIn}
+use Rattle.model.specs.Refusals.{refused, accepted, isArchive, readArchive}
+use Rattle.model.specs.declared.Answer.{Answer}
+use Rattle.theory.specs.ArchiveAnswers.{read-none, read-done}
+use Rattle.archive.specs.Answers.{restored, CopyJudged, not-archive}
+
+-- a part of an array of zeros
+pub fresh-part : (n size : ℕ) → size ≤ n → length (take size (replicate {A = ℕ} n 0)) ≡ size
+fresh-part n size h = length-take-le size (replicate n 0) (rw (length-replicate {A = ℕ} n 0) h)
+
+pub known-part : (l : List ℕ) (n size : ℕ) → length l ≡ n → size ≤ n → size ≡ length (take size l)
+known-part l n size long h = sym (length-take-le size l (omega arith))
+
+-- a part that came back
+module _ (e rest : List ℕ) (size : ℕ) (long : length e ≡ size) where
+  pub part-within : size ≤ length (e ++ rest)
+  part-within = omega (arith, length-append e rest)
+
+  pub part-long : size ≡ length (take size (e ++ rest))
+  part-long = sym (ap length (take-at e rest size long) ∙ long)
+
+  pub part-back : (a : List ℕ) → sameList (take size (e ++ rest)) a ≡ sameList e a
+  part-back a = ap (λ l. sameList l a) (take-at e rest size long)
+
+-- ---- Answers
+
+module _ (a t m t′ m′ : List ℕ) (r : Answer) (j : CopyJudged a t′ m′ r) where
+  pub reader-none : (r .number ≡ 0 → ⊥) → (isArchive a ≡ true → (t′ ≡ tableIn a) × (m′ ≡ marksIn a)) → restored r t m ≡ readArchive a t m
+  reader-none other h =
+      let x = j .refuses other in
+      ap (λ (y : Answer). restored y t m) (x .0) ∙ read-none a t m (not-archive a t′ m′ h (x .1))
+
+  pub reader-done : r .number ≡ 0 → length t ≡ tableBytes (nodeCount a) → length m ≡ nodeCount a → (x y : List ℕ) → x ≡ t′ → y ≡ m′
+      → restored r x y ≡ readArchive a t m
+  reader-done z fits long x y x-is y-is =
+      let k = j .accepts z in
+      let answer : r ≡ accepted (verdictOf (tableIn a) (marksIn a)) = k .3 ∙ ap₂ (λ p q. accepted (verdictOf p q)) (sym (k .1)) (sym (k .2)) in
+      let table : x ≡ tableIn a = x-is ∙ sym (k .1) in
+      let marks : y ≡ marksIn a = y-is ∙ sym (k .2) in
+      ap (λ (q : Answer). restored q x y) answer
+      ∙ ap₂ (λ p q. restored (accepted (verdictOf (tableIn a) (marksIn a))) p q) table marks
+      ∙ read-done a t m (k .0) fits long

@@ -1,0 +1,154 @@
+-- `archive::decode::fill_marks` meets its contract. Assumes nothing.
+use mathlib.Core.Path.{_≡_, refl, sym, ap, _∙_, subst}
+use Prim.Native.Nat.{ℕ, _+_, _-_, _*_, _≤_, _<_}
+use native.Mathlib.Omega.{arith}
+use lib.ListN.{length, getD, length-set, replicate, getD-replicate}
+use lib.Dec.{eqb}
+use Rattle.archive.specs.Ends.{MarksPass, marks-start, marks-turn}
+use Rattle.archive.proofs.Decoded.{sibling-small}
+use borrow.Author.Needs.{needs}
+use Rattle.archive.proofs.decode.fill_marks.Statement.{statement}
+use Rattle.archive.proofs.decode.fill_marks.Tie as tie
+
+abbrev Inv-loop : tie.InvT-loop
+Inv-loop nodes lasts links plan₀ due₀ v₀ plan due v =
+    (v ≤ nodes) × (length due ≡ 1025) × (length plan ≡ length plan₀) × MarksPass lasts links nodes v plan due
+
+abbrev μ-loop : tie.MeasureT-loop
+μ-loop nodes lasts links plan₀ due₀ v₀ plan due v = nodes - v
+
+loop-holds : tie.Need-loop-holds Inv-loop μ-loop
+loop-holds c =
+    let a = c .before .args in (
+      omega arith,
+      refl,
+      refl,
+      marks-start (a .lasts .now) (a .links .now) (a .nodes) (a .plan .now) (replicate 1025 0) (λ k fits. getD-replicate 1025 k 0 0 fits),
+    )
+
+cast-i : tie.Need-cast-i Inv-loop μ-loop
+cast-i c = search needs
+
+add-v : tie.Need-add-v Inv-loop μ-loop
+add-v c = search needs
+
+cast-last : tie.Need-cast-last Inv-loop μ-loop
+cast-last c = search needs
+
+mul-last : tie.Need-mul-last Inv-loop μ-loop
+mul-last c = search needs
+
+element-copy-out-last : tie.Need-element-copy-out-last Inv-loop μ-loop
+element-copy-out-last c = search needs
+
+cast-run-end : tie.Need-cast-run-end Inv-loop μ-loop
+cast-run-end c = search needs
+
+mul-run-end : tie.Need-mul-run-end Inv-loop μ-loop
+mul-run-end c = search needs
+
+array-read-run-end : tie.Need-array-read-run-end Inv-loop μ-loop
+array-read-run-end c = search needs
+
+run-end-requires : tie.Need-run-end-requires Inv-loop μ-loop
+run-end-requires c κs = search needs
+
+cast-sibling-of : tie.Need-cast-sibling-of Inv-loop μ-loop
+cast-sibling-of c = search needs
+
+mul-sibling-of : tie.Need-mul-sibling-of Inv-loop μ-loop
+mul-sibling-of c = search needs
+
+element-copy-out-sibling-of : tie.Need-element-copy-out-sibling-of Inv-loop μ-loop
+element-copy-out-sibling-of c = search needs
+
+sibling-of-requires : tie.Need-sibling-of-requires Inv-loop μ-loop
+sibling-of-requires c κs = search needs
+
+mark-for-requires : tie.Need-mark-for-requires Inv-loop μ-loop
+mark-for-requires c κs = search needs
+
+slice-write-plan : tie.Need-slice-write-plan Inv-loop μ-loop
+slice-write-plan c =
+    let l = c .before .before .before .before .before .before .loop in
+    let start = c .before .before .before .before .before .before .before .before in
+    omega (arith, l .inv .2, start .pre .2, start .pre .0)
+
+cast-due : tie.Need-cast-due Inv-loop μ-loop
+cast-due c =
+    let l = c .before .before .before .before .before .before .loop in
+    let start = c .before .before .before .before .before .before .before .before in
+    let next = c .before .sibling-of in
+    let link = start .pre .1 (l .v + 1) (omega arith) (omega arith) in
+    let small : next .result < 1025 = omega (arith, next .ensures, sibling-small (eqb (l .v + 1) 1) (getD (start .args .links .now) (l .v + 1) 0) link) in
+    search needs
+
+mul-due : tie.Need-mul-due Inv-loop μ-loop
+mul-due c =
+    let l = c .before .before .before .before .before .before .loop in
+    let start = c .before .before .before .before .before .before .before .before in
+    let next = c .before .sibling-of in
+    let link = start .pre .1 (l .v + 1) (omega arith) (omega arith) in
+    let small : next .result < 1025 = omega (arith, next .ensures, sibling-small (eqb (l .v + 1) 1) (getD (start .args .links .now) (l .v + 1) 0) link) in
+    search needs
+
+array-write-due : tie.Need-array-write-due Inv-loop μ-loop
+array-write-due c =
+    let l = c .before .before .before .before .before .before .loop in
+    let start = c .before .before .before .before .before .before .before .before in
+    let next = c .before .sibling-of in
+    let link = start .pre .1 (l .v + 1) (omega arith) (omega arith) in
+    let small : next .result < 1025 = omega (arith, next .ensures, sibling-small (eqb (l .v + 1) 1) (getD (start .args .links .now) (l .v + 1) 0) link) in
+    search needs
+
+loop-less : tie.Need-loop-less Inv-loop μ-loop
+loop-less c = search needs
+
+loop-again : tie.Need-loop-again Inv-loop μ-loop
+loop-again c =
+    let l = c .before .before .before .before .before .before .loop in
+    let start = c .before .before .before .before .before .before .before .before in
+    let a = start .args in
+    let less = c .before .before .before .before .before .loop-test .taken in (
+      omega arith,
+      simp length-set (l .inv .1),
+      simp length-set (l .inv .2),
+      marks-turn (a .lasts .now) (a .links .now) (a .nodes) (l .v) (l .plan) (l .due) _ _ _ (l .inv .3) (l .inv .1) less
+          (omega (arith, l .inv .2, start .pre .2, start .pre .0)) (c .before .before .before .run-end .ensures) (c .mark-for .ensures) (c .before .sibling-of .ensures),
+    )
+
+same-length : tie.Need-same-length Inv-loop μ-loop
+same-length c = c .before .loop .inv .2
+
+returns : tie.Need-returns Inv-loop μ-loop
+returns c = λ t m g u low high. c .before .loop .inv .3 t m g .0 u low (omega (arith, c .loop-test .left))
+
+pub fill-marks-spec : {M : Type 1} → statement M
+fill-marks-spec =
+    tie.close
+    (tie.spec
+    Inv-loop
+    μ-loop
+    loop-holds
+    cast-i
+    add-v
+    cast-last
+    mul-last
+    element-copy-out-last
+    cast-run-end
+    mul-run-end
+    array-read-run-end
+    run-end-requires
+    cast-sibling-of
+    mul-sibling-of
+    element-copy-out-sibling-of
+    sibling-of-requires
+    mark-for-requires
+    slice-write-plan
+    cast-due
+    mul-due
+    array-write-due
+    loop-less
+    loop-again
+    same-length
+    returns)

@@ -1,0 +1,45 @@
+-- `archive::decode::first_in` meets its contract. Assumes nothing.
+use mathlib.Core.Path.{sym, _∙_}
+use native.Mathlib.Omega.{arith}
+use Rattle.archive.proofs.Decoded.{first-last, first-yes, first-no}
+use borrow.Author.Needs.{needs}
+use Rattle.archive.proofs.decode.first_in.Statement.{statement}
+use Rattle.archive.proofs.decode.first_in.Tie as tie
+
+node-count-requires : tie.Need-node-count-requires
+node-count-requires c κs = search needs
+
+returns : tie.Need-returns
+returns c =
+    first-last (c .before .before .before .args .archive .now) (c .before .before .before .args .v) (omega (arith, c .before .node-count .ensures, c .if1 .taken))
+
+add-parent-in : tie.Need-add-parent-in
+add-parent-in c = search needs
+
+parent-in-requires : tie.Need-parent-in-requires
+parent-in-requires c κs = search needs
+
+add-result : tie.Need-add-result
+add-result c = search needs
+
+returns-2 : tie.Need-returns-2
+returns-2 c =
+    let a = c .before .before .before .before .before .args in
+    first-yes (a .archive .now) (a .v) (omega (arith, c .before .before .before .node-count .ensures, c .before .before .if1 .left)) (sym (c .before .parent-in .ensures) ∙ c .if2 .taken)
+
+returns-3 : tie.Need-returns-3
+returns-3 c =
+    let a = c .before .before .before .before .before .args in
+    first-no (a .archive .now) (a .v) (λ e. c .if2 .left (c .before .parent-in .ensures ∙ e))
+
+pub first-in-spec : {M : Type 1} → statement M
+first-in-spec =
+    tie.close
+    (tie.spec
+    node-count-requires
+    returns
+    add-parent-in
+    parent-in-requires
+    add-result
+    returns-2
+    returns-3)

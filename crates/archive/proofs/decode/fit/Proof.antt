@@ -1,0 +1,17 @@
+-- `archive::decode::fit` meets its contract. Assumes nothing.
+use borrow.Author.Tests.{lt-ltb, le-ltb}
+use Rattle.model.specs.Basics.{pick}
+use Rattle.archive.specs.Decode.{fitted}
+use Rattle.archive.proofs.decode.fit.Statement.{statement}
+use Rattle.archive.proofs.decode.fit.Tie as tie
+
+returns : tie.Need-returns
+unfolding fitted pick
+returns c = simp (lt-ltb _ _ (c .if1 .taken))
+
+returns-2 : tie.Need-returns-2
+unfolding fitted pick
+returns-2 c = simp (le-ltb _ _ (c .if1 .left))
+
+pub fit-spec : {M : Type 1} → statement M
+fit-spec = tie.close (tie.spec returns returns-2)

@@ -1,0 +1,97 @@
+-- `archive::decode::load_lasts` meets its contract. Assumes nothing.
+use mathlib.Core.Path.{_≡_, refl, sym, ap, _∙_, subst}
+use Prim.Native.Nat.{ℕ, _+_, _-_, _*_, _≤_, _<_}
+use native.Mathlib.Omega.{arith}
+use lib.ListN.{length, getD, length-set, replicate, getD-replicate}
+use Rattle.archive.specs.Decode.{fitted, fitted-small}
+use Rattle.archive.specs.Ends.{LastsPass, last-start, lasts-turn, lasts-end}
+use borrow.Author.Needs.{needs}
+use Rattle.archive.proofs.decode.load_lasts.Statement.{statement}
+use Rattle.archive.proofs.decode.load_lasts.Tie as tie
+
+abbrev Inv-loop : tie.InvT-loop
+Inv-loop archive pages lasts₀ q₀ lasts q =
+    (length lasts ≡ 1025) × (q ≤ pages) × LastsPass archive q lasts
+
+abbrev μ-loop : tie.MeasureT-loop
+μ-loop archive pages lasts₀ q₀ lasts q = pages - q
+
+pages-in-requires : tie.Need-pages-in-requires Inv-loop μ-loop
+pages-in-requires c κs = search needs
+
+fit-requires : tie.Need-fit-requires Inv-loop μ-loop
+fit-requires c κs = search needs
+
+loop-holds : tie.Need-loop-holds Inv-loop μ-loop
+loop-holds c = (refl, omega arith, λ t m w. last-start w (replicate 1025 0) (λ k fits. getD-replicate 1025 k 0 0 fits))
+
+add-q : tie.Need-add-q Inv-loop μ-loop
+add-q c = search needs
+
+page-field-requires : tie.Need-page-field-requires Inv-loop μ-loop
+page-field-requires c κs = search needs
+
+fit-requires-2 : tie.Need-fit-requires-2 Inv-loop μ-loop
+fit-requires-2 c κs = search needs
+
+page-field-requires-2 : tie.Need-page-field-requires-2 Inv-loop μ-loop
+page-field-requires-2 c κs = search needs
+
+cast-lasts : tie.Need-cast-lasts Inv-loop μ-loop
+cast-lasts c =
+    let first = c .before .fit2 in
+    let small : first .result < 1025 = omega (arith, first .ensures, fitted-small (c .before .before .page-field .result)) in
+    search needs
+
+mul-lasts : tie.Need-mul-lasts Inv-loop μ-loop
+mul-lasts c =
+    let first = c .before .fit2 in
+    let small : first .result < 1025 = omega (arith, first .ensures, fitted-small (c .before .before .page-field .result)) in
+    search needs
+
+array-write-lasts : tie.Need-array-write-lasts Inv-loop μ-loop
+array-write-lasts c =
+    let first = c .before .fit2 in
+    let small : first .result < 1025 = omega (arith, first .ensures, fitted-small (c .before .before .page-field .result)) in
+    search needs
+
+loop-less : tie.Need-loop-less Inv-loop μ-loop
+loop-less c = search needs
+
+loop-again : tie.Need-loop-again Inv-loop μ-loop
+loop-again c =
+    let l = c .before .before .before .before .loop in
+    let a = c .before .before .before .before .before .before .before .before .args in
+    let count = c .before .before .before .before .before .fit .ensures ∙ ap fitted (c .before .before .before .before .before .before .pages-in .ensures) in (
+      simp length-set (l .inv .0),
+      omega arith,
+      lasts-turn (a .archive .now) (l .lasts) (l .q) _ _ _ (l .inv .2) (l .inv .0) (c .before .before .before .loop-test .taken) count
+          (c .before .fit2 .ensures ∙ ap fitted (c .before .before .page-field .ensures)) (c .page-field2 .ensures),
+    )
+
+returns : tie.Need-returns Inv-loop μ-loop
+returns c =
+    let l = c .before .loop in
+    let a = c .before .before .before .before .before .args in
+    let count = c .before .before .fit .ensures ∙ ap fitted (c .before .before .before .pages-in .ensures) in
+    λ t m w. lasts-end (a .archive .now) (l .lasts) (l .q) _ (l .inv .2) (c .loop-test .left) count t m w
+
+pub load-lasts-spec : {M : Type 1} → statement M
+load-lasts-spec =
+    tie.close
+    (tie.spec
+    Inv-loop
+    μ-loop
+    pages-in-requires
+    fit-requires
+    loop-holds
+    add-q
+    page-field-requires
+    fit-requires-2
+    page-field-requires-2
+    cast-lasts
+    mul-lasts
+    array-write-lasts
+    loop-less
+    loop-again
+    returns)

@@ -1,0 +1,71 @@
+-- `archive::decode::load_parents` meets its contract. Assumes nothing.
+use mathlib.Core.Path.{_≡_, refl, sym, ap, _∙_, subst}
+use Prim.Native.Nat.{ℕ, _+_, _-_, _*_, _≤_, _<_}
+use native.Mathlib.Omega.{arith}
+use lib.ListN.{length, getD, length-set, replicate, getD-replicate}
+use Rattle.archive.specs.Decode.{Loaded, fitted, loaded-turn}
+use borrow.Author.Needs.{needs}
+use Rattle.archive.proofs.decode.load_parents.Statement.{statement}
+use Rattle.archive.proofs.decode.load_parents.Tie as tie
+
+abbrev Inv-loop : tie.InvT-loop
+Inv-loop archive nodes parents₀ v₀ parents v =
+    (length parents ≡ 1025) × (v ≤ nodes) × Loaded archive v parents
+
+abbrev μ-loop : tie.MeasureT-loop
+μ-loop archive nodes parents₀ v₀ parents v = nodes - v
+
+loop-holds : tie.Need-loop-holds Inv-loop μ-loop
+loop-holds c = (refl, omega arith, λ u low high. absurd (omega arith))
+
+add-v : tie.Need-add-v Inv-loop μ-loop
+add-v c = search needs
+
+parent-in-requires : tie.Need-parent-in-requires Inv-loop μ-loop
+parent-in-requires c κs = search needs
+
+fit-requires : tie.Need-fit-requires Inv-loop μ-loop
+fit-requires c κs = search needs
+
+cast-parents : tie.Need-cast-parents Inv-loop μ-loop
+cast-parents c = search needs
+
+mul-parents : tie.Need-mul-parents Inv-loop μ-loop
+mul-parents c = search needs
+
+array-write-parents : tie.Need-array-write-parents Inv-loop μ-loop
+array-write-parents c = search needs
+
+loop-less : tie.Need-loop-less Inv-loop μ-loop
+loop-less c = search needs
+
+loop-again : tie.Need-loop-again Inv-loop μ-loop
+loop-again c =
+    let l = c .before .before .before .loop in
+    let start = c .before .before .before .before .before in
+    let a = start .args in (
+      simp length-set (l .inv .0),
+      omega arith,
+      loaded-turn (a .archive .now) (l .parents) (l .v) _ (l .inv .2) (l .inv .0) (omega (arith, c .before .before .loop-test .taken, start .pre))
+          (c .fit .ensures ∙ ap fitted (c .before .parent-in .ensures)),
+    )
+
+returns : tie.Need-returns Inv-loop μ-loop
+returns c = λ u low high. c .before .loop .inv .2 u low (omega (arith, c .loop-test .left))
+
+pub load-parents-spec : {M : Type 1} → statement M
+load-parents-spec =
+    tie.close
+    (tie.spec
+    Inv-loop
+    μ-loop
+    loop-holds
+    add-v
+    parent-in-requires
+    fit-requires
+    cast-parents
+    mul-parents
+    array-write-parents
+    loop-less
+    loop-again
+    returns)

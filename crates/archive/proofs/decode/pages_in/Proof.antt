@@ -1,0 +1,15 @@
+-- `archive::decode::pages_in` meets its contract. Assumes nothing.
+use Rattle.model.specs.Archive.{pagesIn}
+use borrow.Author.Needs.{needs}
+use Rattle.archive.proofs.decode.pages_in.Statement.{statement}
+use Rattle.archive.proofs.decode.pages_in.Tie as tie
+
+word-at-requires : tie.Need-word-at-requires
+word-at-requires c κs = search needs
+
+returns : tie.Need-returns
+unfolding pagesIn
+returns c = c .word-at .ensures
+
+pub pages-in-spec : {M : Type 1} → statement M
+pages-in-spec = tie.close (tie.spec word-at-requires returns)

@@ -1,0 +1,15 @@
+-- `archive::decode::parent_in` meets its contract. Assumes nothing.
+use Rattle.model.specs.Archive.{parentIn}
+use borrow.Author.Needs.{needs}
+use Rattle.archive.proofs.decode.parent_in.Statement.{statement}
+use Rattle.archive.proofs.decode.parent_in.Tie as tie
+
+node-field-requires : tie.Need-node-field-requires
+node-field-requires c κs = search needs
+
+returns : tie.Need-returns
+unfolding parentIn
+returns c = c .node-field .ensures
+
+pub parent-in-spec : {M : Type 1} → statement M
+parent-in-spec = tie.close (tie.spec node-field-requires returns)

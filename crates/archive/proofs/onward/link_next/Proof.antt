@@ -1,0 +1,121 @@
+-- `archive::onward::link_next` meets its contract: what was seen of each key so far, and the links of the nodes passed.
+-- Assumes nothing.
+use mathlib.Core.Path.{_≡_}
+use Prim.Native.Nat.{ℕ, _≤_, _<_}
+use lib.ListN.{length, getD}
+use lib.ListN.{length-set, replicate, getD-replicate}
+use mathlib.Core.Path.{refl}
+use native.Mathlib.Omega.{arith}
+use Rattle.archive.specs.Onward.{Seen, LinkedFrom, seen-start, seen-turn, linked-start, linked-turn}
+use borrow.Author.Needs.{needs}
+use Rattle.archive.proofs.onward.link_next.Statement.{statement}
+use Rattle.archive.proofs.onward.link_next.Tie as tie
+
+abbrev Inv-loop : tie.InvT-loop
+Inv-loop keys nodes seen₀ next₀ v₀ seen next v =
+    (length seen ≡ 1025) × (length next ≡ 1025) × (v ≤ nodes) × Seen (λ u. getD keys u 0) nodes v seen
+    × LinkedFrom (λ u. getD keys u 0) nodes v next
+
+abbrev μ-loop : tie.MeasureT-loop
+μ-loop keys nodes seen₀ next₀ v₀ seen next v = v
+
+loop-holds : tie.Need-loop-holds Inv-loop μ-loop
+loop-holds c = (refl, refl, omega arith, seen-start _ _ (replicate 1025 0) (λ k fits. getD-replicate 1025 k 0 0 fits), linked-start _ _ (replicate 1025 0))
+
+cast-key : tie.Need-cast-key Inv-loop μ-loop
+cast-key c = search needs
+
+mul-key : tie.Need-mul-key Inv-loop μ-loop
+mul-key c = search needs
+
+element-copy-out-key : tie.Need-element-copy-out-key Inv-loop μ-loop
+element-copy-out-key c = search needs
+
+cast-key-2 : tie.Need-cast-key-2 Inv-loop μ-loop
+cast-key-2 c =
+    let l = c .before .before .loop in
+    let start = c .before .before .before in
+    let key : getD (start .args .keys .now) (l .v) 0 < 1025 = start .pre .1 (l .v) (omega arith) (omega arith) in
+    search needs
+
+mul-next : tie.Need-mul-next Inv-loop μ-loop
+mul-next c =
+    let l = c .before .before .loop in
+    let start = c .before .before .before in
+    let key : getD (start .args .keys .now) (l .v) 0 < 1025 = start .pre .1 (l .v) (omega arith) (omega arith) in
+    search needs
+
+array-read-next : tie.Need-array-read-next Inv-loop μ-loop
+array-read-next c =
+    let l = c .before .before .loop in
+    let start = c .before .before .before in
+    let key : getD (start .args .keys .now) (l .v) 0 < 1025 = start .pre .1 (l .v) (omega arith) (omega arith) in
+    search needs
+
+cast-next : tie.Need-cast-next Inv-loop μ-loop
+cast-next c = search needs
+
+mul-next-2 : tie.Need-mul-next-2 Inv-loop μ-loop
+mul-next-2 c = search needs
+
+array-write-next : tie.Need-array-write-next Inv-loop μ-loop
+array-write-next c = search needs
+
+mul-seen : tie.Need-mul-seen Inv-loop μ-loop
+mul-seen c =
+    let l = c .before .before .loop in
+    let start = c .before .before .before in
+    let key : getD (start .args .keys .now) (l .v) 0 < 1025 = start .pre .1 (l .v) (omega arith) (omega arith) in
+    search needs
+
+array-write-seen : tie.Need-array-write-seen Inv-loop μ-loop
+array-write-seen c =
+    let l = c .before .before .loop in
+    let start = c .before .before .before in
+    let key : getD (start .args .keys .now) (l .v) 0 < 1025 = start .pre .1 (l .v) (omega arith) (omega arith) in
+    search needs
+
+sub-v : tie.Need-sub-v Inv-loop μ-loop
+sub-v c = search needs
+
+loop-less : tie.Need-loop-less Inv-loop μ-loop
+loop-less c = search needs
+
+loop-again : tie.Need-loop-again Inv-loop μ-loop
+loop-again c =
+    let l = c .before .before .loop in
+    let start = c .before .before .before in
+    let keys = start .args .keys .now in
+    let key : getD keys (l .v) 0 < 1025 = start .pre .1 (l .v) (omega arith) (omega arith) in (
+      simp length-set (l .inv .0),
+      simp length-set (l .inv .1),
+      omega arith,
+      seen-turn (λ u. getD keys u 0) (start .args .nodes) (l .seen) (l .v) (l .inv .3) (l .inv .0) (omega arith) (l .inv .2) key,
+      linked-turn (λ u. getD keys u 0) (start .args .nodes) (l .seen) (l .next) (l .v) (l .inv .3) (l .inv .4) (omega (arith, l .inv .1, start .pre .0)) key (omega arith),
+    )
+
+returns : tie.Need-returns Inv-loop μ-loop
+returns c = λ v low high. c .before .loop .inv .4 v (omega (arith, c .loop-test .left)) high
+
+pub link-next-spec : {M : Type 1} → statement M
+link-next-spec =
+    tie.close
+    (tie.spec
+    Inv-loop
+    μ-loop
+    loop-holds
+    cast-key
+    mul-key
+    element-copy-out-key
+    cast-key-2
+    mul-next
+    array-read-next
+    cast-next
+    mul-next-2
+    array-write-next
+    mul-seen
+    array-write-seen
+    sub-v
+    loop-less
+    loop-again
+    returns)

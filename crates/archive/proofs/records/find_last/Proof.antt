@@ -1,0 +1,67 @@
+-- `archive::records::find_last` meets its contract: the run's last is that of the node reached. Assumes nothing.
+use mathlib.Core.Path.{_≡_, refl, sym, _∙_}
+use Prim.Native.Nat.{_-_, _≤_}
+use native.Mathlib.Omega.{arith}
+use Rattle.model.specs.Table.{nodeCount, nextAt}
+use Rattle.model.specs.Plan.{runLast}
+use Rattle.archive.proofs.Turns.{run-turn, run-end}
+use borrow.Author.Needs.{needs}
+use Rattle.archive.proofs.records.find_last.Statement.{statement}
+use Rattle.archive.proofs.records.find_last.Tie as tie
+
+abbrev Inv-loop : tie.InvT-loop
+Inv-loop table marks v last₀ next₀ last next = (1 ≤ last) × (last ≤ nodeCount table) × (next ≡ nextAt table last) × (runLast table marks v ≡ runLast table marks last)
+
+abbrev μ-loop : tie.MeasureT-loop
+μ-loop table marks v last₀ next₀ last next = nodeCount table - last
+
+next-at-requires : tie.Need-next-at-requires Inv-loop μ-loop
+next-at-requires c κs = search needs
+
+loop-holds : tie.Need-loop-holds Inv-loop μ-loop
+loop-holds c = let start = c .before .before .before in (start .pre .1, start .pre .2, c .next-at .ensures, refl)
+
+leads-on-requires : tie.Need-leads-on-requires Inv-loop μ-loop
+leads-on-requires c κs = search needs
+
+next-at-requires-2 : tie.Need-next-at-requires-2 Inv-loop μ-loop
+next-at-requires-2 c κs = search needs
+
+loop-less : tie.Need-loop-less Inv-loop μ-loop
+loop-less c =
+    let l = c .before .before .before .loop in
+    let start = c .before .before .before .before .before .before .before in
+    let r =
+    run-turn (start .args .marks .now) (start .pre .0) (l .last) (l .next) (l .inv .0) (l .inv .1) (l .inv .2) (start .args .v)
+    (sym (c .before .before .leads-on .ensures) ∙ c .before .if1 .taken) (l .inv .3) in
+    omega (arith, r .later, r .within)
+
+loop-again : tie.Need-loop-again Inv-loop μ-loop
+loop-again c =
+    let l = c .before .before .before .loop in
+    let start = c .before .before .before .before .before .before .before in
+    let r =
+    run-turn (start .args .marks .now) (start .pre .0) (l .last) (l .next) (l .inv .0) (l .inv .1) (l .inv .2) (start .args .v)
+    (sym (c .before .before .leads-on .ensures) ∙ c .before .if1 .taken) (l .inv .3) in
+    (r .some, r .within, c .next-at2 .ensures, r .same)
+
+returns : tie.Need-returns Inv-loop μ-loop
+returns c =
+    let l = c .before .before .loop in
+    let start = c .before .before .before .before .before .before in
+    run-end (start .args .marks .now) (start .pre .0) (l .last) (l .next) (l .inv .0) (l .inv .1) (l .inv .2) (start .args .v)
+    (sym (c .before .leads-on .ensures) ∙ c .if1 .left) (l .inv .3)
+
+pub find-last-spec : {M : Type 1} → statement M
+find-last-spec =
+    tie.close
+    (tie.spec
+    Inv-loop
+    μ-loop
+    next-at-requires
+    loop-holds
+    leads-on-requires
+    next-at-requires-2
+    loop-less
+    loop-again
+    returns)

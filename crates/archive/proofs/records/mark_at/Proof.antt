@@ -1,0 +1,32 @@
+-- `archive::records::mark_at` meets its contract. Assumes nothing.
+use mathlib.Core.Path.{sym, ap, _∙_}
+use mathlib.Core.Logic.{⊎-elim}
+use Prim.Native.Nat.{ℕ}
+use native.Mathlib.Omega.{arith}
+use denote.Ref.{now}
+use lib.ListN.{getD, List·getD-eq-default}
+use Rattle.model.specs.Plan.{markAt}
+use borrow.Author.Needs.{needs}
+use Rattle.archive.proofs.records.mark_at.Statement.{statement}
+use Rattle.archive.proofs.records.mark_at.Tie as tie
+
+sub-before : tie.Need-sub-before
+sub-before c = search needs
+
+shared-slice-read-result : tie.Need-shared-slice-read-result
+shared-slice-read-result c = search needs
+
+returns : tie.Need-returns
+unfolding markAt
+returns c =
+    let a = c .before .before .before .before .args in
+    ap (λ (k : ℕ). getD (now (a .marks)) k 0) (⊎-elim (λ w. omega arith) (λ w. omega arith) (c .before .before .before .if1 .came))
+
+returns-2 : tie.Need-returns-2
+unfolding markAt
+returns-2 c =
+    let a = c .before .before .before .args in
+    sym (List·getD-eq-default (now (a .marks)) 0 (c .if2 .left)) ∙ ap (λ (k : ℕ). getD (now (a .marks)) k 0) (⊎-elim (λ w. omega arith) (λ w. omega arith) (c .before .before .if1 .came))
+
+pub mark-at-spec : {M : Type 1} → statement M
+mark-at-spec = tie.close (tie.spec sub-before shared-slice-read-result returns returns-2)

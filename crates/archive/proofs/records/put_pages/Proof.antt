@@ -1,0 +1,222 @@
+-- `archive::records::put_pages` meets its contract: the records of the pages begun so far stand after the head. Assumes nothing.
+use mathlib.Core.Path.{_≡_, refl, sym, ap, _∙_, subst}
+use Rattle.model.specs.Archive.{nextPage, archiveBytes}
+use Prim.Native.Nat.{_+_, _-_, _*_, _≤_, _<_}
+use Rattle.model.specs.Table.{nodeCount}
+use Rattle.theory.specs.Ranges.{countTo-zero}
+use Rattle.theory.specs.ArchiveBack.{planned-light}
+use native.Mathlib.Omega.{arith}
+use lib.ListN.{length}
+use Rattle.model.specs.Basics.{countTo}
+use Rattle.model.specs.Plan.{begins, markAt, hasMark}
+use Rattle.archive.specs.Put.{Starts}
+use Rattle.archive.specs.Sheets.{pagesUpto, pages-start}
+use Rattle.archive.proofs.Turns.{record-length, pageCount-le, page-no, page-yes, page-within, page-small, pages-pass, pages-next}
+use borrow.Author.Needs.{needs}
+use Rattle.archive.proofs.records.put_pages.Statement.{statement}
+use Rattle.archive.proofs.records.put_pages.Tie as tie
+
+abbrev Inv-loop : tie.InvT-loop
+Inv-loop table marks weights pages out₀ nodes page₀ v₀ out page v =
+    (v ≤ nodes) × (length out ≡ length out₀) × (page ≡ countTo v (hasMark marks begins)) × Starts out (pagesUpto table marks v)
+
+abbrev μ-loop : tie.MeasureT-loop
+μ-loop table marks weights pages out₀ nodes page₀ v₀ out page v = nodes - v
+
+node-count-requires : tie.Need-node-count-requires Inv-loop μ-loop
+node-count-requires c κs = search needs
+
+loop-holds : tie.Need-loop-holds Inv-loop μ-loop
+loop-holds c =
+    let start = c .before .before .before .before in
+    let a = start .args in (
+      omega arith,
+      refl,
+      sym (countTo-zero (hasMark (a .marks .now) begins)),
+      rw (pages-start (a .table .now) (a .marks .now)) (start .pre .4),
+    )
+
+add-v : tie.Need-add-v Inv-loop μ-loop
+add-v c = search needs
+
+mark-at-requires : tie.Need-mark-at-requires Inv-loop μ-loop
+mark-at-requires c κs = search needs
+
+add-page : tie.Need-add-page Inv-loop μ-loop
+add-page c =
+    let l = c .before .before .before .loop in
+    let start = c .before .before .before .before .before .before .before .before in
+    let a = start .args in
+    let count = c .before .before .before .before .node-count .ensures in
+    let one : markAt (a .marks .now) (l .v + 1) ≡ 1 = sym (c .before .mark-at .ensures) ∙ c .if1 .taken in
+    let less : l .v < nodeCount (a .table .now) = omega (arith, c .before .before .loop-test .taken) in
+    let within = page-within (a .table .now) (a .marks .now) (l .v) (l .page) (l .inv .2) one less in
+    let small = page-small (a .table .now) (a .marks .now) (l .v) (l .page) (l .inv .2) in
+    let nodes = start .pre .0 .tree .sound .count-high in
+    search needs
+
+find-last-requires : tie.Need-find-last-requires Inv-loop μ-loop
+find-last-requires c κs = search needs
+
+cast-weight : tie.Need-cast-weight Inv-loop μ-loop
+cast-weight c =
+    let l = c .before .before .before .before .loop in
+    let start = c .before .before .before .before .before .before .before .before .before in
+    let a = start .args in
+    let count = c .before .before .before .before .before .node-count .ensures in
+    let one : markAt (a .marks .now) (l .v + 1) ≡ 1 = sym (c .before .before .mark-at .ensures) ∙ c .before .if1 .taken in
+    let less : l .v < nodeCount (a .table .now) = omega (arith, c .before .before .before .loop-test .taken) in
+    let within = page-within (a .table .now) (a .marks .now) (l .v) (l .page) (l .inv .2) one less in
+    let small = page-small (a .table .now) (a .marks .now) (l .v) (l .page) (l .inv .2) in
+    let nodes = start .pre .0 .tree .sound .count-high in
+    search needs
+
+mul-weight : tie.Need-mul-weight Inv-loop μ-loop
+mul-weight c =
+    let l = c .before .before .before .before .loop in
+    let start = c .before .before .before .before .before .before .before .before .before in
+    let a = start .args in
+    let count = c .before .before .before .before .before .node-count .ensures in
+    let one : markAt (a .marks .now) (l .v + 1) ≡ 1 = sym (c .before .before .mark-at .ensures) ∙ c .before .if1 .taken in
+    let less : l .v < nodeCount (a .table .now) = omega (arith, c .before .before .before .loop-test .taken) in
+    let within = page-within (a .table .now) (a .marks .now) (l .v) (l .page) (l .inv .2) one less in
+    let small = page-small (a .table .now) (a .marks .now) (l .v) (l .page) (l .inv .2) in
+    let nodes = start .pre .0 .tree .sound .count-high in
+    search needs
+
+element-copy-out-weight : tie.Need-element-copy-out-weight Inv-loop μ-loop
+element-copy-out-weight c =
+    let l = c .before .before .before .before .loop in
+    let start = c .before .before .before .before .before .before .before .before .before in
+    let a = start .args in
+    let count = c .before .before .before .before .before .node-count .ensures in
+    let one : markAt (a .marks .now) (l .v + 1) ≡ 1 = sym (c .before .before .mark-at .ensures) ∙ c .before .if1 .taken in
+    let less : l .v < nodeCount (a .table .now) = omega (arith, c .before .before .before .loop-test .taken) in
+    let within = page-within (a .table .now) (a .marks .now) (l .v) (l .page) (l .inv .2) one less in
+    let small = page-small (a .table .now) (a .marks .now) (l .v) (l .page) (l .inv .2) in
+    let nodes = start .pre .0 .tree .sound .count-high in
+    search needs
+
+cast-weight-2 : tie.Need-cast-weight-2 Inv-loop μ-loop
+cast-weight-2 c =
+    let l = c .before .before .before .before .before .loop in
+    let start = c .before .before .before .before .before .before .before .before .before .before in
+    let a = start .args in
+    let count = c .before .before .before .before .before .before .node-count .ensures in
+    let one : markAt (a .marks .now) (l .v + 1) ≡ 1 = sym (c .before .before .before .mark-at .ensures) ∙ c .before .before .if1 .taken in
+    let less : l .v < nodeCount (a .table .now) = omega (arith, c .before .before .before .before .loop-test .taken) in
+    let within = page-within (a .table .now) (a .marks .now) (l .v) (l .page) (l .inv .2) one less in
+    let small = page-small (a .table .now) (a .marks .now) (l .v) (l .page) (l .inv .2) in
+    let nodes = start .pre .0 .tree .sound .count-high in
+    let weight = start .pre .2 (l .page + 1) (omega arith) (omega (arith, start .pre .1)) in
+    let light = planned-light (start .pre .0) (l .page + 1) (omega arith) within in
+    let limit = start .pre .0 .tree .sound .limit-high in
+    search needs
+
+page-after-requires : tie.Need-page-after-requires Inv-loop μ-loop
+page-after-requires c κs =
+    let l = c .before .before .before .before .before .loop in
+    let start = c .before .before .before .before .before .before .before .before .before .before in
+    let a = start .args in
+    let count = c .before .before .before .before .before .before .node-count .ensures in
+    let one : markAt (a .marks .now) (l .v + 1) ≡ 1 = sym (c .before .before .before .mark-at .ensures) ∙ c .before .before .if1 .taken in
+    let less : l .v < nodeCount (a .table .now) = omega (arith, c .before .before .before .before .loop-test .taken) in
+    let within = page-within (a .table .now) (a .marks .now) (l .v) (l .page) (l .inv .2) one less in
+    let small = page-small (a .table .now) (a .marks .now) (l .v) (l .page) (l .inv .2) in
+    let nodes = start .pre .0 .tree .sound .count-high in
+    omega (arith, start .pre .1, pageCount-le (a .table .now) (a .marks .now))
+
+mul-put-record : tie.Need-mul-put-record Inv-loop μ-loop
+mul-put-record c =
+    let l = c .before .before .before .before .before .before .before .loop in
+    let start = c .before .before .before .before .before .before .before .before .before .before .before .before in
+    let a = start .args in
+    let count = c .before .before .before .before .before .before .before .before .node-count .ensures in
+    let one : markAt (a .marks .now) (l .v + 1) ≡ 1 = sym (c .before .before .before .before .before .mark-at .ensures) ∙ c .before .before .before .before .if1 .taken in
+    let less : l .v < nodeCount (a .table .now) = omega (arith, c .before .before .before .before .before .before .loop-test .taken) in
+    let within = page-within (a .table .now) (a .marks .now) (l .v) (l .page) (l .inv .2) one less in
+    let small = page-small (a .table .now) (a .marks .now) (l .v) (l .page) (l .inv .2) in
+    let nodes = start .pre .0 .tree .sound .count-high in
+    search needs
+
+sub-put-record : tie.Need-sub-put-record Inv-loop μ-loop
+sub-put-record c = search needs
+
+put-record-requires : tie.Need-put-record-requires Inv-loop μ-loop
+put-record-requires c κs = search needs
+
+loop-less : tie.Need-loop-less Inv-loop μ-loop
+loop-less c = search needs
+
+loop-again : tie.Need-loop-again Inv-loop μ-loop
+loop-again c =
+    let l = c .before .before .before .before .before .before .before .before .before .before .loop in
+    let start = c .before .before .before .before .before .before .before .before .before .before .before .before .before .before .before in
+    let a = start .args in
+    let count = c .before .before .before .before .before .before .before .before .before .before .before .node-count .ensures in
+    let one : markAt (a .marks .now) (l .v + 1) ≡ 1 = sym (c .before .before .before .before .before .before .before .before .mark-at .ensures) ∙ c .before .before .before .before .before .before .before .if1 .taken in
+    let less : l .v < nodeCount (a .table .now) = omega (arith, c .before .before .before .before .before .before .before .before .before .loop-test .taken) in
+    let within = page-within (a .table .now) (a .marks .now) (l .v) (l .page) (l .inv .2) one less in
+    let small = page-small (a .table .now) (a .marks .now) (l .v) (l .page) (l .inv .2) in
+    let nodes = start .pre .0 .tree .sound .count-high in
+    let put = c .before .before .put-record .ensures in
+    let i = 4 * (l .page + 1) - 1 in (
+      omega (arith, less),
+      record-length (l .out) _ _ _ _ _ _ put ∙ l .inv .1,
+      page-yes (a .table .now) (a .marks .now) (l .v) (l .page) (l .inv .2) one,
+      pages-next (a .table .now) (a .marks .now) (l .v) (l .page) (l .inv .2) i (l .out) _ _ _ _ one less
+          (l .inv .1 ∙ start .pre .3 ∙ ap (λ k. archiveBytes k (nodeCount (a .table .now))) (start .pre .1)) (l .inv .3) (omega arith) put
+          (c .before .before .before .before .before .before .find-last .ensures) (start .pre .2 (l .page + 1) (omega arith) (omega (arith, start .pre .1)))
+          (c .before .before .before .before .page-after .ensures ∙ ap (nextPage (l .page + 1)) (start .pre .1)),
+    )
+
+loop-less-2 : tie.Need-loop-less-2 Inv-loop μ-loop
+loop-less-2 c = search needs
+
+loop-again-2 : tie.Need-loop-again-2 Inv-loop μ-loop
+loop-again-2 c =
+    let l = c .before .before .before .loop in
+    let a = c .before .before .before .before .before .before .before .before .args in
+    let other : markAt (a .marks .now) (l .v + 1) ≡ 1 → ⊥ = λ e. c .if1 .left (c .before .mark-at .ensures ∙ e) in (
+      omega arith,
+      l .inv .1,
+      page-no (a .table .now) (a .marks .now) (l .v) (l .page) (l .inv .2) other,
+      pages-pass (a .table .now) (a .marks .now) (l .v) (l .page) (l .inv .2) (l .out) other (l .inv .3),
+    )
+
+same-length : tie.Need-same-length Inv-loop μ-loop
+same-length c = c .before .loop .inv .1
+
+returns : tie.Need-returns Inv-loop μ-loop
+returns c =
+    let l = c .before .loop in
+    let a = c .before .before .before .before .before .before .args in
+    let same : l .v ≡ nodeCount (a .table .now) = omega (arith, c .before .before .node-count .ensures, c .loop-test .left, l .inv .0) in
+    subst (λ k. Starts (l .out) (pagesUpto (a .table .now) (a .marks .now) k)) same (l .inv .3)
+
+pub put-pages-spec : {M : Type 1} → statement M
+put-pages-spec =
+    tie.close
+    (tie.spec
+    Inv-loop
+    μ-loop
+    node-count-requires
+    loop-holds
+    add-v
+    mark-at-requires
+    add-page
+    find-last-requires
+    cast-weight
+    mul-weight
+    element-copy-out-weight
+    cast-weight-2
+    page-after-requires
+    mul-put-record
+    sub-put-record
+    put-record-requires
+    loop-less
+    loop-again
+    loop-less-2
+    loop-again-2
+    same-length
+    returns)

@@ -1,0 +1,7 @@
+-- What the archive's code is written against.
+pub mod Put
+pub mod Onward
+pub mod Sheets
+pub mod Answers
+pub mod Decode
+pub mod Ends

@@ -1,0 +1,113 @@
+-- The next number with a key, and the pass from n down to 1 that finds it. Defines nextWith, Seen, LinkedFrom. Assumes nothing.
+use Prim.Native.Nat.{ℕ, zero, suc, _-_, _≤_, _<_}
+use native.Mathlib.Omega.{arith}
+use mathlib.Core.Bool.{Bool, true, false, _&&_}
+use mathlib.Core.Path.{_≡_, refl, sym, _∙_, ap}
+use mathlib.Core.Logic.{_⊎_, inl, inr}
+use mathlib.Core.List.{List}
+use lib.ListN.{length, getD, set}
+use lib.Seq.{getD-set-same, getD-set-other}
+use lib.Dec.{eqb, ltb}
+use borrow.Author.Tests.{eqb-true, eqb-false, eq-eqb, ne-eqb, lt-ltb, le-ltb}
+use Rattle.model.specs.Basics.{atPlace, firstTo}
+use Rattle.theory.specs.Ranges.{Upto, atPlace-at, atPlace-nowhere, place-cases, firstTo-none, firstTo-first, firstTo-cong, firstTo-at}
+use Rattle.theory.specs.Siblings.{and-true, and-false-left, and-false-right, order-cases}
+use Rattle.model.specs.declared.Place.{Place}
+use Rattle.model.specs.declared.Place.the-variants.{At, Nowhere}
+
+-- the next of v + 1 to n that f gives the key k, or 0
+unfoldable pub nextWith : (ℕ → ℕ) → ℕ → ℕ → ℕ → ℕ
+nextWith f n v k = atPlace (firstTo n (λ u. ltb v u && eqb (f u) k)) (λ u. u) 0
+
+module _ (f : ℕ → ℕ) (n : ℕ) where
+  pub nextWith-none : (k : ℕ) → nextWith f n n k ≡ 0
+  unfolding nextWith
+  nextWith-none k =
+      atPlace-nowhere (firstTo n (λ u. ltb n u && eqb (f u) k)) (λ u. u) 0
+      (firstTo-none n (λ u. ltb n u && eqb (f u) k) (λ u low high. and-false-left (ltb n u) (eqb (f u) k) (le-ltb n u high)))
+
+  pub nextWith-here : (v : ℕ) → 1 ≤ v → v ≤ n → nextWith f n (v - 1) (f v) ≡ v
+  unfolding nextWith
+  nextWith-here v low high =
+      atPlace-at (firstTo n (λ u. ltb (v - 1) u && eqb (f u) (f v))) v (λ u. u) 0
+      (firstTo-first n v (λ u. ltb (v - 1) u && eqb (f u) (f v))
+      (record {
+        low = low;
+        high = high;
+        passed = and-true (ltb (v - 1) v) (eqb (f v) (f v)) (lt-ltb (v - 1) v (omega arith)) (eq-eqb (f v) (f v) refl);
+        before = λ u a b. and-false-left (ltb (v - 1) u) (eqb (f u) (f v)) (le-ltb (v - 1) u (omega arith));
+      }))
+
+  pub nextWith-skip : (v k : ℕ) → 1 ≤ v → (f v ≡ k → ⊥) → nextWith f n (v - 1) k ≡ nextWith f n v k
+  unfolding nextWith
+  nextWith-skip v k low other =
+      ap (λ (o : Place). atPlace o (λ u. u) 0)
+      (firstTo-cong n (λ u. ltb (v - 1) u && eqb (f u) k) (λ u. ltb v u && eqb (f u) k) (λ u a b. same u (order-cases u v)))
+    where
+      same : (u : ℕ) → (u < v) ⊎ ((u ≡ v) ⊎ (v < u)) → (ltb (v - 1) u && eqb (f u) k) ≡ (ltb v u && eqb (f u) k)
+      same u (inl h) = ap (λ b. b && eqb (f u) k) (le-ltb (v - 1) u (omega arith) ∙ sym (le-ltb v u (omega arith)))
+      same u (inr (inl e)) =
+          let none : eqb (f u) k ≡ false = ne-eqb (f u) k (λ q. other (ap f (sym e) ∙ q)) in
+          and-false-right (ltb (v - 1) u) (eqb (f u) k) none ∙ sym (and-false-right (ltb v u) (eqb (f u) k) none)
+      same u (inr (inr h)) = ap (λ b. b && eqb (f u) k) (lt-ltb (v - 1) u (omega arith) ∙ sym (lt-ltb v u h))
+
+  pub nextWith-le : (v k : ℕ) → nextWith f n v k ≤ n
+  unfolding nextWith
+  nextWith-le v k = go (place-cases (firstTo n (λ u. ltb v u && eqb (f u) k)))
+    where
+      go : ((u : ℕ) × (firstTo n (λ u. ltb v u && eqb (f u) k) ≡ At u)) ⊎ (firstTo n (λ u. ltb v u && eqb (f u) k) ≡ Nowhere)
+          → atPlace (firstTo n (λ u. ltb v u && eqb (f u) k)) (λ u. u) 0 ≤ n
+      go (inl x) =
+          omega (
+            arith,
+            atPlace-at (firstTo n (λ u. ltb v u && eqb (f u) k)) (x .0) (λ u. u) 0 (x .1),
+            firstTo-at n (x .0) (λ u. ltb v u && eqb (f u) k) (x .1) .high,
+          )
+      go (inr e) = omega (arith, atPlace-nowhere (firstTo n (λ u. ltb v u && eqb (f u) k)) (λ u. u) 0 e)
+
+-- keys that agree
+pub nextWith-cong : (f g : ℕ → ℕ) (n v k : ℕ) → Upto n (λ u. f u ≡ g u) → nextWith f n v k ≡ nextWith g n v k
+unfolding nextWith
+nextWith-cong f g n v k h =
+    ap (λ (o : Place). atPlace o (λ u. u) 0)
+    (firstTo-cong n (λ u. ltb v u && eqb (f u) k) (λ u. ltb v u && eqb (g u) k) (λ u a b. ap (λ x. ltb v u && eqb x k) (h u a b)))
+
+-- ---- The pass: what was seen of each key after v, and the links of the numbers after v
+
+abbrev pub Seen : (ℕ → ℕ) → ℕ → ℕ → List ℕ → Type 0
+Seen f n v l = (k : ℕ) → k < 1025 → getD l k 0 ≡ nextWith f n v k
+
+abbrev pub LinkedFrom : (ℕ → ℕ) → ℕ → ℕ → List ℕ → Type 0
+LinkedFrom f n v l = (u : ℕ) → v < u → u ≤ n → getD l u 0 ≡ nextWith f n u (f u)
+
+module _ (f : ℕ → ℕ) (n : ℕ) where
+  pub seen-start : (l : List ℕ) → ((k : ℕ) → k < 1025 → getD l k 0 ≡ 0) → Seen f n n l
+  seen-start l h k fits = h k fits ∙ sym (nextWith-none f n k)
+
+  pub linked-start : (l : List ℕ) → LinkedFrom f n n l
+  linked-start l u low high = absurd (omega arith)
+
+  pub seen-turn : (l : List ℕ) (v : ℕ) → Seen f n v l → length l ≡ 1025 → 1 ≤ v → v ≤ n → f v < 1025 → Seen f n (v - 1) (set l (f v) v)
+  seen-turn l v h long low high fits k within = go (eqb k (f v)) refl
+    where
+      go : (b : Bool) → eqb k (f v) ≡ b → getD (set l (f v) v) k 0 ≡ nextWith f n (v - 1) k
+      go true e =
+          let same : k ≡ f v = eqb-true k (f v) e in
+          ap (λ j. getD (set l (f v) v) j 0) same ∙ getD-set-same l (f v) v 0 (omega arith)
+          ∙ sym (ap (nextWith f n (v - 1)) same ∙ nextWith-here f n v low high)
+      go false e =
+          let other : k ≡ f v → ⊥ = eqb-false k (f v) e in
+          getD-set-other l (f v) k v 0 other ∙ h k within ∙ sym (nextWith-skip f n v k low (λ q. other (sym q)))
+
+  pub linked-turn : (s l : List ℕ) (v : ℕ) → Seen f n v s → LinkedFrom f n v l → v < length l → f v < 1025 → 1 ≤ v
+      → LinkedFrom f n (v - 1) (set l v (getD s (f v) 0))
+  linked-turn s l v seen h fits key low u less high = go (eqb u v) refl
+    where
+      go : (b : Bool) → eqb u v ≡ b → getD (set l v (getD s (f v) 0)) u 0 ≡ nextWith f n u (f u)
+      go true e =
+          let same : u ≡ v = eqb-true u v e in
+          ap (λ j. getD (set l v (getD s (f v) 0)) j 0) same ∙ getD-set-same l v (getD s (f v) 0) 0 fits ∙ seen (f v) key
+          ∙ ap (λ j. nextWith f n j (f j)) (sym same)
+      go false e =
+          let other : u ≡ v → ⊥ = eqb-false u v e in
+          getD-set-other l v u (getD s (f v) 0) 0 other ∙ h u (omega arith) high

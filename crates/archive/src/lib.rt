@@ -1,0 +1,7 @@
+// The archive: its writer and its reader. Refusals 12 and 13.
+mod decode;
+mod onward;
+mod put;
+pub mod read;
+mod records;
+pub mod write;

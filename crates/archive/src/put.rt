@@ -1,0 +1,32 @@
+// Words put into a string of bytes. What would lie past its end is not put.
+ghost use mathlib.Core.Path.{_≡_};
+ghost use lib.ListN.{set};
+ghost use Rattle.archive.specs.Put.{putWord, putRecord};
+
+fn put_byte(out: &mut [u8], i: usize, b: u8)
+    ensures { λ r. ⌜ now (out .exit) ≡ set (now (out .entry)) i b ⌝ }
+{
+    if i < out.len() {
+        out[i] = b;
+    }
+}
+
+// A word: high byte first.
+pub fn put_word(out: &mut [u8], i: u32, w: u16)
+    ensures { λ r. ⌜ now (out .exit) ≡ putWord (now (out .entry)) i w ⌝ }
+{
+    let at = 2 * (i as usize);
+    put_byte(out, at, (w / 256) as u8);
+    put_byte(out, at + 1, (w % 256) as u8);
+}
+
+// Four words, from word i on.
+pub fn put_record(out: &mut [u8], i: u16, a: u16, b: u16, c: u16, d: u16)
+    ensures { λ r. ⌜ now (out .exit) ≡ putRecord (now (out .entry)) i a b c d ⌝ }
+{
+    let at = i as u32;
+    put_word(out, at, a);
+    put_word(out, at + 1, b);
+    put_word(out, at + 2, c);
+    put_word(out, at + 3, d);
+}
