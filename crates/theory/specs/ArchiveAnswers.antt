@@ -1,19 +1,18 @@
 -- The answers of the archive's writer and reader, case by case, and what the answer of a writer tells of an archive. Assumes nothing.
-use Prim.Native.Nat.{ℕ, _+_, _*_, _≤_}
+use Prim.Native.Nat.{ℕ}
 use native.Mathlib.Omega.{arith}
-use mathlib.Core.Bool.{Bool, true, false, not, _&&_, true≢false, false≢true}
+use mathlib.Core.Bool.{true, false, not, _&&_}
 use mathlib.Core.Path.{_≡_, refl, sym, _∙_, ap, ap₂}
 use mathlib.Core.Logic.{_⊎_, inl, inr}
-use mathlib.Core.List.{List, [], _∷_, _++_}
+use mathlib.Core.List.{List, [], _∷_}
 use lib.ListN.{length}
 use lib.Dec.{eqb}
 use borrow.Author.Tests.{eqb-true, eqb-false, eq-eqb, ne-eqb}
-use Rattle.model.specs.Basics.{pick, when, atPlace, sameList}
+use Rattle.model.specs.Basics.{pick, when, sameList}
 use Rattle.model.specs.Table.{nodeCount, tableBytes}
 use Rattle.model.specs.Plan.{pageCount, verdictOf}
 use Rattle.model.specs.Archive.{archiveOf, archiveBytes, tableIn, marksIn}
-use Rattle.model.specs.Refusals.{Check, shortTable, badCount, badLimit, badLength, noWeight, badWalk, heavyNode, badMarks, markRefused, pageRefused, badOutput, noArchive, formChecks, treeChecks, judgeChecks, writeChecks, readChecks, passes, feasiblePlan, refused, accepted, firstOf, judgePlan, Written, writeArchive, isArchive, Restored, readArchive}
-use Rattle.model.specs.declared.Place.{Place}
+use Rattle.model.specs.Refusals.{Check, shortTable, badCount, badLimit, badLength, noWeight, badWalk, heavyNode, badMarks, markRefused, pageRefused, badOutput, noArchive, formChecks, treeChecks, judgeChecks, writeChecks, readChecks, passes, feasiblePlan, refused, accepted, firstOf, judgePlan, Written, writeArchive, isArchive, readArchive}
 use Rattle.model.specs.declared.Place.the-variants.{At, Nowhere}
 use Rattle.model.specs.declared.Answer.{Answer}
 use Rattle.theory.specs.Ranges.{pick-true, pick-false, when-true, when-false, atPlace-at, atPlace-nowhere, bool-cases, append-nil}
@@ -21,7 +20,7 @@ use Rattle.theory.specs.Sound.{passes-cons, passes-append}
 use Rattle.theory.specs.Checks.{HasNumbers, firstOf-pass, firstOf-stop, accepted-pass}
 use Rattle.theory.specs.Siblings.{and-true, and-false-left, and-false-right}
 use Rattle.theory.specs.ArchiveWords.{length-archive}
-use Rattle.theory.specs.ArchiveBack.{sameList-true, write-read, read-write}
+use Rattle.theory.specs.ArchiveBack.{sameList-true}
 
 -- ---- One check
 

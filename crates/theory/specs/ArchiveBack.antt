@@ -1,13 +1,13 @@
 -- Writing and reading back. The archive of an accepted tree and a feasible plan tells that very table and those very marks, so it
 -- passes the reader's test; an archive that passes the test is written by the tree and the plan that it tells, and so by some.
--- Defines Plan, Written. Assumes nothing.
+-- Defines Planned, tableRow. Assumes nothing.
 use Prim.Native.Nat.{ℕ, zero, suc, _+_, _-_, _*_, _/_, _%_, _≤_, _<_}
 use native.Mathlib.Omega.{arith}
-use mathlib.Core.Bool.{Bool, true, false, not, _&&_, true≢false, false≢true}
+use mathlib.Core.Bool.{Bool, true, false, not, _&&_, false≢true}
 use mathlib.Core.Path.{_≡_, refl, sym, _∙_, ap, ap₂}
 use mathlib.Core.Logic.{_⊎_, inl, inr, _↔_}
-use mathlib.Core.List.{List, [], _∷_, _++_}
-use lib.ListN.{length, getD, length-append}
+use mathlib.Core.List.{List, [], _∷_}
+use lib.ListN.{length, getD}
 use lib.Seq.{ext-getD}
 use lib.Dec.{eqb, ltb, leb}
 use borrow.Author.Tests.{eqb-true, eqb-false, eq-eqb, ne-eqb, ltb-true, ltb-false, lt-ltb, le-ltb, le-leb, leb-true, not-false}
@@ -20,11 +20,11 @@ use Rattle.model.specs.declared.Place.{Place}
 use Rattle.model.specs.declared.Place.the-variants.{At, Nowhere}
 use Rattle.theory.specs.Ranges.{Upto, pick-true, pick-false, when-false, when-nowhere, atPlace-at, atPlace-nowhere, place-cases, countTo-none, firstTo-cong, firstTo-at, firstTo-nowhere, listTo-cong, length-listTo, getD-listTo}
 use Rattle.theory.specs.Sound.{SoundFacts, AcceptedFacts, accepted-facts, facts-accepted, both-true, passes-first, passes-rest, passes-cons, passes-append}
-use Rattle.theory.specs.Chosen.{Ranked, countTo-mono, countTo-pass, countTo-some}
+use Rattle.theory.specs.Chosen.{countTo-mono, countTo-pass, countTo-some}
 use Rattle.theory.specs.Siblings.{and-true, and-false-left, first-by-parent, next-by-parent}
 use Rattle.theory.specs.RunMarks.{GoodMarks, good-marks, InRunOf, in-run-of, runLast-marks}
 use Rattle.theory.specs.Encode.{Bytes, word-small}
-use Rattle.theory.specs.ArchiveWords.{getD-fours, length-fours, words-tell, Words, words-bytes, words-cons, words-nil, words-listTo, Page, page-first, length-archive, archive-nodes, archive-limit, archive-pages, archive-page, archive-node, archive-parent}
+use Rattle.theory.specs.ArchiveWords.{getD-fours, length-fours, words-tell, Words, words-bytes, words-cons, words-nil, words-listTo, Page, page-first, archive-nodes, archive-limit, archive-pages, archive-page, archive-node, archive-parent}
 
 -- an accepted tree and a feasible plan, in bytes
 pub record Planned (t m : List ℕ) : Type 0 where

@@ -1,15 +1,14 @@
 -- The words of an archive: its length, its head, and the fields of its page and node records, read back as they were written. They
 -- hold of any table and marks.
--- Defines archiveWords, Page. Assumes nothing.
-use Prim.Native.Nat.{ℕ, zero, suc, _+_, _-_, _*_, _/_, _%_, _≤_, _<_}
+-- Defines Words, pageRow, Page, archiveWords. Assumes nothing.
+use Prim.Native.Nat.{ℕ, zero, suc, _+_, _-_, _*_, _≤_, _<_}
 use native.Mathlib.Omega.{arith}
-use mathlib.Core.Bool.{Bool, true, false}
 use mathlib.Core.Path.{_≡_, refl, sym, _∙_, ap, ap₂}
 use mathlib.Core.Logic.{_⊎_, inl, inr}
 use mathlib.Core.List.{List, [], _∷_, _++_}
 use lib.ListN.{length, getD, length-append, List·getD-append}
 use lib.Seq.{getD-append-add}
-use Rattle.model.specs.Basics.{pick, countTo, listTo}
+use Rattle.model.specs.Basics.{listTo}
 use Rattle.model.specs.Table.{wordAt, bytesOf, nodeCount, limitOf, weightAt, labelAt}
 use Rattle.model.specs.Plan.{begins, hasMark, parentAt, pageCount, pageWeight, runLast}
 use Rattle.model.specs.Runs.{Run, rootRun, runsOf}

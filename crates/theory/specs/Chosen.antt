@@ -1,7 +1,7 @@
 -- The numbers of 1 to n that pass a test, by their rank: how many pass up to each, which is the first, second, .., and the list of
 -- what is made of each of them.
--- Defines Ranked. Assumes nothing.
-use Prim.Native.Nat.{ℕ, zero, suc, _+_, _≤_, _<_}
+-- Defines Ranked, chosen. Assumes nothing.
+use Prim.Native.Nat.{ℕ, zero, suc, _≤_, _<_}
 use native.Mathlib.Omega.{arith}
 use mathlib.Core.Bool.{Bool, true, false, true≢false}
 use mathlib.Core.Path.{_≡_, refl, sym, _∙_, ap}
@@ -10,7 +10,7 @@ use mathlib.Core.List.{List, [], _∷_, _++_}
 use lib.ListN.{length, getD, length-append, List·getD-append}
 use lib.Seq.{getD-append-seam}
 use Rattle.model.specs.Basics.{pick, countTo, listTo}
-use Rattle.theory.specs.Ranges.{Upto, pick-true, pick-false, upto-suc, countTo-zero, countTo-suc, countTo-yes, countTo-no, countTo-le, listTo-zero, listTo-suc, append-nil}
+use Rattle.theory.specs.Ranges.{pick-true, pick-false, upto-suc, countTo-zero, countTo-suc, countTo-yes, countTo-no, listTo-zero, listTo-suc, append-nil}
 
 module _ (p : ℕ → Bool) where
   pub countTo-step : (n : ℕ) → countTo n p ≤ countTo (suc n) p

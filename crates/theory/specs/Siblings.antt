@@ -7,14 +7,13 @@ use mathlib.Core.Path.{_≡_, refl, sym, _∙_, ap}
 use mathlib.Core.Logic.{_⊎_, inl, inr}
 use mathlib.Core.List.{List}
 use lib.Dec.{eqb, ltb}
-use borrow.Author.Tests.{eqb-true, eqb-false, eq-eqb, ne-eqb, ltb-true, ltb-false, lt-ltb, le-ltb}
+use borrow.Author.Tests.{eqb-true, eqb-false, eq-eqb, ltb-true, ltb-false, lt-ltb}
 use Rattle.model.specs.Basics.{pick, atPlace, firstTo}
 use Rattle.model.specs.Table.{nodeCount, firstAt, nextAt}
 use Rattle.model.specs.Plan.{prevAt, parentAt}
-use Rattle.model.specs.declared.Place.the-variants.{At, Nowhere}
-use Rattle.theory.specs.Ranges.{Upto, pick-true, pick-false, atPlace-at, atPlace-nowhere, firstTo-none, firstTo-first}
+use Rattle.theory.specs.Ranges.{pick-true, pick-false, atPlace-at, atPlace-nowhere, firstTo-none, firstTo-first}
 use Rattle.theory.specs.Sound.{SoundFacts, both-true}
-use Rattle.theory.specs.Links.{Source, first-step, first-le, first-cases, next-later, next-le, next-cases, linked, prevAt-less, prevAt-next, parentAt-later, parentAt-less, next-parent, first-parent, parent-low, parent-first}
+use Rattle.theory.specs.Links.{Source, first-step, first-cases, next-cases, linked, prevAt-less, prevAt-next, parentAt-later, parentAt-less, next-parent, first-parent, parent-low, parent-first}
 
 pub and-false-left : (a b : Bool) → a ≡ false → (a && b) ≡ false
 and-false-left a b e = rw e
