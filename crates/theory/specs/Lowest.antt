@@ -1,24 +1,28 @@
 -- Demand 3: the best plan is the lowest there is, in the words of sibling runs told from the tree alone.
--- Defines Lowest. Proves best-judged, level-judged, single-judged, pair-judged (each planner's plan of an accepted tree is feasible),
--- best-lowest, and best-count (no feasible plan has fewer pages). Assumes nothing.
+-- Defines Lowest, rootEntry. Proves best-judged, level-judged, single-judged, pair-judged (each planner's plan of an accepted tree is
+-- feasible), best-figures and level-figures (the verdict has the entries' count and the rest of the root's entry), best-least-plan (no
+-- feasible plan is better than best's) and best-lowest. Assumes nothing.
 use Prim.Native.Nat.{ℕ, _≤_}
-use mathlib.Core.Path.{_≡_, sym, _∙_}
-use mathlib.Core.Bool.{true, false}
-use mathlib.Core.List.{List}
+use mathlib.Core.Path.{_≡_, sym, _∙_, ap₂}
+use mathlib.Core.Bool.{Bool, true, false}
+use mathlib.Core.List.{List, []}
 use native.Mathlib.Omega.{arith}
 use lib.ListN.{length, getD}
 use Rattle.model.specs.Table.{Chain, end, node, limitOf, treeOf, weightAt, labelAt}
 use Rattle.model.specs.Plan.{markAt, pageCount, pageWeight}
 use Rattle.model.specs.Runs.{Run, holds, withinLimit, runCount, rootWeight, runsOf}
-use Rattle.model.specs.Steps.{bestMarks, levelMarks, singleMarks, pairMarks}
+use Rattle.model.specs.Steps.{Entry, entryAt, childrenOf, bestMarks, levelMarks, singleMarks, pairMarks}
+use Rattle.model.specs.Refusals.{accepted, judgePlan}
+use Rattle.model.specs.declared.Verdict.the-variants.{Feasible}
 use Rattle.theory.specs.Sound.{AcceptedFacts}
 use Rattle.theory.specs.Numbered.{Rooted, sound-root, tree-within, tree-positive}
 use Rattle.theory.specs.Shape.{allowed, weighed, AllWithin, EachWithin, Positive}
 use Rattle.theory.specs.Laid.{FeasibleShape}
-use Rattle.theory.specs.Feasible.{Judged, ShapePlan, judged-bridge, shape-feasible, feasible-judged}
+use Rattle.theory.specs.Feasible.{Judged, ShapePlan, judged-answer, judged-bridge, shape-feasible, feasible-judged}
 use Rattle.theory.specs.Bridge.{count-bridge, weight-bridge}
 use Rattle.theory.specs.SingleShape.{single-feasible}
 use Rattle.theory.specs.PairShape.{pair-feasible}
+use Rattle.theory.specs.BestLaid.{Figured, pagesOf}
 use Rattle.theory.specs.BestShape.{NoBetterThanBest, best-feasible, level-feasible, best-least}
 use Rattle.theory.specs.Held.{PlanRuns, plan-runs, RunsPlan, runs-plan}
 
@@ -30,6 +34,11 @@ pub record Lowest (t : List ℕ) (P W : ℕ) (rs : List Run) : Type 0 where
   pub within : withinLimit t rs ≡ true
   pub count : runCount rs ≡ P
   pub root : rootWeight t rs ≡ W
+
+-- the entry of the root's best plan
+unfoldable pub rootEntry : Bool → ℕ → Chain → Entry
+rootEntry gains K end = record { count = 0; rest = 0; choices = [] }
+rootEntry gains K (node w l kids next) = entryAt K (childrenOf gains K kids) w
 
 module _ {t : List ℕ} (a : AcceptedFacts t) where
   -- what is shown of a root with its children holds of the tree of the table
@@ -67,6 +76,32 @@ module _ {t : List ℕ} (a : AcceptedFacts t) where
   root-is : (m : List ℕ) → Judged t m → pageWeight t m 1 ≡ getD (weighed (treeOf t) m .pages) 0 0
   root-is m j = weight-bridge (a .sound) m (j .long) (judged-bridge a m (j .long) .0 j .allows) 1 (omega arith)
 
+  -- the verdict's figures are those of the entries: the sum of the counts and a page for the root, and the rest of the root's entry
+  abbrev ByEntries : Bool → List ℕ → Type 0
+  ByEntries gains m =
+      judgePlan t m ≡ accepted (Feasible (pagesOf gains (limitOf t) (treeOf t)) (rootEntry gains (limitOf t) (treeOf t) .rest))
+
+  by-entries : (gains : Bool) (m : List ℕ) → Judged t m
+      → Figured (limitOf t) (treeOf t) m (pagesOf gains (limitOf t) (treeOf t)) (rootEntry gains (limitOf t) (treeOf t) .rest)
+      → ByEntries gains m
+  by-entries gains m j f =
+      judged-answer j
+      ∙ ap₂ (λ (p w : ℕ). accepted (Feasible p w)) (count-is m j ∙ f .count) (root-is m j ∙ f .feasible .root-page)
+
+  pub best-figures : ByEntries true (bestMarks (limitOf t) (treeOf t))
+  unfolding rootEntry
+  best-figures =
+      by-entries true (bestMarks (limitOf t) (treeOf t)) best-judged
+      (by-shape (λ c. Figured (limitOf t) c (bestMarks (limitOf t) c) (pagesOf true (limitOf t) c) (rootEntry true (limitOf t) c .rest))
+      (λ w l kids e p. best-feasible (limitOf t) w l kids e))
+
+  pub level-figures : ByEntries false (levelMarks (limitOf t) (treeOf t))
+  unfolding rootEntry
+  level-figures =
+      by-entries false (levelMarks (limitOf t) (treeOf t)) level-judged
+      (by-shape (λ c. Figured (limitOf t) c (levelMarks (limitOf t) c) (pagesOf false (limitOf t) c) (rootEntry false (limitOf t) c .rest))
+      (λ w l kids e p. level-feasible (limitOf t) w l kids e))
+
   no-better : (m : List ℕ) → Judged t m → NoBetterThanBest (limitOf t) (treeOf t) m
   unfolding markAt
   no-better m j =
@@ -89,6 +124,16 @@ module _ {t : List ℕ} (a : AcceptedFacts t) where
         omega (arith, count-is best b, count-is m j, n .count),
         λ e. omega (arith, root-is best b, root-is m j, n .root (sym (count-is best b) ∙ (sym e ∙ count-is m j))),
       )
+
+  -- so it has at most as many as each other planner's
+  pub best-below-level : pageCount t best ≤ pageCount t (levelMarks (limitOf t) (treeOf t))
+  best-below-level = best-least-plan _ level-judged .0
+
+  pub best-below-single : pageCount t best ≤ pageCount t (singleMarks (limitOf t) (treeOf t))
+  best-below-single = best-least-plan _ single-judged .0
+
+  pub best-below-pair : pageCount t best ≤ pageCount t (pairMarks (limitOf t) (treeOf t))
+  best-below-pair = best-least-plan _ pair-judged .0
 
   -- demand 3
   pub best-lowest : Lowest t (pageCount t best) (pageWeight t best 1) (runsOf t best)
