@@ -18,7 +18,8 @@ use Rattle.theory.specs.PairShape.{unlessCut, remainder-node, remainder-fits}
 use Rattle.theory.specs.ChainAt.{chainAt, chain-none, NodeAt, node-at, link-within}
 use Rattle.planner.specs.Nodes.{kept, kept-none, kept-same, kept-other}
 use Rattle.planner.specs.Sides.{leftCut, rightCut, sides-left, sides-right}
-use Rattle.planner.specs.Pair.{Rests, PairReady, remainderAt, firstCut, nextCut, uncutAfter, LinkMarks, put, length-put, put-same, put-other, laidBelow}
+use Rattle.planner.specs.declared.pair.Sides.{Sides}
+use Rattle.planner.specs.Pair.{Rests, PairReady, SidesAt, remainderAt, firstCut, nextCut, uncutAfter, LinkMarks, put, length-put, put-same, put-other, laidBelow}
 
 remainder-none : (t : List ℕ) → remainderAt t 0 ≡ 0
 unfolding remainder
@@ -74,29 +75,34 @@ module _ {t s : List ℕ} {v : ℕ} (ready : PairReady t s v) where
   next-fits =
       remainder-fits (limitOf t) (chainAt t (nextAt t v)) (link-within (ready .above .tree) (at-node .after) (at-node .inside))
 
-  module _ (w l r : ℕ) (ew : w ≡ weightAt t v) (el : l ≡ remainderAt t (firstAt t v)) (er : r ≡ remainderAt t (nextAt t v)) where
-    pub sides-fit : w + l + r ≤ 4096
-    sides-fit = omega (arith, light, first-fits, next-fits, ready .above .tree .sound .limit-high)
+  pub sides-fit : weightAt t v + remainderAt t (firstAt t v) + remainderAt t (nextAt t v) ≤ 4096
+  sides-fit = omega (arith, light, first-fits, next-fits, ready .above .tree .sound .limit-high)
 
-    module _ (K : ℕ) (ek : K ≡ limitOf t) where
-      pub first-is : leftCut K w l r ≡ firstCut t v
-      unfolding firstCut
-      first-is =
-          rw (ek, ew, el, er)
-          (sym (sides-left (limitOf t) (weightAt t v) (remainderAt t (firstAt t v)) (remainderAt t (nextAt t v)) light))
+  module _ {x : Sides} (at : SidesAt t v x) where
+    pub first-is : leftCut (x .limit) (x .weight) (x .left) (x .right) ≡ firstCut t v
+    unfolding firstCut
+    first-is =
+        rw (at .limit, at .weight, at .left, at .right)
+        (sym (sides-left (limitOf t) (weightAt t v) (remainderAt t (firstAt t v)) (remainderAt t (nextAt t v)) light))
 
-      pub next-is : rightCut K w l r ≡ nextCut t v
-      unfolding nextCut
-      next-is =
-          rw (ek, ew, el, er)
-          (sym (sides-right (limitOf t) (weightAt t v) (remainderAt t (firstAt t v)) (remainderAt t (nextAt t v)) light))
+    pub next-is : rightCut (x .limit) (x .weight) (x .left) (x .right) ≡ nextCut t v
+    unfolding nextCut
+    next-is =
+        rw (at .limit, at .weight, at .left, at .right)
+        (sym (sides-right (limitOf t) (weightAt t v) (remainderAt t (firstAt t v)) (remainderAt t (nextAt t v)) light))
 
-    -- the node's remainder
-    pub weighs : unlessCut (firstCut t v) l + unlessCut (nextCut t v) r + w ≡ remainderAt t v
-    unfolding firstCut nextCut
-    weighs =
-        let n = remainder-node (limitOf t) (weightAt t v) (chainAt t (firstAt t v)) (chainAt t (nextAt t v)) (labelAt t v) in
-        rw (el, er, ew, at-node .shape) (omega (arith, n))
+    -- the node's remainder, from what is left of its sides
+    module _ (f g : Bool) (l r : ℕ) (ef : f ≡ leftCut (x .limit) (x .weight) (x .left) (x .right)) (eg : g ≡ rightCut (x .limit) (x .weight) (x .left) (x .right))
+        (el : l ≡ unlessCut f (x .left)) (er : r ≡ unlessCut g (x .right))
+      where
+        pub weighs : x .weight + l + r ≡ remainderAt t v
+        unfolding firstCut nextCut
+        weighs =
+            let n = remainder-node (limitOf t) (weightAt t v) (chainAt t (firstAt t v)) (chainAt t (nextAt t v)) (labelAt t v) in
+            rw (el, er, ef, eg, first-is, next-is, at .weight, at .left, at .right, at-node .shape) (omega (arith, n))
+
+        pub weighs-fit : x .weight + l + r ≤ 4096
+        weighs-fit = omega (arith, el, er, unless-le f (x .left), unless-le g (x .right), at .fits)
 
   pub rests-step : (r : ℕ) → r ≡ remainderAt t v → Rests t (set s (v - 1) r) (v - 1)
   rests-step r e =

@@ -1,6 +1,6 @@
 -- The pair planner by node number: the remainders that the scratch keeps, and the marks that each node gives its first child and its
 -- next sibling.
--- Defines Rests, firstCut, nextCut, LinkMarks, put. Proves pair-plan: with these marks for every node, the marks are the plan.
+-- Defines Rests, SidesAt, firstCut, nextCut, LinkMarks, put. Proves pair-plan: with these marks for every node, the marks are the plan.
 -- Assumes nothing.
 use Prim.Native.Nat.{ℕ, zero, suc, _+_, _-_, _≤_, _<_}
 use native.Mathlib.Omega.{arith}
@@ -19,6 +19,7 @@ use Rattle.theory.specs.Numbered.{Numbered, none, some, numbered-le, Between, s
 use Rattle.theory.specs.PairShape.{kidsCut}
 use Rattle.theory.specs.ChainAt.{chainAt, chain-is}
 use Rattle.planner.specs.Nodes.{kept, kept-suc}
+use Rattle.planner.specs.declared.pair.Sides.{Sides}
 
 -- the remainder of the chain at node v
 abbrev pub remainderAt : List ℕ → ℕ → ℕ
@@ -35,6 +36,14 @@ pub record PairReady (t s : List ℕ) (v : ℕ) : Type 0 where
   pub above : Rests t s v
   pub low : 1 ≤ v
   pub high : v ≤ nodeCount t
+
+-- node v and its sides, which have room to be summed
+pub record SidesAt (t : List ℕ) (v : ℕ) (s : Sides) : Type 0 where
+  pub limit : s .limit ≡ limitOf t
+  pub weight : s .weight ≡ weightAt t v
+  pub left : s .left ≡ remainderAt t (firstAt t v)
+  pub right : s .right ≡ remainderAt t (nextAt t v)
+  pub fits : s .weight + s .left + s .right ≤ 4096
 
 -- whether node u cuts its first child, and its next sibling
 unfoldable pub firstCut : List ℕ → ℕ → Bool

@@ -15,7 +15,15 @@ ghost use Rattle.model.specs.Steps.{pairMarks};
 ghost use Rattle.theory.specs.PairShape.{unlessCut};
 ghost use Rattle.planner.specs.Cutting.{LayReady};
 ghost use Rattle.planner.specs.Sides.{leftFirst, leftCut, rightCut};
-ghost use Rattle.planner.specs.Pair.{Rests, remainderAt, firstCut, nextCut, uncutAfter, put, laidBelow, PairReady};
+ghost use Rattle.planner.specs.Pair.{Rests, remainderAt, uncutAfter, put, laidBelow, PairReady, SidesAt};
+
+// What a node is cut by: the limit, its weight, and the weights of its sides.
+struct Sides {
+    limit: u32,
+    weight: u32,
+    left: u32,
+    right: u32,
+}
 
 // The heavier side goes first, and of equal sides the left.
 fn goes_first(left: u32, right: u32) -> bool
@@ -38,34 +46,17 @@ fn cuts_right(limit: u32, weight: u32, left: u32, right: u32) -> bool
     (limit < weight + left + right) & (!goes_first(left, right) | (limit < weight + right))
 }
 
-// Whether node v cuts its first child.
-fn cuts_first(table: &[u8], scratch: &[u32], v: u16) -> bool
+// Node v and its sides: the remainders at its first child and at its next sibling.
+fn sides_at(table: &[u8], scratch: &[u32], v: u16) -> Sides
     requires { ⌜ PairReady (now table) (now scratch) v ⌝ }
-    ensures { λ r. ⌜ r ≡ firstCut (now (table .entry)) v ⌝ }
+    ensures { λ r. ⌜ SidesAt (now (table .entry)) v r ⌝ }
 {
-    let left = kept_at(scratch, first_at(table, v));
-    let right = kept_at(scratch, next_at(table, v));
-    cuts_left(
-        limit_of(table) as u32,
-        weight_at(table, v) as u32,
-        left,
-        right,
-    )
-}
-
-// Whether node v cuts its next sibling.
-fn cuts_next(table: &[u8], scratch: &[u32], v: u16) -> bool
-    requires { ⌜ PairReady (now table) (now scratch) v ⌝ }
-    ensures { λ r. ⌜ r ≡ nextCut (now (table .entry)) v ⌝ }
-{
-    let left = kept_at(scratch, first_at(table, v));
-    let right = kept_at(scratch, next_at(table, v));
-    cuts_right(
-        limit_of(table) as u32,
-        weight_at(table, v) as u32,
-        left,
-        right,
-    )
+    Sides {
+        limit: limit_of(table) as u32,
+        weight: weight_at(table, v) as u32,
+        left: kept_at(scratch, first_at(table, v)),
+        right: kept_at(scratch, next_at(table, v)),
+    }
 }
 
 // What is left of a side.
@@ -80,15 +71,10 @@ fn weigh_node(table: &[u8], scratch: &[u32], v: u16) -> u32
     requires { ⌜ PairReady (now table) (now scratch) v ⌝ }
     ensures { λ r. ⌜ r ≡ remainderAt (now (table .entry)) v ⌝ }
 {
-    let left = unless_cut(
-        cuts_first(table, scratch, v),
-        kept_at(scratch, first_at(table, v)),
-    );
-    let right = unless_cut(
-        cuts_next(table, scratch, v),
-        kept_at(scratch, next_at(table, v)),
-    );
-    (weight_at(table, v) as u32) + left + right
+    let s = sides_at(table, scratch, v);
+    let left = unless_cut(cuts_left(s.limit, s.weight, s.left, s.right), s.left);
+    let right = unless_cut(cuts_right(s.limit, s.weight, s.left, s.right), s.right);
+    s.weight + left + right
 }
 
 // The remainders of all nodes.
@@ -132,9 +118,10 @@ fn lay_below(table: &[u8], marks: &mut [u8], scratch: &[u32], v: u16)
     requires { ⌜ PairReady (now table) (now scratch) v × (length (now marks) ≡ nodeCount (now table)) ⌝ }
     ensures { λ r. ⌜ now (marks .exit) ≡ laidBelow (now (table .entry)) (now (marks .entry)) v ⌝ }
 {
-    let first = mark_of(cuts_first(table, scratch, v), 0);
+    let s = sides_at(table, scratch, v);
+    let first = mark_of(cuts_left(s.limit, s.weight, s.left, s.right), 0);
     let next = mark_of(
-        cuts_next(table, scratch, v),
+        cuts_right(s.limit, s.weight, s.left, s.right),
         uncut_after(marks[(v as usize) - 1]),
     );
     put_mark(marks, first_at(table, v), first);

@@ -8,19 +8,22 @@ use denote.Ref.{now}
 use Rattle.model.specs.Basics.{pick}
 use Rattle.planner.specs.Nodes.{kept-some}
 use Rattle.planner.specs.Pair.{put, uncutAfter}
-use Rattle.planner.proofs.TwoWay.{first-node, next-node, below-is}
+use Rattle.planner.proofs.TwoWay.{first-node, next-node, first-is, next-is, below-is}
 use borrow.Author.Needs.{needs}
 use Rattle.planner.proofs.pair.lay_below.Statement.{statement}
 use Rattle.planner.proofs.pair.lay_below.Tie as tie
 
-cuts-first-requires : tie.Need-cuts-first-requires
-cuts-first-requires c κs = search needs
+sides-at-requires : tie.Need-sides-at-requires
+sides-at-requires c κs = search needs
+
+cuts-left-requires : tie.Need-cuts-left-requires
+cuts-left-requires c κs = search needs
 
 mark-of-requires : tie.Need-mark-of-requires
 mark-of-requires c κs = search needs
 
-cuts-next-requires : tie.Need-cuts-next-requires
-cuts-next-requires c κs = search needs
+cuts-right-requires : tie.Need-cuts-right-requires
+cuts-right-requires c κs = search needs
 
 sub-uncut-after : tie.Need-sub-uncut-after
 sub-uncut-after c = search needs
@@ -39,7 +42,7 @@ first-at-requires c κs = search needs
 
 put-mark-requires : tie.Need-put-mark-requires
 put-mark-requires c κs =
-    let b = c .before .before .before .before .before .before .before .before .before .before .before in
+    let b = c .before .before .before .before .before .before .before .before .before .before .before .before in
     omega (arith, first-node (b .pre .0) (c .first-at .result) (c .first-at .ensures), b .pre .1)
 
 next-at-requires : tie.Need-next-at-requires
@@ -47,8 +50,9 @@ next-at-requires c κs = search needs
 
 put-mark-requires-2 : tie.Need-put-mark-requires-2
 put-mark-requires-2 c κs =
-    let b = c .before .before .before .before .before .before .before .before .before .before .before .before .before .before .before .before in
-    omega (arith, next-node (b .pre .0) (c .next-at .result) (c .next-at .ensures), c .before .before .before .before .put-mark .kept .0, b .pre .1)
+    let p1 = c .before .before .before .before in
+    let b = p1 .before .before .before .before .before .before .before .before .before .before .before .before .before in
+    omega (arith, next-node (b .pre .0) (c .next-at .result) (c .next-at .ensures), p1 .put-mark .kept .0, b .pre .1)
 
 same-length : tie.Need-same-length
 same-length c = search needs
@@ -64,23 +68,26 @@ returns c =
     let x2 = u .before .before in
     let m1 = x2 .before in
     let x1 = m1 .before in
-    let b = x1 .before .before .before .before in
+    let s = x1 .before in
+    let b = s .before .before .before .before in
     let a = now (b .args .marks) in
     p2 .put-mark2 .ensures
     ∙ ap (λ (l : List ℕ). put l (n .next-at .result) (m2 .mark-of2 .result)) (p1 .put-mark .ensures)
     ∙ below-is (now (b .args .table)) a (b .args .v) (f .first-at .result) (n .next-at .result) (m1 .mark-of .result) (m2 .mark-of2 .result)
-    (f .first-at .ensures) (n .next-at .ensures) (m1 .mark-of .ensures ∙ ap (λ (o : Bool). pick o 1 0) (x1 .cuts-first .ensures))
+    (f .first-at .ensures) (n .next-at .ensures)
+    (m1 .mark-of .ensures ∙ ap (λ (o : Bool). pick o 1 0) (x1 .cuts-left .ensures ∙ first-is (b .pre .0) (s .sides-at .ensures)))
     (m2 .mark-of2 .ensures
-    ∙ ap₂ (λ (o : Bool) (k : ℕ). pick o 1 k) (x2 .cuts-next .ensures)
+    ∙ ap₂ (λ (o : Bool) (k : ℕ). pick o 1 k) (x2 .cuts-right .ensures ∙ next-is (b .pre .0) (s .sides-at .ensures))
     (u .uncut-after .ensures ∙ ap uncutAfter (kept-some a (b .args .v) (b .pre .0 .low))))
 
 pub lay-below-spec : {M : Type 1} → statement M
 lay-below-spec =
     tie.close
     (tie.spec
-    cuts-first-requires
+    sides-at-requires
+    cuts-left-requires
     mark-of-requires
-    cuts-next-requires
+    cuts-right-requires
     sub-uncut-after
     slice-read-uncut-after
     uncut-after-requires

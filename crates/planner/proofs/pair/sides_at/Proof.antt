@@ -1,0 +1,63 @@
+-- `planner::pair::sides_at` meets its contract. Assumes nothing.
+use native.Mathlib.Omega.{arith}
+use Rattle.planner.proofs.TwoWay.{first-word, next-word, first-rest, next-rest, sides-fit}
+use borrow.Author.Needs.{needs}
+use Rattle.planner.proofs.pair.sides_at.Statement.{statement}
+use Rattle.planner.proofs.pair.sides_at.Tie as tie
+
+limit-of-requires : tie.Need-limit-of-requires
+limit-of-requires c κs = search needs
+
+cast-t5 : tie.Need-cast-t5
+cast-t5 c = search needs
+
+weight-at-requires : tie.Need-weight-at-requires
+weight-at-requires c κs = search needs
+
+cast-t7 : tie.Need-cast-t7
+cast-t7 c = search needs
+
+first-at-requires : tie.Need-first-at-requires
+first-at-requires c κs = search needs
+
+kept-at-requires : tie.Need-kept-at-requires
+kept-at-requires c κs =
+    first-word (c .before .before .before .before .before .pre) (c .first-at .result) (c .first-at .ensures)
+
+next-at-requires : tie.Need-next-at-requires
+next-at-requires c κs = search needs
+
+kept-at-requires-2 : tie.Need-kept-at-requires-2
+kept-at-requires-2 c κs =
+    next-word (c .before .before .before .before .before .before .before .pre) (c .next-at .result) (c .next-at .ensures)
+
+returns : tie.Need-returns
+returns c =
+    let n = c .before in
+    let k = n .before in
+    let f = k .before in
+    let w = f .before in
+    let b = w .before .before .before .before in
+    let l = first-rest (b .pre) (f .first-at .result) (k .kept-at .result) (f .first-at .ensures) (k .kept-at .ensures) in
+    let r = next-rest (b .pre) (n .next-at .result) (c .kept-at2 .result) (n .next-at .ensures) (c .kept-at2 .ensures) in
+    record {
+      limit = w .before .limit-of .ensures;
+      weight = w .weight-at .ensures;
+      left = l;
+      right = r;
+      fits = omega (arith, l, r, w .weight-at .ensures, sides-fit (b .pre));
+    }
+
+pub sides-at-spec : {M : Type 1} → statement M
+sides-at-spec =
+    tie.close
+    (tie.spec
+    limit-of-requires
+    cast-t5
+    weight-at-requires
+    cast-t7
+    first-at-requires
+    kept-at-requires
+    next-at-requires
+    kept-at-requires-2
+    returns)
