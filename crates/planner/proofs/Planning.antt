@@ -2,7 +2,7 @@
 -- whole outcome. Assumes nothing.
 use Prim.Native.Nat.{ℕ, _+_, _*_, _≤_, _<_}
 use native.Mathlib.Omega.{arith}
-use native.Mathlib.Nat.{mul-le-mul-left, mul-le-mul}
+use native.Mathlib.Nat.{mul-le-mul}
 use mathlib.Core.Path.{_≡_, refl, sym, _∙_, ap}
 use mathlib.Core.Bool.{Bool, true, false, not, _&&_}
 use mathlib.Core.List.{List, [], _∷_, _++_}
@@ -18,7 +18,6 @@ use Rattle.theory.specs.Ranges.{pick-true, pick-false, when-nowhere, append-nil
 use Rattle.theory.specs.Sound.{AcceptedFacts, accepted-facts, passes-first, passes-rest, passes-append, both-true}
 use Rattle.theory.specs.Checks.{HasNumbers, accepted-pass, firstOf-pass, firstOf-stop}
 use Rattle.planner.specs.Outcome.{outcome, PlanReady}
-use Rattle.planner.specs.Cutting.{LayReady}
 
 -- the checks after those of the tree
 unfoldable pub lentChecks : List ℕ → List ℕ → List ℕ → List Check
@@ -59,15 +58,6 @@ module _ (t m s : List ℕ) where
 -- the number of words fits
 pub words-fit : (n k : ℕ) → n ≤ 1024 → k ≤ 1024 → 4 * n * (k + 3) ≤ 4206592
 words-fit n k a b = mul-le-mul {n₁ = 4 * n} {m₁ = k + 3} {n₂ = 4096} {m₂ = 1027} (omega arith) (omega arith)
-
-words-enough : (n k : ℕ) → n ≤ 4 * n * (k + 3)
-words-enough n k =
-    let one : 4 * n * 1 ≤ 4 * n * (k + 3) = mul-le-mul-left (4 * n) (omega arith) in
-    omega arith
-
-pub ready-lays : {t m s : List ℕ} → PlanReady t m s → LayReady t m s
-ready-lays {t} r =
-    record { tree = r .tree; marks-long = r .marks-long; long = omega (arith, words-enough (nodeCount t) (limitOf t), r .words) }
 
 -- ---- The answer of the checks, and the outcome
 

@@ -10,31 +10,49 @@ use model::Answer;
 use pair::lay_pair;
 use single::lay_single;
 ghost use mathlib.Core.Path.{_≡_};
-ghost use Rattle.model.specs.Refusals.{planSingle, planPair};
-ghost use Rattle.planner.specs.Outcome.{outcome};
+ghost use Rattle.model.specs.Table.{limitOf, treeOf};
+ghost use Rattle.model.specs.Refusals.{planned, planSingle, planPair};
+ghost use Rattle.planner.specs.Outcome.{outcome, stepsOf, PlanReady};
 
-// Entry: the single planner.
-pub fn plan_single(table: &[u8], marks: &mut [u8], scratch: &mut [u32]) -> Answer
-    ensures { λ r. ⌜ outcome r (now (marks .exit)) (now (scratch .exit)) ≡ planSingle (now (table .entry)) (now (marks .entry)) (now (scratch .entry)) ⌝ }
+// Whose steps make the plan.
+enum Planner {
+    Single,
+    Pair,
+}
+
+// The marks of an accepted tree.
+fn lay_plan(planner: Planner, table: &[u8], marks: &mut [u8], scratch: &mut [u32])
+    requires { ⌜ PlanReady (now table) (now marks) (now scratch) ⌝ }
+    ensures { λ r. ⌜ now (marks .exit) ≡ stepsOf planner (limitOf (now (table .entry))) (treeOf (now (table .entry))) ⌝ }
+{
+    match planner {
+        Planner::Single => lay_single(table, marks, scratch),
+        Planner::Pair => lay_pair(table, marks, scratch),
+    }
+}
+
+fn make_plan(planner: Planner, table: &[u8], marks: &mut [u8], scratch: &mut [u32]) -> Answer
+    ensures { λ r. ⌜ outcome r (now (marks .exit)) (now (scratch .exit)) ≡ planned (stepsOf planner) (now (table .entry)) (now (marks .entry)) (now (scratch .entry)) ⌝ }
 {
     let checked = check_plan(table, marks, scratch);
     if checked.number != 0 {
         return checked;
     }
-    lay_single(table, marks, scratch);
+    lay_plan(planner, table, marks, scratch);
     clear(scratch);
     judge_plan(table, marks)
+}
+
+// Entry: the single planner.
+pub fn plan_single(table: &[u8], marks: &mut [u8], scratch: &mut [u32]) -> Answer
+    ensures { λ r. ⌜ outcome r (now (marks .exit)) (now (scratch .exit)) ≡ planSingle (now (table .entry)) (now (marks .entry)) (now (scratch .entry)) ⌝ }
+{
+    make_plan(Planner::Single, table, marks, scratch)
 }
 
 // Entry: the pair planner.
 pub fn plan_pair(table: &[u8], marks: &mut [u8], scratch: &mut [u32]) -> Answer
     ensures { λ r. ⌜ outcome r (now (marks .exit)) (now (scratch .exit)) ≡ planPair (now (table .entry)) (now (marks .entry)) (now (scratch .entry)) ⌝ }
 {
-    let checked = check_plan(table, marks, scratch);
-    if checked.number != 0 {
-        return checked;
-    }
-    lay_pair(table, marks, scratch);
-    clear(scratch);
-    judge_plan(table, marks)
+    make_plan(Planner::Pair, table, marks, scratch)
 }

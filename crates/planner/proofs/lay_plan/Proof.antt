@@ -1,0 +1,62 @@
+-- `planner::lay_plan` meets its contract. Assumes nothing.
+use mathlib.Core.Path.{sym, ap, _∙_}
+use denote.Ref.{now}
+use Rattle.model.specs.Table.{limitOf, treeOf}
+use Rattle.planner.specs.declared.Planner.{Planner}
+use Rattle.planner.specs.Outcome.{stepsOf}
+use borrow.Author.Needs.{needs}
+use Rattle.planner.proofs.lay_plan.Statement.{statement}
+use Rattle.planner.proofs.lay_plan.Tie as tie
+
+enum-told : tie.Need-enum-told
+enum-told c = search needs
+
+lay-single-requires : tie.Need-lay-single-requires
+lay-single-requires c κs = search needs
+
+enum-told-2 : tie.Need-enum-told-2
+enum-told-2 c = search needs
+
+lay-pair-requires : tie.Need-lay-pair-requires
+lay-pair-requires c κs = search needs
+
+same-length : tie.Need-same-length
+same-length c = search needs
+
+same-length-2 : tie.Need-same-length-2
+same-length-2 c = search needs
+
+returns : tie.Need-returns
+returns c =
+    let l = c .before .before .before .before in
+    let e = l .before .before .before in
+    let t = now (e .before .before .before .before .before .args .table) in
+    l .lay-single .ensures ∙ sym (ap (λ (p : Planner). stepsOf p (limitOf t) (treeOf t)) (e .enum-told .given .1))
+
+same-length-3 : tie.Need-same-length-3
+same-length-3 c = search needs
+
+same-length-4 : tie.Need-same-length-4
+same-length-4 c = search needs
+
+returns-2 : tie.Need-returns-2
+returns-2 c =
+    let l = c .before .before .before .before in
+    let e = l .before .before .before in
+    let t = now (e .before .before .before .before .before .args .table) in
+    l .lay-pair .ensures ∙ sym (ap (λ (p : Planner). stepsOf p (limitOf t) (treeOf t)) (e .enum-told2 .given .1))
+
+pub lay-plan-spec : {M : Type 1} → statement M
+lay-plan-spec =
+    tie.close
+    (tie.spec
+    enum-told
+    lay-single-requires
+    enum-told-2
+    lay-pair-requires
+    same-length
+    same-length-2
+    returns
+    same-length-3
+    same-length-4
+    returns-2)
