@@ -1,7 +1,7 @@
 -- What a door leaves behind: its four numbers, and every buffer that it was lent.
 use mathlib.Core.List.{List}
 use Prim.Native.Nat.{ℕ}
-use Rattle.model.specs.Refusals.{Planned}
+use Rattle.model.specs.Refusals.{Planned, Written, Restored}
 use Rattle.embed.specs.declared.Figures.{Figures}
 use Rattle.embed.specs.Figures.{figuresOf}
 
@@ -15,3 +15,24 @@ left f m s = record { figures = f; marks = m; scratch = s }
 
 abbrev pub leftBy : Planned → PlanLeft
 leftBy p = left (figuresOf (p .answer)) (p .marks) (p .scratch)
+
+pub record WriteLeft : Type 0 where
+  pub figures : Figures
+  pub archive : List ℕ
+
+abbrev pub filled : Figures → List ℕ → WriteLeft
+filled f a = record { figures = f; archive = a }
+
+abbrev pub filledBy : Written → WriteLeft
+filledBy w = filled (figuresOf (w .answer)) (w .archive)
+
+pub record ReadLeft : Type 0 where
+  pub figures : Figures
+  pub table : List ℕ
+  pub marks : List ℕ
+
+abbrev pub refilled : Figures → List ℕ → List ℕ → ReadLeft
+refilled f t m = record { figures = f; table = t; marks = m }
+
+abbrev pub refilledBy : Restored → ReadLeft
+refilledBy x = refilled (figuresOf (x .answer)) (x .table) (x .marks)

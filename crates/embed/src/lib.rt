@@ -2,9 +2,9 @@
 use model::Answer;
 use model::Verdict;
 ghost use mathlib.Core.Path.{_≡_};
-ghost use Rattle.model.specs.Refusals.{readTree, judgePlan, planSingle, planPair};
+ghost use Rattle.model.specs.Refusals.{readTree, judgePlan, planSingle, planPair, writeArchive, readArchive};
 ghost use Rattle.embed.specs.Figures.{figuresOf};
-ghost use Rattle.embed.specs.Left.{left, leftBy};
+ghost use Rattle.embed.specs.Left.{left, leftBy, filled, filledBy, refilled, refilledBy};
 
 // A number and a place, and the verdict's page count and root weight, both 0 unless the number is 0.
 #[repr(C)]
@@ -73,4 +73,22 @@ pub extern "C" fn balduqen_plan_pair(table: &[u8], marks: &mut [u8], scratch: &m
     ensures { λ r. ⌜ left r (now (marks .exit)) (now (scratch .exit)) ≡ leftBy (planPair (now (table .entry)) (now (marks .entry)) (now (scratch .entry))) ⌝ }
 {
     flatten(planner::plan_pair(table, marks, scratch))
+}
+
+#[no_mangle]
+pub extern "C" fn balduqen_write_archive(table: &[u8], marks: &[u8], archive: &mut [u8]) -> Figures
+    ensures { λ r. ⌜ filled r (now (archive .exit)) ≡ filledBy (writeArchive (now (table .entry)) (now (marks .entry)) (now (archive .entry))) ⌝ }
+{
+    flatten(archive::write::write_archive(table, marks, archive))
+}
+
+#[no_mangle]
+pub extern "C" fn balduqen_read_archive(
+    archive: &[u8],
+    table: &mut [u8],
+    marks: &mut [u8],
+) -> Figures
+    ensures { λ r. ⌜ refilled r (now (table .exit)) (now (marks .exit)) ≡ refilledBy (readArchive (now (archive .entry)) (now (table .entry)) (now (marks .entry))) ⌝ }
+{
+    flatten(archive::read::read_archive(archive, table, marks))
 }

@@ -1,0 +1,25 @@
+-- `embed::balduqen_write_archive` meets its contract. Assumes nothing.
+use mathlib.Core.Path.{ap, _∙_}
+use Rattle.embed.specs.declared.Figures.{Figures}
+use Rattle.embed.specs.Left.{filled, filledBy}
+use borrow.Author.Needs.{needs}
+use Rattle.embed.proofs.balduqen_write_archive.Statement.{statement}
+use Rattle.embed.proofs.balduqen_write_archive.Tie as tie
+
+write-archive-requires : tie.Need-write-archive-requires
+write-archive-requires c κs = search needs
+
+flatten-requires : tie.Need-flatten-requires
+flatten-requires c κs = search needs
+
+same-length : tie.Need-same-length
+same-length c = search needs
+
+returns : tie.Need-returns
+returns c =
+    let p = c .before .before .before .write-archive in
+    ap (λ (f : Figures). filled f (p .last .1 .1 .0)) (c .flatten .ensures) ∙ ap filledBy (p .ensures)
+
+pub balduqen-write-archive-spec : {M : Type 1} → statement M
+balduqen-write-archive-spec =
+    tie.close (tie.spec write-archive-requires flatten-requires same-length returns)
