@@ -7,7 +7,7 @@ cd "$(dirname "$0")" || exit 2
 passed=0
 failed=0
 # The entries that the library has so far; their tests are linked.
-export BALDUQEN_ENTRIES="read_tree judge single pair"
+export BALDUQEN_ENTRIES="read_tree judge single pair write_archive read_archive"
 
 # Adds the sums of a step. A step that ends badly without naming a failure, or that ran nothing, counts as one.
 # $1 name, $2 exit status, $3 passed, $4 failed

@@ -19,10 +19,27 @@ fn read_into(archive: &[u8], table: &[u8], marks: &[u8]) -> (Answer, Vec<u8>, Ve
         ffi::read_archive(archive, lent_table.slice(), lent_marks.slice())
     });
     assert_eq!(answer, model_answer, "{}", show(archive));
-    let (table, marks) = (lent_table.content(), lent_marks.content());
-    assert_eq!(table, model_table, "{answer:?}: {}", show(archive));
-    assert_eq!(marks, model_marks, "{answer:?}: {}", show(archive));
-    (answer, table.to_vec(), marks.to_vec())
+    let (new_table, new_marks) = (lent_table.content(), lent_marks.content());
+    assert_eq!(new_table, model_table, "{answer:?}: {}", show(archive));
+    assert_eq!(new_marks, model_marks, "{answer:?}: {}", show(archive));
+    if answer.is_accepted() {
+        assert_rewritten(archive, new_table, new_marks);
+    } else {
+        assert!(new_table == table && new_marks == marks, "{answer:?}");
+    }
+    (answer, new_table.to_vec(), new_marks.to_vec())
+}
+
+/// An archive that is read is the very one that writing what was read gives.
+#[cfg_attr(not(has_write_archive), allow(unused_variables))]
+fn assert_rewritten(archive: &[u8], table: &[u8], marks: &[u8]) {
+    #[cfg(has_write_archive)]
+    {
+        let mut again = vec![7; archive.len()];
+        let answer = ffi::write_archive(table, marks, &mut again);
+        assert!(answer.is_accepted(), "{answer:?}: {}", show(archive));
+        assert!(again == archive, "{}; {}", show(&again), show(archive));
+    }
 }
 
 /// Reads into buffers of the lengths that the archive's first word asks for.

@@ -9,10 +9,10 @@ use balduqen_tests::model::{self, archive_length, judge, read, word, Answer};
 
 /// The library's answer and archive, checked against the model's. The buffer holds these bytes on
 /// entry.
-fn write_archive(table: &[u8], marks: &[u8], archive: &[u8]) -> (Answer, Vec<u8>) {
-    let mut model_archive = archive.to_vec();
+fn write_archive(table: &[u8], marks: &[u8], on_entry: &[u8]) -> (Answer, Vec<u8>) {
+    let mut model_archive = on_entry.to_vec();
     let model_answer = model::write_archive(table, marks, &mut model_archive);
-    let mut lent = Lent::new(archive, 0xa5);
+    let mut lent = Lent::new(on_entry, 0xa5);
     let answer = with_copy(table, |table| {
         with_copy(marks, |marks| {
             ffi::write_archive(table, marks, lent.slice())
@@ -27,6 +27,9 @@ fn write_archive(table: &[u8], marks: &[u8], archive: &[u8]) -> (Answer, Vec<u8>
         show(table),
         show(marks)
     );
+    if !answer.is_accepted() {
+        assert_eq!(archive, on_entry, "{answer:?}");
+    }
     (answer, archive.to_vec())
 }
 
@@ -145,18 +148,14 @@ fn damaged_tables() {
 
 /// What is written can be read: the same table and marks come back.
 #[cfg(has_read_archive)]
-#[test]
-fn round_trips() {
-    let random = &mut Random::new(904);
-    for round in 0..5000 {
-        let most = if round % 50 == 0 { 1024 } else { 30 };
-        let limit = random.pick(&[10, 100, 1024]);
-        let table = any_table(random, most, limit).bytes();
-        let tree = read(&table).expect("an accepted table");
-        let marks = feasible_plan(random, &tree);
-        let mut archive = vec![7; right_length(&table, &marks)];
-        let verdict = ffi::write_archive(&table, &marks, &mut archive);
-        assert_eq!(verdict, judge(&table, &marks));
+mod round_trips {
+    use super::*;
+    use balduqen_tests::model::Tree;
+
+    fn round_trip(table: &[u8], tree: &Tree, marks: &[u8]) {
+        let mut archive = vec![7; right_length(table, marks)];
+        let verdict = ffi::write_archive(table, marks, &mut archive);
+        assert_eq!(verdict, model::verdict(tree, marks));
         let mut new_table = vec![7; table.len()];
         let mut new_marks = vec![7; marks.len()];
         assert_eq!(
@@ -168,5 +167,34 @@ fn round_trips() {
             "{}",
             show(&archive)
         );
+    }
+
+    #[test]
+    fn of_random_trees() {
+        let random = &mut Random::new(904);
+        for round in 0..5000 {
+            let most = if round % 50 == 0 { 1024 } else { 30 };
+            let limit = random.pick(&[10, 100, 1024]);
+            let table = any_table(random, most, limit).bytes();
+            let tree = read(&table).expect("an accepted table");
+            let marks = feasible_plan(random, &tree);
+            round_trip(&table, &tree, &marks);
+        }
+    }
+
+    #[test]
+    fn of_the_largest_trees() {
+        let random = &mut Random::new(905);
+        for form in FORMS {
+            for limit in [1, 30, 1024] {
+                let table = random_table(random, form, 1024, limit).bytes();
+                let tree = read(&table).expect("an accepted table");
+                round_trip(&table, &tree, &[1; 1024]);
+                for _ in 0..5 {
+                    let marks = feasible_plan(random, &tree);
+                    round_trip(&table, &tree, &marks);
+                }
+            }
+        }
     }
 }
