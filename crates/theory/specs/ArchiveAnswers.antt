@@ -251,3 +251,15 @@ module _ (a t m : List ℕ) where
           ∙ firstOf-nil _))
           (sym (pick-true (passes (readChecks a t m)) (tableIn a) t all))
           (sym (pick-true (passes (readChecks a t m)) (marksIn a) m all))
+
+  read-numbers : HasNumbers (readChecks a t m)
+  unfolding HasNumbers readChecks noArchive badOutput badMarks
+  read-numbers = (omega arith, (omega arith, (omega arith, tt)))
+
+  -- ---- What the reader's answer tells: the table and the marks are the archive's
+
+  pub reader-accepts : readArchive a t m .answer .number ≡ 0 → (readArchive a t m .table ≡ tableIn a) × (readArchive a t m .marks ≡ marksIn a)
+  unfolding readArchive
+  reader-accepts z =
+      let all : passes (readChecks a t m) ≡ true = accepted-pass (verdictOf (tableIn a) (marksIn a)) (readChecks a t m) read-numbers z in
+      (pick-true (passes (readChecks a t m)) (tableIn a) t all, pick-true (passes (readChecks a t m)) (marksIn a) m all)

@@ -62,3 +62,4 @@ pub mod CellsChosen
 -- Demand 3
 pub mod Lowest
 pub mod Promise
+pub mod ArchiveLowest

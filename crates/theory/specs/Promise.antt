@@ -1,18 +1,17 @@
 -- Demand 3 as the best planner's entry promises it, from its answer and the marks that it leaves.
--- Defines BestPromise. Proves best-promise, and planned-feasible (no planner refuses an accepted tree with good buffers).
+-- Defines BestPromise. Proves best-promise, and plan-passes (a planner that answers 0 was lent an accepted tree and right buffers).
 -- Assumes nothing.
 use Prim.Native.Nat.{ℕ}
-use mathlib.Core.Path.{_≡_, refl, sym, ap, _∙_}
-use mathlib.Core.Bool.{Bool, true, false, true≢false, false≢true}
+use mathlib.Core.Path.{_≡_, sym, ap, _∙_}
+use mathlib.Core.Bool.{true, false, true≢false}
 use mathlib.Core.List.{List, [], _∷_, _++_}
 use mathlib.Core.Logic.{_↔_, ⊎-elim}
 use native.Mathlib.Omega.{arith}
-use Rattle.model.specs.Basics.{pick, atPlace}
+use Rattle.model.specs.Basics.{atPlace}
 use Rattle.model.specs.Table.{Chain, nodeCount, limitOf, treeOf}
-use Rattle.model.specs.Plan.{pageCount, pageWeight}
 use Rattle.model.specs.Runs.{runsOf}
 use Rattle.model.specs.Steps.{bestMarks}
-use Rattle.model.specs.Refusals.{Check, shortTable, badCount, badLimit, badLength, noWeight, badWalk, heavyNode, formChecks, badMarks, shortScratch, treeChecks, planChecks, passes, soundForm, acceptedTree, refusedForWeight, refused, accepted, firstOf, readTree, judgePlan, Planned, planned, planBest}
+use Rattle.model.specs.Refusals.{Check, shortTable, badCount, badLimit, badLength, noWeight, badWalk, heavyNode, formChecks, badMarks, shortScratch, treeChecks, planChecks, passes, soundForm, acceptedTree, refused, accepted, firstOf, readTree, judgePlan, Planned, planned, planBest}
 use Rattle.model.specs.declared.Answer.{Answer}
 use Rattle.model.specs.declared.Place.{Place}
 use Rattle.model.specs.declared.Place.the-variants.{At, Nowhere}
@@ -20,7 +19,7 @@ use Rattle.model.specs.declared.Verdict.the-variants.{NotJudged, Feasible}
 use Rattle.theory.specs.Ranges.{bool-cases, pick-true, pick-false}
 use Rattle.theory.specs.Checks.{firstOf-pass, firstOf-stop, accepted-pass, HasNumbers}
 use Rattle.theory.specs.Sound.{AcceptedFacts, accepted-facts, passes-append, both-true}
-use Rattle.theory.specs.Feasible.{Judged, judged-answer, firstOf-all}
+use Rattle.theory.specs.Feasible.{judged-answer, firstOf-all}
 use Rattle.theory.specs.Held.{HeldWithin, refused-unheld, seven-refused}
 use Rattle.theory.specs.Lowest.{Lowest, best-judged, best-lowest}
 
@@ -57,6 +56,20 @@ module _ (steps : ℕ → Chain → List ℕ) (t m s : List ℕ) where
   pub planned-refused : passes (planChecks t m s) ≡ false → planned steps t m s .answer ≡ firstOf (planChecks t m s) (accepted NotJudged)
   unfolding planned
   planned-refused e = ap (λ (p : Planned). p .answer) (pick-false (passes (planChecks t m s)) _ _ e)
+
+plan-numbers : (t m s : List ℕ) → HasNumbers (planChecks t m s)
+unfolding HasNumbers planChecks treeChecks formChecks shortTable badCount badLimit badLength noWeight badWalk heavyNode badMarks shortScratch
+plan-numbers t m s =
+    (omega arith, (omega arith, (omega arith, (omega arith, (omega arith, (omega arith, (omega arith, (omega arith, (omega arith, tt)))))))))
+
+-- a planner that answers 0 was lent an accepted tree and right buffers
+pub plan-passes : (steps : ℕ → Chain → List ℕ) (t m s : List ℕ) → planned steps t m s .answer .number ≡ 0 → passes (planChecks t m s) ≡ true
+plan-passes steps t m s z = ⊎-elim (λ e. e) other (bool-cases (passes (planChecks t m s)))
+  where
+    other : passes (planChecks t m s) ≡ false → passes (planChecks t m s) ≡ true
+    other e =
+        accepted-pass NotJudged (planChecks t m s) (plan-numbers t m s)
+        (sym (ap (λ (a : Answer). a .number) (planned-refused steps t m s e)) ∙ z)
 
 -- ---- Refusal 7 is the tree reader's
 
