@@ -5,3 +5,4 @@ pub mod Sheets
 pub mod Answers
 pub mod Decode
 pub mod Ends
+pub mod Film
