@@ -1,0 +1,26 @@
+-- `best::column::block_at` meets its contract. Assumes nothing.
+use borrow.Author.Needs.{needs}
+use Rattle.best.proofs.column.block_at.Statement.{statement}
+use Rattle.best.proofs.column.block_at.Tie as tie
+use Prim.Native.Nat.{ℕ, _+_, _*_, _≤_}
+use native.Mathlib.Omega.{arith}
+use native.Mathlib.Nat.{mul-le-mul}
+
+add-result : tie.Need-add-result
+add-result c = search needs
+
+mul-result : tie.Need-mul-result
+mul-result c = search needs
+
+mul-result-2 : tie.Need-mul-result-2
+mul-result-2 c =
+    let k : ℕ = c .args .limit in
+    let v : ℕ = c .args .v in
+    let fits : v * (2 * (k + 1)) ≤ 1025 * 2050 = mul-le-mul {n₁ = v} {m₁ = 2 * (k + 1)} {n₂ = 1025} {m₂ = 2050} (omega arith) (omega arith) in
+    search needs
+
+returns : tie.Need-returns
+returns c = search needs
+
+pub block-at-spec : {M : Type 1} → statement M
+block-at-spec = tie.close (tie.spec add-result mul-result mul-result-2 returns)
