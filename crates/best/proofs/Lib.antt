@@ -1,0 +1,2 @@
+pub mod ColumnSweeps
+pub mod ColumnRuns
