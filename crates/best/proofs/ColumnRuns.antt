@@ -40,6 +40,7 @@ use Rattle.theory.specs.CellsRun.{
   back,
   blockAt,
   block-apart,
+  ColumnWords,
   word-small,
   Fillable,
 }
@@ -82,17 +83,17 @@ pub record Taking (K c : ℕ) (rests gains prevs counts : List ℕ) (sums : Sums
   pub taken-high : taken + sum ≤ sums .total
 
 module _ {K start c : ℕ} {rests gains prevs xs : List ℕ} (f : Fillable K start c rests gains prevs xs) where
-  front : ℕ → List Child
+  abbrev front : ℕ → List Child
   front u = frontOf rests gains prevs u
 
-  run : ℕ → List Child
+  abbrev run : ℕ → List Child
   run n = lastOf rests gains prevs n c
 
   -- the words at entry that a child that stays asks for
   stays : (s : ℕ) → start ≤ s
       → stayCell K s (getD rests c 0) (getD xs (blockAt K (getD prevs c 0) + (s + getD rests c 0)) 0)
       ≡ stayCell K s (getD rests c 0) (cellAt K (front (getD prevs c 0)) (s + getD rests c 0) .word)
-  unfolding stayCell pick front back
+  unfolding stayCell pick back
   stays s p = ap (λ w. record { word = w; run = 0 }) (go (leb (s + getD rests c 0) K) refl)
     where
       go : (b : Bool) → leb (s + getD rests c 0) K ≡ b
@@ -104,7 +105,7 @@ module _ {K start c : ℕ} {rests gains prevs xs : List ℕ} (f : Fillable K sta
   pub stretch-start : (here first : ℕ) (ys : List ℕ) → here ≡ blockAt K c → first ≡ blockAt K (getD prevs c 0)
       → Swept K start here (λ s. stayCell K s (getD rests c 0) (getD xs (first + (s + getD rests c 0)) 0)) xs ys
       → Stretch K start c rests gains prevs xs (Joins K) ys (replicate 1025 0) (record { len = 0; total = 0; gained = 0; top = 0 }) c
-  unfolding lastOf back joins cellAt front
+  unfolding lastOf back joins cellAt
   stretch-start here first ys e d swept =
       let w = rw (e, d) at swept in
       record {
@@ -121,9 +122,8 @@ module _ {K start c : ℕ} {rests gains prevs xs : List ℕ} (f : Fillable K sta
   -- the next child joins the run
   module _ {ys counts : List ℕ} {sums : Sums} {next : ℕ} (t : Stretch K start c rests gains prevs xs (Joins K) ys counts sums next) where
     pub stretch-end : next ≡ 0 → Swept K start (blockAt K c) (λ s. cellAt K (front c) s) xs ys
-    unfolding joins front
+    unfolding joins
     stretch-end e =
-        let cells = t .cells in
         record {
           long = t .long;
           cells = λ s p q. rw (← t .cells s p q, e, front-none rests gains prevs (f .earlier)) refl;
@@ -150,14 +150,146 @@ module _ {K start c : ℕ} {rests gains prevs xs : List ℕ} (f : Fillable K sta
           → Stretch K start c rests gains prevs xs (Tries K) ys ds r (getD prevs next 0) × (1 ≤ r .len)
       unfolding lastOf back joins
       stretch-joins r ds e d =
+          let fits : getD gains next 0 < length counts = omega (arith, joins-fits .0, t .wide) in
+          let more = kept-more (t .kept) (childIn rests gains next) (f .good next) fits in
           rw (e, d)
           (record {
             next-is = rw (add-one (sums .len)) (ap (λ u. getD prevs u 0) (t .next-is));
             short = omega (arith, t .short, f .earlier next low);
-            kept = rw (add-one (sums .len), ← t .next-is) ?;
+            kept = rw (add-one (sums .len), ← t .next-is) (rw (add-one (sums .len)) at more);
             wide = simp length-set (t .wide);
             long = t .long;
             below = t .below;
             above = t .above;
-            cells = ?;
+            cells =
+              λ s p q. rw (add-one (sums .len), ← t .next-is)
+              (ap (λ ks. joins K s (run (sums .len)) (sums .len) ks (cellIn ys K (blockAt K c) s)) (sym (front-cons rests gains prevs (f .earlier) next low))
+              ∙ t .cells s p q);
           }, omega arith)
+
+  columns-at : (n : ℕ) → 1 ≤ n → ColumnWords K start xs (blockAt K (back prevs n c)) (front (back prevs n c))
+  columns-at zero p = absurd (omega arith)
+  columns-at (suc n) p = f .columns n
+
+  -- the run is tried
+  module _ {ys counts : List ℕ} {sums : Sums} {next : ℕ} (t : Stretch K start c rests gains prevs xs (Tries K) ys counts sums next) where
+    pub count-small : (h : ℕ) → getD counts h 0 ≤ 1024
+    count-small h = omega (arith, kept-count (t .kept) h, t .short, f .node-high)
+
+    pub total-small : (sums .gained ≤ sums .total) × (sums .total ≤ 1048576)
+    total-small =
+        let small : sums .len ≤ 1024 = omega (arith, t .short, f .node-high) in
+        (kept-gained (t .kept), omega (arith, kept-total (t .kept) (f .limit-high)))
+
+    pub taking-start : Taking K c rests gains prevs counts sums (sums .total) 0 (sums .top) (getD counts (sums .top) 0)
+    taking-start = record { figures = run-figures (t .kept); gain-high = t .kept .top-high; taken-high = omega arith }
+
+    module _ {sum taken gain left : ℕ} (w : Taking K c rests gains prevs counts sums sum taken gain left) where
+      pub taking-down : (gain ≡ 0 → ⊥) → left ≡ 0 → Taking K c rests gains prevs counts sums sum taken (gain - 1) (getD counts (gain - 1) 0)
+      taking-down n e =
+          let figures = rw e at (w .figures) in
+          record {
+            figures = figures ∙ choosing-down gain (countsOf counts) K (record { sum = sum; count = taken }) (omega arith);
+            gain-high = omega (arith, w .gain-high);
+            taken-high = w .taken-high;
+          }
+
+      pub taking-more : (gain ≡ 0 → ⊥) → (left ≡ 0 → ⊥) → K < sum → Taking K c rests gains prevs counts sums (sum - gain) (taken + 1) gain (left - 1)
+      taking-more n m over =
+          record {
+            figures = w .figures ∙ choosing-take gain left (countsOf counts) K sum taken (omega arith) (omega arith) over;
+            gain-high = w .gain-high;
+            taken-high = omega (arith, w .taken-high, w .gain-high);
+          }
+
+      -- no gain is left
+      pub over-end : gain ≡ 0 → K < sum → Swept K start (blockAt K c) (λ s. cellAt K (front c) s) xs ys
+      over-end e over =
+          let figures = rw e at (w .figures) in
+          let last = figures ∙ choosing-none left (countsOf counts) K (record { sum = sum; count = taken }) in
+          let stops = over-stops (t .kept) sum taken last over in
+          record {
+            long = t .long;
+            cells =
+              λ s p q. sym (run-over (t .kept) sum taken last over (sums .len) (cellAt K (front next) s .word) (cellIn ys K (blockAt K c) s))
+              ∙ sym (onward-stops K s (run (sums .len)) (sums .len) (front next) _ stops) ∙ t .cells s p q;
+            below = t .below;
+            above = t .above;
+          }
+
+      module _ (high : sum ≤ K) (low : 1 ≤ sums .len) where
+        last-figures : figuresOf (runOf K (run (sums .len))) ≡ record { sum = sum; count = taken }
+        last-figures = w .figures ∙ choosing-room gain left (countsOf counts) K (record { sum = sum; count = taken }) high
+
+        pub taken-small : taken ≤ 1024
+        taken-small = omega (arith, run-taken-le (t .kept) sum taken last-figures, t .short, f .node-high)
+
+        apart : blockAt K next + 2 * (K + 1) ≤ blockAt K c
+        apart = block-apart K next c (omega (arith, t .short))
+
+        word-is : (s : ℕ) → start ≤ s → s ≤ K → getD ys (blockAt K next + s) 0 ≡ cellAt K (front next) s .word
+        word-is s p q =
+            let words = rw (← t .next-is) at (columns-at (sums .len) low) in
+            t .below (blockAt K next + s) (omega (arith, apart)) ∙ words s p q
+
+        module _ (here before : ℕ) (e : here ≡ blockAt K c) (d : before ≡ blockAt K next) where
+          pub relax-ready : start ≤ K → (K ≤ 1024) × (start ≤ 1024) × (before + 2 * (K + 1) ≤ here) × (here + 2 * (K + 1) ≤ length ys)
+              × ((s : ℕ) → start ≤ s → s ≤ K → getD ys (before + s) 0 + (1 + taken) * 65536 < 4294967296)
+          relax-ready h =
+              (
+                f .limit-high,
+                omega (arith, f .limit-high),
+                rw (e, d) apart,
+                rw e (omega (arith, f .room, t .long)),
+                λ s p q. rw d (omega (arith, word-is s p q, taken-small, small s q)),
+              )
+            where
+              small : (s : ℕ) → s ≤ K → cellAt K (front next) s .word < 200000000
+              small s q =
+                  word-small K (f .limit-high) (front next) s q (front-good K rests gains prevs (f .good) next)
+                  (omega (arith, front-length rests gains prevs (f .earlier) next, t .short, f .node-high))
+
+          module _ (zs : List ℕ)
+              (swept : Swept K start here (λ s. lower (getD ys (before + s) 0 + (1 + taken) * 65536) (sums .len) (cellIn ys K here s)) ys zs)
+            where
+              tried : Stretch K start c rests gains prevs xs (Tried K) zs counts sums next
+              tried =
+                  let z = rw (e, d) at swept in
+                  record {
+                    next-is = t .next-is;
+                    short = t .short;
+                    kept = t .kept;
+                    wide = t .wide;
+                    long = z .long ∙ t .long;
+                    below = λ i p. z .below i p ∙ t .below i p;
+                    above = λ i p. z .above i p ∙ t .above i p;
+                    cells =
+                      λ s p q. ap (λ cell. onward K s (run (sums .len)) (sums .len) (front next) cell)
+                      (z .cells s p q ∙ ap (λ x. lower (x + (1 + taken) * page) (sums .len) (cellIn ys K (blockAt K c) s)) (word-is s p q)
+                      ∙ sym (run-fits (t .kept) sum taken last-figures high (sums .len) (cellAt K (front next) s .word) (cellIn ys K (blockAt K c) s)))
+                      ∙ t .cells s p q;
+                  }
+
+              pub stops-end : K ≤ sums .total - sums .gained → Swept K start (blockAt K c) (λ s. cellAt K (front c) s) xs zs
+              stops-end h =
+                  let stops = run-stops (t .kept) ∙ le-leb K (sums .total - sums .gained) h in
+                  record {
+                    long = tried .long;
+                    cells = λ s p q. sym (onward-stops K s (run (sums .len)) (sums .len) (front next) _ stops) ∙ tried .cells s p q;
+                    below = tried .below;
+                    above = tried .above;
+                  }
+
+              pub stretch-again : sums .total - sums .gained < K → Stretch K start c rests gains prevs xs (Joins K) zs counts sums next
+              stretch-again h =
+                  let goes = run-stops (t .kept) ∙ lt-leb K (sums .total - sums .gained) h in
+                  record {
+                    next-is = t .next-is;
+                    short = t .short;
+                    kept = t .kept;
+                    wide = t .wide;
+                    long = tried .long;
+                    below = tried .below;
+                    above = tried .above;
+                    cells = λ s p q. sym (onward-goes K s (run (sums .len)) (sums .len) (front next) _ goes) ∙ tried .cells s p q;
+                  }
