@@ -8,8 +8,8 @@ use mathlib.Core.List.{List, [], _∷_}
 use native.Mathlib.Omega.{arith}
 use native.Mathlib.Numerals.{add-one}
 use lib.ListN.{length, getD, set, length-set, replicate, length-replicate}
-use lib.Dec.{leb}
-use borrow.Author.Tests.{leb-true, leb-false, le-leb, lt-leb}
+use lib.Dec.{eqb, leb}
+use borrow.Author.Tests.{eqb-true, eqb-false, leb-true, le-leb, lt-leb}
 use Rattle.model.specs.Basics.{pick}
 use Rattle.model.specs.Steps.{Child, runOf, stopsAt}
 use Rattle.theory.specs.ReduceCount.{Figures, figuresOf}
@@ -39,6 +39,7 @@ use Rattle.theory.specs.CellsRun.{
   onward-goes,
   back,
   blockAt,
+  back-le,
   block-apart,
   ColumnWords,
   word-small,
@@ -102,22 +103,69 @@ module _ {K start c : ℕ} {rests gains prevs xs : List ℕ} (f : Fillable K sta
       go true e = f .columns 0 (s + getD rests c 0) (omega arith) (leb-true (s + getD rests c 0) K e)
       go false e = refl
 
-  pub stretch-start : (here first : ℕ) (ys : List ℕ) → here ≡ blockAt K c → first ≡ blockAt K (getD prevs c 0)
-      → Swept K start here (λ s. stayCell K s (getD rests c 0) (getD xs (first + (s + getD rests c 0)) 0)) xs ys
-      → Stretch K start c rests gains prevs xs (Joins K) ys (replicate 1025 0) (record { len = 0; total = 0; gained = 0; top = 0 }) c
-  unfolding lastOf back joins cellAt
-  stretch-start here first ys e d swept =
-      let w = rw (e, d) at swept in
-      record {
-        next-is = refl;
-        short = omega arith;
-        kept = kept-none K 1025;
-        wide = length-replicate {A = ℕ} 1025 0;
-        long = w .long;
-        below = w .below;
-        above = w .above;
-        cells = λ s p q. rw (w .cells s p q, stays s p, front-cons rests gains prevs (f .earlier) c (f .node-low)) refl;
-      }
+  back-less : (n : ℕ) → back prevs (suc n) c < c
+  unfolding back
+  back-less n = go (eqb (back prevs n c) 0) refl (back-le prevs (f .earlier) (f .none) n c)
+    where
+      go : (b : Bool) → eqb (back prevs n c) 0 ≡ b → back prevs n c ≤ c → getD prevs (back prevs n c) 0 < c
+      go true e h = let z : back prevs n c ≡ 0 = eqb-true _ _ e in rw (z, f .none) (f .node-low)
+      go false e h =
+          let d : back prevs n c ≡ 0 → ⊥ = eqb-false _ _ e in
+          omega (arith, f .earlier (back prevs n c) (omega arith))
+
+  pub stay-ready : (here first : ℕ) → here ≡ blockAt K c → first ≡ blockAt K (getD prevs c 0) → start ≤ K
+      → (K ≤ 1024) × (getD rests c 0 ≤ 1024) × (start ≤ 1024) × (first + 2 * (K + 1) ≤ here) × (here + 2 * (K + 1) ≤ length xs)
+  stay-ready here first e d h =
+      (
+        f .limit-high,
+        omega (arith, f .good c .light, f .limit-high),
+        omega (arith, f .limit-high),
+        rw (e, d) (block-apart K (getD prevs c 0) c (f .earlier c (f .node-low))),
+        rw e (f .room),
+      )
+
+  -- after the child stays
+  module _ {here first : ℕ} {ys : List ℕ} (e : here ≡ blockAt K c) (d : first ≡ blockAt K (getD prevs c 0))
+      (swept : Swept K start here (λ s. stayCell K s (getD rests c 0) (getD xs (first + (s + getD rests c 0)) 0)) xs ys)
+    where
+      pub stay-fillable : Fillable K start c rests gains prevs ys
+      stay-fillable =
+          let w = rw (e, d) at swept in
+          record {
+            node-low = f .node-low;
+            node-high = f .node-high;
+            limit-high = f .limit-high;
+            room = omega (arith, f .room, w .long);
+            earlier = f .earlier;
+            none = f .none;
+            good = f .good;
+            columns = λ n s p q. w .below (blockAt K (back prevs (suc n) c) + s) (omega (arith, block-apart K (back prevs (suc n) c) c (back-less n))) ∙ f .columns n s p q;
+          }
+
+      pub stretch-start : Stretch K start c rests gains prevs ys (Joins K) ys (replicate 1025 0) (record { len = 0; total = 0; gained = 0; top = 0 }) c
+      unfolding lastOf back joins cellAt
+      stretch-start =
+          let w = rw (e, d) at swept in
+          record {
+            next-is = refl;
+            short = omega arith;
+            kept = kept-none K 1025;
+            wide = length-replicate {A = ℕ} 1025 0;
+            long = refl;
+            below = λ i p. refl;
+            above = λ i p. refl;
+            cells = λ s p q. rw (w .cells s p q, stays s p, front-cons rests gains prevs (f .earlier) c (f .node-low)) refl;
+          }
+
+      pub stay-then : {zs : List ℕ} {g : ℕ → Cell} → Swept K start (blockAt K c) g ys zs → Swept K start (blockAt K c) g xs zs
+      stay-then z =
+          let w = rw (e, d) at swept in
+          record {
+            long = z .long ∙ w .long;
+            cells = z .cells;
+            below = λ i p. z .below i p ∙ w .below i p;
+            above = λ i p. z .above i p ∙ w .above i p;
+          }
 
   -- the next child joins the run
   module _ {ys counts : List ℕ} {sums : Sums} {next : ℕ} (t : Stretch K start c rests gains prevs xs (Joins K) ys counts sums next) where

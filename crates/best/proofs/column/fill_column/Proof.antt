@@ -1,5 +1,263 @@
 -- `best::column::fill_column` meets its contract. Assumes nothing.
 use Rattle.best.proofs.column.fill_column.Statement.{statement}
+use Rattle.best.proofs.column.fill_column.Tie as tie
+use borrow.Author.Needs.{needs}
+use native.Mathlib.Omega.{arith}
+use Prim.Native.Nat.{ℕ, _+_, _-_, _*_, _≤_, _<_}
+use lib.ListN.{getD}
+use mathlib.Core.Path.{_≡_, refl, sym, _∙_, ap}
+use Rattle.best.proofs.ColumnRuns.{Stretch, Joins, Tries, Taking, stretch-start, stretch-end, joins-fits, stretch-joins, count-small, total-small, stay-ready, stay-fillable, stay-then, taking-start, taking-down, taking-more, over-end, taken-small, relax-ready, stops-end, stretch-again as again}
+use Rattle.theory.specs.CellsRun.{blockAt, Fillable}
+use mathlib.Core.List.{List}
+use Rattle.theory.specs.Cells.{Cell}
+use Rattle.theory.specs.CellsFront.{Swept}
+
+abbrev Inv-loop : tie.InvT-loop
+Inv-loop words rests gains prevs child start limit here first counts sums next sum₀ taken₀ gain₀ left₀ sum taken gain left =
+    Taking limit child rests gains prevs counts sums sum taken gain left
+
+abbrev μ-loop : tie.MeasureT-loop
+μ-loop words rests gains prevs child start limit here first counts sums next sum₀ taken₀ gain₀ left₀ sum taken gain left =
+    gain * 1025 + left
+
+abbrev Inv-stretch : tie.InvT-stretch
+Inv-stretch words₀ rests gains prevs child start limit here first counts₀ sums₀ next₀ words counts sums next =
+    Stretch limit start child rests gains prevs words₀ (Joins limit) words counts sums next
+
+abbrev μ-stretch : tie.MeasureT-stretch
+μ-stretch words₀ rests gains prevs child start limit here first counts₀ sums₀ next₀ words counts sums next =
+    next
+
+-- the siblings' columns still stand after the child stays
+ready : (c : tie.After-slice-known2 Inv-loop μ-loop Inv-stretch μ-stretch)
+    → let a = c .before .before .before .before .before .before .before .before .before .args in
+    Fillable (a .limit) (a .start) (a .child) (a .rests .now) (a .gains .now) (a .prevs .now) (c .before .before .stay .last .0)
+ready c =
+    stay-fillable (c .before .before .before .before .before .before .before .before .before .pre .1) (c .before .before .before .before .before .before .before .block-at .ensures) (c .before .before .before .before .before .block-at2 .ensures) (c .before .before .stay .ensures)
+
+-- what is changed after the child stays is changed from the words at entry
+whole : (c : tie.After-slice-known2 Inv-loop μ-loop Inv-stretch μ-stretch) {zs : List ℕ} {cells : ℕ → Cell}
+    → let a = c .before .before .before .before .before .before .before .before .before .args in
+    Swept (a .limit) (a .start) (blockAt (a .limit) (a .child)) cells (c .before .before .stay .last .0) zs
+    → Swept (a .limit) (a .start) (blockAt (a .limit) (a .child)) cells (a .words .now) zs
+whole c = stay-then (c .before .before .before .before .before .before .before .before .before .pre .1) (c .before .before .before .before .before .before .before .block-at .ensures) (c .before .before .before .before .before .block-at2 .ensures) (c .before .before .stay .ensures)
+
+-- the run with its new member
+longer : (c : tie.After-next Inv-loop μ-loop Inv-stretch μ-stretch)
+    → let l = c .before .before .before .before .before .before in
+    let a = l .before .before .before .before .before .before .before .before .before .before .args in
+    let r = c .before .join .result in
+    Stretch (a .limit) (a .start) (a .child) (a .rests .now) (a .gains .now) (a .prevs .now) (l .before .before .before .stay .last .0) (Tries (a .limit)) (l .stretch .words) (c .before .join .last .1 .0) r (getD (a .prevs .now) (l .stretch .next) 0) × (1 ≤ r .len)
+longer c =
+    let l = c .before .before .before .before .before .before in
+    stretch-joins (ready (l .before)) (l .stretch .inv) (omega arith) _ _ (c .before .join .ensures .0) (c .before .join .ensures .1)
+
+block-at-requires : tie.Need-block-at-requires Inv-loop μ-loop Inv-stretch μ-stretch
+block-at-requires c κs = search needs
+
+mul-block-at : tie.Need-mul-block-at Inv-loop μ-loop Inv-stretch μ-stretch
+mul-block-at c = search needs
+
+element-copy-out-block-at :
+    tie.Need-element-copy-out-block-at Inv-loop μ-loop Inv-stretch μ-stretch
+element-copy-out-block-at c = search needs
+
+cast-block-at : tie.Need-cast-block-at Inv-loop μ-loop Inv-stretch μ-stretch
+cast-block-at c = let p = c .before .before .before in omega (arith, p .pre .1 .earlier (p .args .child) (p .pre .1 .node-low), p .pre .1 .node-high)
+
+block-at-requires-2 : tie.Need-block-at-requires-2 Inv-loop μ-loop Inv-stretch μ-stretch
+block-at-requires-2 c κs = let p = c .before .before .before in (p .pre .1 .limit-high, omega (arith, p .pre .1 .earlier (p .args .child) (p .pre .1 .node-low), p .pre .1 .node-high))
+
+mul-stay : tie.Need-mul-stay Inv-loop μ-loop Inv-stretch μ-stretch
+mul-stay c = search needs
+
+element-copy-out-stay : tie.Need-element-copy-out-stay Inv-loop μ-loop Inv-stretch μ-stretch
+element-copy-out-stay c = search needs
+
+cast-stay : tie.Need-cast-stay Inv-loop μ-loop Inv-stretch μ-stretch
+cast-stay c = let p = c .before .before .before .before .before .before in omega (arith, p .pre .1 .good (p .args .child) .light, p .pre .1 .limit-high)
+
+stay-requires : tie.Need-stay-requires Inv-loop μ-loop Inv-stretch μ-stretch
+stay-requires c κs = stay-ready (c .before .before .before .before .before .before .pre .1) _ _ (c .before .before .before .before .block-at .ensures) (c .before .before .block-at2 .ensures) (c .before .before .before .before .before .before .pre .0)
+
+stretch-holds : tie.Need-stretch-holds Inv-loop μ-loop Inv-stretch μ-stretch
+stretch-holds c = stretch-start (c .before .before .before .before .before .before .before .before .before .pre .1) (c .before .before .before .before .before .before .before .block-at .ensures) (c .before .before .before .before .before .block-at2 .ensures) (c .before .before .stay .ensures)
+
+mul-join : tie.Need-mul-join Inv-loop μ-loop Inv-stretch μ-stretch
+mul-join c = search needs
+
+element-copy-out-join : tie.Need-element-copy-out-join Inv-loop μ-loop Inv-stretch μ-stretch
+element-copy-out-join c = search needs
+
+mul-join-2 : tie.Need-mul-join-2 Inv-loop μ-loop Inv-stretch μ-stretch
+mul-join-2 c = search needs
+
+element-copy-out-join-2 : tie.Need-element-copy-out-join-2 Inv-loop μ-loop Inv-stretch μ-stretch
+element-copy-out-join-2 c = search needs
+
+join-requires : tie.Need-join-requires Inv-loop μ-loop Inv-stretch μ-stretch
+join-requires c κs = let l = c .before .before .before .before in joins-fits (ready (l .before)) (l .stretch .inv) (omega arith)
+
+mul-next : tie.Need-mul-next Inv-loop μ-loop Inv-stretch μ-stretch
+mul-next c = search needs
+
+element-copy-out-next : tie.Need-element-copy-out-next Inv-loop μ-loop Inv-stretch μ-stretch
+element-copy-out-next c = search needs
+
+cast-next : tie.Need-cast-next Inv-loop μ-loop Inv-stretch μ-stretch
+cast-next c = let l = c .before .before .before .before .before .before in omega (arith, ready (l .before) .earlier (l .stretch .next) (omega arith), l .stretch .inv .short, ready (l .before) .node-high)
+
+cast-left : tie.Need-cast-left Inv-loop μ-loop Inv-stretch μ-stretch
+cast-left c = search needs
+
+mul-left : tie.Need-mul-left Inv-loop μ-loop Inv-stretch μ-stretch
+mul-left c = search needs
+
+array-read-left : tie.Need-array-read-left Inv-loop μ-loop Inv-stretch μ-stretch
+array-read-left c = omega (arith, longer c .0 .kept .top-high, ready (c .before .before .before .before .before .before .before) .limit-high)
+
+loop-holds : tie.Need-loop-holds Inv-loop μ-loop Inv-stretch μ-stretch
+loop-holds c = taking-start (ready (c .before .before .before .before .before .before .before)) (longer c .0)
+
+cast-loop : tie.Need-cast-loop Inv-loop μ-loop Inv-stretch μ-stretch
+cast-loop c = search needs
+
+sub-gain : tie.Need-sub-gain Inv-loop μ-loop Inv-stretch μ-stretch
+sub-gain c = search needs
+
+cast-left-2 : tie.Need-cast-left-2 Inv-loop μ-loop Inv-stretch μ-stretch
+cast-left-2 c = search needs
+
+mul-left-2 : tie.Need-mul-left-2 Inv-loop μ-loop Inv-stretch μ-stretch
+mul-left-2 c = search needs
+
+array-read-left-2 : tie.Need-array-read-left-2 Inv-loop μ-loop Inv-stretch μ-stretch
+array-read-left-2 c = search needs
+
+loop-less : tie.Need-loop-less Inv-loop μ-loop Inv-stretch μ-stretch
+loop-less c = omega (arith, count-small (ready (c .before .before .before .before .before .before .before .before .before .before .before)) (longer (c .before .before .before .before) .0) (c .before .before .before .loop .gain - 1))
+
+loop-again : tie.Need-loop-again Inv-loop μ-loop Inv-stretch μ-stretch
+loop-again c = taking-down (ready (c .before .before .before .before .before .before .before .before .before .before .before)) (longer (c .before .before .before .before) .0) (c .before .before .before .loop .inv) (c .before .if1 .left) (c .if2 .taken)
+
+sub-left : tie.Need-sub-left Inv-loop μ-loop Inv-stretch μ-stretch
+sub-left c = search needs
+
+cast-sum : tie.Need-cast-sum Inv-loop μ-loop Inv-stretch μ-stretch
+cast-sum c = search needs
+
+sub-sum : tie.Need-sub-sum Inv-loop μ-loop Inv-stretch μ-stretch
+sub-sum c = search needs
+
+add-taken : tie.Need-add-taken Inv-loop μ-loop Inv-stretch μ-stretch
+add-taken c = search needs
+
+loop-less-2 : tie.Need-loop-less-2 Inv-loop μ-loop Inv-stretch μ-stretch
+loop-less-2 c = search needs
+
+loop-again-2 : tie.Need-loop-again-2 Inv-loop μ-loop Inv-stretch μ-stretch
+loop-again-2 c = taking-more (ready (c .before .before .before .before .before .before .before .before .before .before .before)) (longer (c .before .before .before .before) .0) (c .before .before .before .loop .inv) (c .before .if1 .left) (c .if2 .left) (c .before .before .loop-test .taken)
+
+block-at-requires-3 : tie.Need-block-at-requires-3 Inv-loop μ-loop Inv-stretch μ-stretch
+block-at-requires-3 c κs = let f = ready (c .before .before .before .before .before .before .before .before .before) in (f .limit-high, omega (arith, longer (c .before .before) .0 .short, f .node-high))
+
+add-relax : tie.Need-add-relax Inv-loop μ-loop Inv-stretch μ-stretch
+add-relax c = omega (arith, taken-small (ready (c .before .before .before .before .before .before .before .before .before .before .before)) (longer (c .before .before .before .before) .0) (c .before .before .before .loop .inv) (c .before .before .loop-test .left) (longer (c .before .before .before .before) .1))
+
+mul-relax : tie.Need-mul-relax Inv-loop μ-loop Inv-stretch μ-stretch
+mul-relax c = omega (arith, taken-small (ready (c .before .before .before .before .before .before .before .before .before .before .before)) (longer (c .before .before .before .before) .0) (c .before .before .before .loop .inv) (c .before .before .loop-test .left) (longer (c .before .before .before .before) .1))
+
+relax-requires : tie.Need-relax-requires Inv-loop μ-loop Inv-stretch μ-stretch
+relax-requires c κs =
+    let l = c .before .before .before .before .before .before .before .before .before .before .before .before .before .before .before .before .before .before .before .before in
+    relax-ready (ready (c .before .before .before .before .before .before .before .before .before .before .before)) (longer (c .before .before .before .before) .0) (c .before .before .before .loop .inv) (c .before .before .loop-test .left) (longer (c .before .before .before .before) .1) _ _ (c .before .before .before .before .before .before .before .before .before .before .before .before .before .before .before .before .before .before .block-at .ensures) (c .before .block-at3 .ensures) (l .pre .0)
+
+cast-if3 : tie.Need-cast-if3 Inv-loop μ-loop Inv-stretch μ-stretch
+cast-if3 c = omega (arith, ready (c .before .before .before .before .before .before .before .before .before .before .before .before .before .before) .limit-high)
+
+sub-if3 : tie.Need-sub-if3 Inv-loop μ-loop Inv-stretch μ-stretch
+sub-if3 c = total-small (ready (c .before .before .before .before .before .before .before .before .before .before .before .before .before .before .before)) (longer (c .before .before .before .before .before .before .before .before) .0) .0
+
+stretch-less : tie.Need-stretch-less Inv-loop μ-loop Inv-stretch μ-stretch
+stretch-less c = 
+    let l = c .before .before .before .before .before .before .before .before .before .before .before .before .before .before .before in
+    ready (l .before) .earlier (l .stretch .next) (omega (arith, c .before .before .before .before .before .before .before .before .before .before .before .before .before .before .stretch-test .taken))
+
+stretch-again : tie.Need-stretch-again Inv-loop μ-loop Inv-stretch μ-stretch
+stretch-again c = again (ready (c .before .before .before .before .before .before .before .before .before .before .before .before .before .before .before .before)) (longer (c .before .before .before .before .before .before .before .before .before) .0) (c .before .before .before .before .before .before .before .before .loop .inv) (c .before .before .before .before .before .before .before .loop-test .left) (longer (c .before .before .before .before .before .before .before .before .before) .1) _ _ (c .before .before .before .before .before .before .before .before .before .before .before .before .before .before .before .before .before .before .before .before .before .before .before .block-at .ensures) (c .before .before .before .before .before .before .block-at3 .ensures) _ (c .before .before .before .before .relax .ensures) (c .if3 .left)
+
+same-length : tie.Need-same-length Inv-loop μ-loop Inv-stretch μ-stretch
+same-length c = search needs
+
+returns : tie.Need-returns Inv-loop μ-loop Inv-stretch μ-stretch
+returns c = whole (c .before .before) (stretch-end (ready (c .before .before)) (c .before .stretch .inv) (c .stretch-test .left))
+
+same-length-2 : tie.Need-same-length-2 Inv-loop μ-loop Inv-stretch μ-stretch
+same-length-2 c = search needs
+
+returns-2 : tie.Need-returns-2 Inv-loop μ-loop Inv-stretch μ-stretch
+returns-2 c = whole (c .before .before .before .before .before .before .before .before .before .before) (over-end (ready (c .before .before .before .before .before .before .before .before .before .before)) (longer (c .before .before .before) .0) (c .before .before .loop .inv) (c .if1 .taken) (c .before .loop-test .taken))
+
+same-length-3 : tie.Need-same-length-3 Inv-loop μ-loop Inv-stretch μ-stretch
+same-length-3 c = search needs
+
+returns-3 : tie.Need-returns-3 Inv-loop μ-loop Inv-stretch μ-stretch
+returns-3 c = whole (c .before .before .before .before .before .before .before .before .before .before .before .before .before .before .before .before) (stops-end (ready (c .before .before .before .before .before .before .before .before .before .before .before .before .before .before .before .before)) (longer (c .before .before .before .before .before .before .before .before .before) .0) (c .before .before .before .before .before .before .before .before .loop .inv) (c .before .before .before .before .before .before .before .loop-test .left) (longer (c .before .before .before .before .before .before .before .before .before) .1) _ _ (c .before .before .before .before .before .before .before .before .before .before .before .before .before .before .before .before .before .before .before .before .before .before .before .block-at .ensures) (c .before .before .before .before .before .before .block-at3 .ensures) _ (c .before .before .before .before .relax .ensures) (c .if3 .taken))
 
 pub fill-column-spec : {M : Type 1} → statement M
-fill-column-spec = ?
+fill-column-spec =
+    tie.close
+    (tie.spec
+    Inv-loop
+    μ-loop
+    Inv-stretch
+    μ-stretch
+    block-at-requires
+    mul-block-at
+    element-copy-out-block-at
+    cast-block-at
+    block-at-requires-2
+    mul-stay
+    element-copy-out-stay
+    cast-stay
+    stay-requires
+    stretch-holds
+    mul-join
+    element-copy-out-join
+    mul-join-2
+    element-copy-out-join-2
+    join-requires
+    mul-next
+    element-copy-out-next
+    cast-next
+    cast-left
+    mul-left
+    array-read-left
+    loop-holds
+    cast-loop
+    sub-gain
+    cast-left-2
+    mul-left-2
+    array-read-left-2
+    loop-less
+    loop-again
+    sub-left
+    cast-sum
+    sub-sum
+    add-taken
+    loop-less-2
+    loop-again-2
+    block-at-requires-3
+    add-relax
+    mul-relax
+    relax-requires
+    cast-if3
+    sub-if3
+    stretch-less
+    stretch-again
+    same-length
+    returns
+    same-length-2
+    returns-2
+    same-length-3
+    returns-3)
