@@ -1,8 +1,8 @@
--- The runs that end at a child, each one longer than the one before: what holds before a run is stretched, and of the run that is tried.
--- Defines lastOf, Stretch, Tried. Proves stretch-start, stretch-joins, tried-start, tried-down, tried-takes, tried-over, tried-fits,
--- stretch-again and stretch-end. Assumes nothing.
-use Prim.Native.Nat.{ℕ, zero, suc, _+_, _-_, _*_, _≤_, _<_, max}
-use mathlib.Core.Path.{_≡_, refl, sym, _∙_, ap, subst}
+-- The runs that end at a child, each by one member longer than the one before. Defines lastOf (a run's members), Stretch (what holds while
+-- the runs are tried) and Taking (while second plans are taken). Proves the turns of both loops and the ways out: stretch-start, stretch-joins,
+-- stretch-again, stretch-end, taking-start, taking-down, taking-more, over-end, stops-end; and what the calls ask for. Assumes nothing.
+use Prim.Native.Nat.{ℕ, zero, suc, _+_, _-_, _*_, _≤_, _<_}
+use mathlib.Core.Path.{_≡_, refl, sym, _∙_, ap}
 use mathlib.Core.Bool.{Bool, true, false}
 use mathlib.Core.List.{List, [], _∷_}
 use native.Mathlib.Omega.{arith}
@@ -11,9 +11,9 @@ use lib.ListN.{length, getD, set, length-set, replicate, length-replicate}
 use lib.Dec.{eqb, leb}
 use borrow.Author.Tests.{eqb-true, eqb-false, leb-true, le-leb, lt-leb}
 use Rattle.model.specs.Basics.{pick}
-use Rattle.model.specs.Steps.{Child, runOf, stopsAt}
-use Rattle.theory.specs.ReduceCount.{Figures, figuresOf}
-use Rattle.theory.specs.Cells.{Cell, page, noWord, lower, tryRun, stayCell, cellAt, onward, GoodChild}
+use Rattle.model.specs.Steps.{Child, runOf}
+use Rattle.theory.specs.ReduceCount.{figuresOf}
+use Rattle.theory.specs.Cells.{Cell, page, noWord, lower, tryRun, stayCell, cellAt, onward}
 use Rattle.theory.specs.CellsFront.{childIn, frontOf, front-none, front-cons, front-good, front-length, cellIn, Swept}
 use Rattle.theory.specs.CellsRun.{
   Kept,
@@ -115,14 +115,13 @@ module _ {K start c : ℕ} {rests gains prevs xs : List ℕ} (f : Fillable K sta
 
   pub stay-ready : (here first : ℕ) → here ≡ blockAt K c → first ≡ blockAt K (getD prevs c 0) → start ≤ K
       → (K ≤ 1024) × (getD rests c 0 ≤ 1024) × (start ≤ 1024) × (first + 2 * (K + 1) ≤ here) × (here + 2 * (K + 1) ≤ length xs)
-  stay-ready here first e d h =
-      (
-        f .limit-high,
-        omega (arith, f .good c .light, f .limit-high),
-        omega (arith, f .limit-high),
-        rw (e, d) (block-apart K (getD prevs c 0) c (f .earlier c (f .node-low))),
-        rw e (f .room),
-      )
+  stay-ready here first e d h = (
+    f .limit-high,
+    omega (arith, f .good c .light, f .limit-high),
+    omega (arith, f .limit-high),
+    rw (e, d) (block-apart K (getD prevs c 0) c (f .earlier c (f .node-low))),
+    rw e (f .room),
+  )
 
   -- after the child stays
   module _ {here first : ℕ} {ys : List ℕ} (e : here ≡ blockAt K c) (d : first ≡ blockAt K (getD prevs c 0))
@@ -200,20 +199,22 @@ module _ {K start c : ℕ} {rests gains prevs xs : List ℕ} (f : Fillable K sta
       stretch-joins r ds e d =
           let fits : getD gains next 0 < length counts = omega (arith, joins-fits .0, t .wide) in
           let more = kept-more (t .kept) (childIn rests gains next) (f .good next) fits in
-          rw (e, d)
-          (record {
-            next-is = rw (add-one (sums .len)) (ap (λ u. getD prevs u 0) (t .next-is));
-            short = omega (arith, t .short, f .earlier next low);
-            kept = rw (add-one (sums .len), ← t .next-is) (rw (add-one (sums .len)) at more);
-            wide = simp length-set (t .wide);
-            long = t .long;
-            below = t .below;
-            above = t .above;
-            cells =
-              λ s p q. rw (add-one (sums .len), ← t .next-is)
-              (ap (λ ks. joins K s (run (sums .len)) (sums .len) ks (cellIn ys K (blockAt K c) s)) (sym (front-cons rests gains prevs (f .earlier) next low))
-              ∙ t .cells s p q);
-          }, omega arith)
+          rw (e, d) (
+            record {
+              next-is = rw (add-one (sums .len)) (ap (λ u. getD prevs u 0) (t .next-is));
+              short = omega (arith, t .short, f .earlier next low);
+              kept = rw (add-one (sums .len), ← t .next-is) (rw (add-one (sums .len)) at more);
+              wide = simp length-set (t .wide);
+              long = t .long;
+              below = t .below;
+              above = t .above;
+              cells =
+                  λ s p q. rw (add-one (sums .len), ← t .next-is)
+                  (ap (λ ks. joins K s (run (sums .len)) (sums .len) ks (cellIn ys K (blockAt K c) s)) (sym (front-cons rests gains prevs (f .earlier) next low))
+                  ∙ t .cells s p q);
+            },
+            omega arith,
+          )
 
   columns-at : (n : ℕ) → 1 ≤ n → ColumnWords K start xs (blockAt K (back prevs n c)) (front (back prevs n c))
   columns-at zero p = absurd (omega arith)
@@ -259,8 +260,8 @@ module _ {K start c : ℕ} {rests gains prevs xs : List ℕ} (f : Fillable K sta
           record {
             long = t .long;
             cells =
-              λ s p q. sym (run-over (t .kept) sum taken last over (sums .len) (cellAt K (front next) s .word) (cellIn ys K (blockAt K c) s))
-              ∙ sym (onward-stops K s (run (sums .len)) (sums .len) (front next) _ stops) ∙ t .cells s p q;
+                λ s p q. sym (run-over (t .kept) sum taken last over (sums .len) (cellAt K (front next) s .word) (cellIn ys K (blockAt K c) s))
+                ∙ sym (onward-stops K s (run (sums .len)) (sums .len) (front next) _ stops) ∙ t .cells s p q;
             below = t .below;
             above = t .above;
           }
@@ -283,14 +284,13 @@ module _ {K start c : ℕ} {rests gains prevs xs : List ℕ} (f : Fillable K sta
         module _ (here before : ℕ) (e : here ≡ blockAt K c) (d : before ≡ blockAt K next) where
           pub relax-ready : start ≤ K → (K ≤ 1024) × (start ≤ 1024) × (before + 2 * (K + 1) ≤ here) × (here + 2 * (K + 1) ≤ length ys)
               × ((s : ℕ) → start ≤ s → s ≤ K → getD ys (before + s) 0 + (1 + taken) * 65536 < 4294967296)
-          relax-ready h =
-              (
-                f .limit-high,
-                omega (arith, f .limit-high),
-                rw (e, d) apart,
-                rw e (omega (arith, f .room, t .long)),
-                λ s p q. rw d (omega (arith, word-is s p q, taken-small, small s q)),
-              )
+          relax-ready h = (
+            f .limit-high,
+            omega (arith, f .limit-high),
+            rw (e, d) apart,
+            rw e (omega (arith, f .room, t .long)),
+            λ s p q. rw d (omega (arith, word-is s p q, taken-small, small s q)),
+          )
             where
               small : (s : ℕ) → s ≤ K → cellAt K (front next) s .word < 200000000
               small s q =
@@ -312,10 +312,10 @@ module _ {K start c : ℕ} {rests gains prevs xs : List ℕ} (f : Fillable K sta
                     below = λ i p. z .below i p ∙ t .below i p;
                     above = λ i p. z .above i p ∙ t .above i p;
                     cells =
-                      λ s p q. ap (λ cell. onward K s (run (sums .len)) (sums .len) (front next) cell)
-                      (z .cells s p q ∙ ap (λ x. lower (x + (1 + taken) * page) (sums .len) (cellIn ys K (blockAt K c) s)) (word-is s p q)
-                      ∙ sym (run-fits (t .kept) sum taken last-figures high (sums .len) (cellAt K (front next) s .word) (cellIn ys K (blockAt K c) s)))
-                      ∙ t .cells s p q;
+                        λ s p q. ap (λ cell. onward K s (run (sums .len)) (sums .len) (front next) cell)
+                        (z .cells s p q ∙ ap (λ x. lower (x + (1 + taken) * page) (sums .len) (cellIn ys K (blockAt K c) s)) (word-is s p q)
+                        ∙ sym (run-fits (t .kept) sum taken last-figures high (sums .len) (cellAt K (front next) s .word) (cellIn ys K (blockAt K c) s)))
+                        ∙ t .cells s p q;
                   }
 
               pub stops-end : K ≤ sums .total - sums .gained → Swept K start (blockAt K c) (λ s. cellAt K (front c) s) xs zs

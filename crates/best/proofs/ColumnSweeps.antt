@@ -1,6 +1,6 @@
--- One turn of a sweep over the cells of a child. Proves stay-turn and relax-turn. Assumes nothing.
+-- One turn of a sweep over the cells of a child. Defines Chosen. Proves stay-turn, relax-word and relax-turn. Assumes nothing.
 use Prim.Native.Nat.{ℕ, _+_, _*_, _≤_, _<_}
-use mathlib.Core.Path.{_≡_, refl, sym, _∙_, ap, ap₂}
+use mathlib.Core.Path.{_≡_, refl, _∙_, ap, ap₂}
 use mathlib.Core.Bool.{Bool, true, false}
 use mathlib.Core.List.{List}
 use mathlib.Core.Logic.{_⊎_, inl, inr}

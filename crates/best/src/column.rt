@@ -1,8 +1,8 @@
 // The column of a child: at each start the best of the candidates, in the listed order. A word has a count and a rest, and a smaller
 // word is a smaller count, or the same count and a smaller rest. Beside each word stands the length of the run that won, 0 where the
 // child stays.
-use crate::run::join;
 use crate::run::Sums;
+use crate::run::join;
 ghost use mathlib.Core.Path.{_≡_};
 ghost use Prim.Native.Nat.{ℕ, _+_, _*_, _≤_, _<_};
 ghost use lib.ListN.{length, getD};
@@ -116,7 +116,15 @@ pub fn fill_column(
             }
         }
         let before = block_at(limit, next);
-        relax(words, here, before, start, limit, (1 + taken) * PAGE, sums.len);
+        relax(
+            words,
+            here,
+            before,
+            start,
+            limit,
+            (1 + taken) * PAGE,
+            sums.len,
+        );
         // the lightest total reaches the limit
         if (limit as u32) <= sums.total - sums.gained {
             break 'stretch;

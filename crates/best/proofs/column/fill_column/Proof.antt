@@ -1,12 +1,33 @@
--- `best::column::fill_column` meets its contract. Assumes nothing.
+-- `best::column::fill_column` meets its contract: each run that was tried leads to the cells that are sought. Assumes nothing.
 use Rattle.best.proofs.column.fill_column.Statement.{statement}
 use Rattle.best.proofs.column.fill_column.Tie as tie
 use borrow.Author.Needs.{needs}
 use native.Mathlib.Omega.{arith}
-use Prim.Native.Nat.{ℕ, _+_, _-_, _*_, _≤_, _<_}
+use Prim.Native.Nat.{ℕ, _+_, _-_, _*_, _≤_}
 use lib.ListN.{getD}
-use mathlib.Core.Path.{_≡_, refl, sym, _∙_, ap}
-use Rattle.best.proofs.ColumnRuns.{Stretch, Joins, Tries, Taking, stretch-start, stretch-end, joins-fits, stretch-joins, count-small, total-small, stay-ready, stay-fillable, stay-then, taking-start, taking-down, taking-more, over-end, taken-small, relax-ready, stops-end, stretch-again as again}
+use Rattle.best.proofs.ColumnRuns.{
+  Stretch,
+  Joins,
+  Tries,
+  Taking,
+  stretch-start,
+  stretch-end,
+  joins-fits,
+  stretch-joins,
+  count-small,
+  total-small,
+  stay-ready,
+  stay-fillable,
+  stay-then,
+  taking-start,
+  taking-down,
+  taking-more,
+  over-end,
+  taken-small,
+  relax-ready,
+  stops-end,
+  stretch-again as again,
+}
 use Rattle.theory.specs.CellsRun.{blockAt, Fillable}
 use mathlib.Core.List.{List}
 use Rattle.theory.specs.Cells.{Cell}
@@ -33,21 +54,26 @@ ready : (c : tie.After-slice-known2 Inv-loop μ-loop Inv-stretch μ-stretch)
     → let a = c .before .before .before .before .before .before .before .before .before .args in
     Fillable (a .limit) (a .start) (a .child) (a .rests .now) (a .gains .now) (a .prevs .now) (c .before .before .stay .last .0)
 ready c =
-    stay-fillable (c .before .before .before .before .before .before .before .before .before .pre .1) (c .before .before .before .before .before .before .before .block-at .ensures) (c .before .before .before .before .before .block-at2 .ensures) (c .before .before .stay .ensures)
+    let b = c .before .before .before .before .before in
+    stay-fillable (b .before .before .before .before .pre .1) (b .before .before .block-at .ensures) (b .block-at2 .ensures) (c .before .before .stay .ensures)
 
 -- what is changed after the child stays is changed from the words at entry
 whole : (c : tie.After-slice-known2 Inv-loop μ-loop Inv-stretch μ-stretch) {zs : List ℕ} {cells : ℕ → Cell}
     → let a = c .before .before .before .before .before .before .before .before .before .args in
     Swept (a .limit) (a .start) (blockAt (a .limit) (a .child)) cells (c .before .before .stay .last .0) zs
     → Swept (a .limit) (a .start) (blockAt (a .limit) (a .child)) cells (a .words .now) zs
-whole c = stay-then (c .before .before .before .before .before .before .before .before .before .pre .1) (c .before .before .before .before .before .before .before .block-at .ensures) (c .before .before .before .before .before .block-at2 .ensures) (c .before .before .stay .ensures)
+whole c =
+    let b = c .before .before .before .before .before in
+    stay-then (b .before .before .before .before .pre .1) (b .before .before .block-at .ensures) (b .block-at2 .ensures) (c .before .before .stay .ensures)
 
 -- the run with its new member
 longer : (c : tie.After-next Inv-loop μ-loop Inv-stretch μ-stretch)
     → let l = c .before .before .before .before .before .before in
     let a = l .before .before .before .before .before .before .before .before .before .before .args in
     let r = c .before .join .result in
-    Stretch (a .limit) (a .start) (a .child) (a .rests .now) (a .gains .now) (a .prevs .now) (l .before .before .before .stay .last .0) (Tries (a .limit)) (l .stretch .words) (c .before .join .last .1 .0) r (getD (a .prevs .now) (l .stretch .next) 0) × (1 ≤ r .len)
+    Stretch (a .limit) (a .start) (a .child) (a .rests .now) (a .gains .now) (a .prevs .now) (l .before .before .before .stay .last .0) (Tries (a .limit))
+    (l .stretch .words) (c .before .join .last .1 .0) r (getD (a .prevs .now) (l .stretch .next) 0)
+    × (1 ≤ r .len)
 longer c =
     let l = c .before .before .before .before .before .before in
     stretch-joins (ready (l .before)) (l .stretch .inv) (omega arith) _ _ (c .before .join .ensures .0) (c .before .join .ensures .1)
@@ -63,10 +89,14 @@ element-copy-out-block-at :
 element-copy-out-block-at c = search needs
 
 cast-block-at : tie.Need-cast-block-at Inv-loop μ-loop Inv-stretch μ-stretch
-cast-block-at c = let p = c .before .before .before in omega (arith, p .pre .1 .earlier (p .args .child) (p .pre .1 .node-low), p .pre .1 .node-high)
+cast-block-at c =
+    let f = c .before .before .before .pre .1 in
+    omega (arith, f .earlier (c .before .before .before .args .child) (f .node-low), f .node-high)
 
 block-at-requires-2 : tie.Need-block-at-requires-2 Inv-loop μ-loop Inv-stretch μ-stretch
-block-at-requires-2 c κs = let p = c .before .before .before in (p .pre .1 .limit-high, omega (arith, p .pre .1 .earlier (p .args .child) (p .pre .1 .node-low), p .pre .1 .node-high))
+block-at-requires-2 c κs =
+    let f = c .before .before .before .pre .1 in
+    (f .limit-high, omega (arith, f .earlier (c .before .before .before .args .child) (f .node-low), f .node-high))
 
 mul-stay : tie.Need-mul-stay Inv-loop μ-loop Inv-stretch μ-stretch
 mul-stay c = search needs
@@ -75,13 +105,19 @@ element-copy-out-stay : tie.Need-element-copy-out-stay Inv-loop μ-loop Inv-stre
 element-copy-out-stay c = search needs
 
 cast-stay : tie.Need-cast-stay Inv-loop μ-loop Inv-stretch μ-stretch
-cast-stay c = let p = c .before .before .before .before .before .before in omega (arith, p .pre .1 .good (p .args .child) .light, p .pre .1 .limit-high)
+cast-stay c =
+    let f = c .before .before .before .before .before .before .pre .1 in
+    omega (arith, f .good (c .before .before .before .before .before .before .args .child) .light, f .limit-high)
 
 stay-requires : tie.Need-stay-requires Inv-loop μ-loop Inv-stretch μ-stretch
-stay-requires c κs = stay-ready (c .before .before .before .before .before .before .pre .1) _ _ (c .before .before .before .before .block-at .ensures) (c .before .before .block-at2 .ensures) (c .before .before .before .before .before .before .pre .0)
+stay-requires c κs =
+    let b = c .before .before in
+    stay-ready (b .before .before .before .before .pre .1) _ _ (b .before .before .block-at .ensures) (b .block-at2 .ensures) (b .before .before .before .before .pre .0)
 
 stretch-holds : tie.Need-stretch-holds Inv-loop μ-loop Inv-stretch μ-stretch
-stretch-holds c = stretch-start (c .before .before .before .before .before .before .before .before .before .pre .1) (c .before .before .before .before .before .before .before .block-at .ensures) (c .before .before .before .before .before .block-at2 .ensures) (c .before .before .stay .ensures)
+stretch-holds c =
+    let b = c .before .before .before .before .before in
+    stretch-start (b .before .before .before .before .pre .1) (b .before .before .block-at .ensures) (b .block-at2 .ensures) (c .before .before .stay .ensures)
 
 mul-join : tie.Need-mul-join Inv-loop μ-loop Inv-stretch μ-stretch
 mul-join c = search needs
@@ -96,7 +132,9 @@ element-copy-out-join-2 : tie.Need-element-copy-out-join-2 Inv-loop μ-loop Inv-
 element-copy-out-join-2 c = search needs
 
 join-requires : tie.Need-join-requires Inv-loop μ-loop Inv-stretch μ-stretch
-join-requires c κs = let l = c .before .before .before .before in joins-fits (ready (l .before)) (l .stretch .inv) (omega arith)
+join-requires c κs =
+    let l = c .before .before .before .before in
+    joins-fits (ready (l .before)) (l .stretch .inv) (omega arith)
 
 mul-next : tie.Need-mul-next Inv-loop μ-loop Inv-stretch μ-stretch
 mul-next c = search needs
@@ -105,7 +143,10 @@ element-copy-out-next : tie.Need-element-copy-out-next Inv-loop μ-loop Inv-stre
 element-copy-out-next c = search needs
 
 cast-next : tie.Need-cast-next Inv-loop μ-loop Inv-stretch μ-stretch
-cast-next c = let l = c .before .before .before .before .before .before in omega (arith, ready (l .before) .earlier (l .stretch .next) (omega arith), l .stretch .inv .short, ready (l .before) .node-high)
+cast-next c =
+    let l = c .before .before .before .before .before .before in
+    let f = ready (l .before) in
+    omega (arith, f .earlier (l .stretch .next) (omega arith), l .stretch .inv .short, f .node-high)
 
 cast-left : tie.Need-cast-left Inv-loop μ-loop Inv-stretch μ-stretch
 cast-left c = search needs
@@ -135,10 +176,14 @@ array-read-left-2 : tie.Need-array-read-left-2 Inv-loop μ-loop Inv-stretch μ-s
 array-read-left-2 c = search needs
 
 loop-less : tie.Need-loop-less Inv-loop μ-loop Inv-stretch μ-stretch
-loop-less c = omega (arith, count-small (ready (c .before .before .before .before .before .before .before .before .before .before .before)) (longer (c .before .before .before .before) .0) (c .before .before .before .loop .gain - 1))
+loop-less c =
+    let n = c .before .before .before .before in
+    omega (arith, count-small (ready (n .before .before .before .before .before .before .before)) (longer n .0) (c .before .before .before .loop .gain - 1))
 
 loop-again : tie.Need-loop-again Inv-loop μ-loop Inv-stretch μ-stretch
-loop-again c = taking-down (ready (c .before .before .before .before .before .before .before .before .before .before .before)) (longer (c .before .before .before .before) .0) (c .before .before .before .loop .inv) (c .before .if1 .left) (c .if2 .taken)
+loop-again c =
+    let n = c .before .before .before .before in
+    taking-down (ready (n .before .before .before .before .before .before .before)) (longer n .0) (c .before .before .before .loop .inv) (c .before .if1 .left) (c .if2 .taken)
 
 sub-left : tie.Need-sub-left Inv-loop μ-loop Inv-stretch μ-stretch
 sub-left c = search needs
@@ -156,35 +201,48 @@ loop-less-2 : tie.Need-loop-less-2 Inv-loop μ-loop Inv-stretch μ-stretch
 loop-less-2 c = search needs
 
 loop-again-2 : tie.Need-loop-again-2 Inv-loop μ-loop Inv-stretch μ-stretch
-loop-again-2 c = taking-more (ready (c .before .before .before .before .before .before .before .before .before .before .before)) (longer (c .before .before .before .before) .0) (c .before .before .before .loop .inv) (c .before .if1 .left) (c .if2 .left) (c .before .before .loop-test .taken)
+loop-again-2 c =
+    let n = c .before .before .before .before in
+    taking-more (ready (n .before .before .before .before .before .before .before)) (longer n .0) (c .before .before .before .loop .inv) (c .before .if1 .left) (c .if2 .left) (c .before .before .loop-test .taken)
 
 block-at-requires-3 : tie.Need-block-at-requires-3 Inv-loop μ-loop Inv-stretch μ-stretch
-block-at-requires-3 c κs = let f = ready (c .before .before .before .before .before .before .before .before .before) in (f .limit-high, omega (arith, longer (c .before .before) .0 .short, f .node-high))
+block-at-requires-3 c κs =
+    let n = c .before .before in
+    let f = ready (n .before .before .before .before .before .before .before) in
+    (f .limit-high, omega (arith, longer n .0 .short, f .node-high))
 
 add-relax : tie.Need-add-relax Inv-loop μ-loop Inv-stretch μ-stretch
-add-relax c = omega (arith, taken-small (ready (c .before .before .before .before .before .before .before .before .before .before .before)) (longer (c .before .before .before .before) .0) (c .before .before .before .loop .inv) (c .before .before .loop-test .left) (longer (c .before .before .before .before) .1))
+add-relax c =
+    let n = c .before .before .before .before in
+    omega (arith, taken-small (ready (n .before .before .before .before .before .before .before)) (longer n .0) (c .before .before .before .loop .inv) (c .before .before .loop-test .left) (longer n .1))
 
 mul-relax : tie.Need-mul-relax Inv-loop μ-loop Inv-stretch μ-stretch
-mul-relax c = omega (arith, taken-small (ready (c .before .before .before .before .before .before .before .before .before .before .before)) (longer (c .before .before .before .before) .0) (c .before .before .before .loop .inv) (c .before .before .loop-test .left) (longer (c .before .before .before .before) .1))
+mul-relax c =
+    let n = c .before .before .before .before in
+    omega (arith, taken-small (ready (n .before .before .before .before .before .before .before)) (longer n .0) (c .before .before .before .loop .inv) (c .before .before .loop-test .left) (longer n .1))
 
 relax-requires : tie.Need-relax-requires Inv-loop μ-loop Inv-stretch μ-stretch
 relax-requires c κs =
-    let l = c .before .before .before .before .before .before .before .before .before .before .before .before .before .before .before .before .before .before .before .before in
-    relax-ready (ready (c .before .before .before .before .before .before .before .before .before .before .before)) (longer (c .before .before .before .before) .0) (c .before .before .before .loop .inv) (c .before .before .loop-test .left) (longer (c .before .before .before .before) .1) _ _ (c .before .before .before .before .before .before .before .before .before .before .before .before .before .before .before .before .before .before .block-at .ensures) (c .before .block-at3 .ensures) (l .pre .0)
+    let n = c .before .before .before .before in
+    relax-ready (ready (n .before .before .before .before .before .before .before)) (longer n .0) (c .before .before .before .loop .inv) (c .before .before .loop-test .left) (longer n .1) _ _ (n .before .before .before .before .before .before .before .before .before .before .before .before .before .before .block-at .ensures) (c .before .block-at3 .ensures) (n .before .before .before .before .before .before .before .before .before .before .before .before .before .before .before .before .pre .0)
 
 cast-if3 : tie.Need-cast-if3 Inv-loop μ-loop Inv-stretch μ-stretch
 cast-if3 c = omega (arith, ready (c .before .before .before .before .before .before .before .before .before .before .before .before .before .before) .limit-high)
 
 sub-if3 : tie.Need-sub-if3 Inv-loop μ-loop Inv-stretch μ-stretch
-sub-if3 c = total-small (ready (c .before .before .before .before .before .before .before .before .before .before .before .before .before .before .before)) (longer (c .before .before .before .before .before .before .before .before) .0) .0
+sub-if3 c =
+    let n = c .before .before .before .before .before .before .before .before in
+    total-small (ready (n .before .before .before .before .before .before .before)) (longer n .0) .0
 
 stretch-less : tie.Need-stretch-less Inv-loop μ-loop Inv-stretch μ-stretch
-stretch-less c = 
+stretch-less c =
     let l = c .before .before .before .before .before .before .before .before .before .before .before .before .before .before .before in
     ready (l .before) .earlier (l .stretch .next) (omega (arith, c .before .before .before .before .before .before .before .before .before .before .before .before .before .before .stretch-test .taken))
 
 stretch-again : tie.Need-stretch-again Inv-loop μ-loop Inv-stretch μ-stretch
-stretch-again c = again (ready (c .before .before .before .before .before .before .before .before .before .before .before .before .before .before .before .before)) (longer (c .before .before .before .before .before .before .before .before .before) .0) (c .before .before .before .before .before .before .before .before .loop .inv) (c .before .before .before .before .before .before .before .loop-test .left) (longer (c .before .before .before .before .before .before .before .before .before) .1) _ _ (c .before .before .before .before .before .before .before .before .before .before .before .before .before .before .before .before .before .before .before .before .before .before .before .block-at .ensures) (c .before .before .before .before .before .before .block-at3 .ensures) _ (c .before .before .before .before .relax .ensures) (c .if3 .left)
+stretch-again c =
+    let n = c .before .before .before .before .before .before .before .before .before in
+    again (ready (n .before .before .before .before .before .before .before)) (longer n .0) (c .before .before .before .before .before .before .before .before .loop .inv) (c .before .before .before .before .before .before .before .loop-test .left) (longer n .1) _ _ (n .before .before .before .before .before .before .before .before .before .before .before .before .before .before .block-at .ensures) (c .before .before .before .before .before .before .block-at3 .ensures) _ (c .before .before .before .before .relax .ensures) (c .if3 .left)
 
 same-length : tie.Need-same-length Inv-loop μ-loop Inv-stretch μ-stretch
 same-length c = search needs
@@ -196,13 +254,18 @@ same-length-2 : tie.Need-same-length-2 Inv-loop μ-loop Inv-stretch μ-stretch
 same-length-2 c = search needs
 
 returns-2 : tie.Need-returns-2 Inv-loop μ-loop Inv-stretch μ-stretch
-returns-2 c = whole (c .before .before .before .before .before .before .before .before .before .before) (over-end (ready (c .before .before .before .before .before .before .before .before .before .before)) (longer (c .before .before .before) .0) (c .before .before .loop .inv) (c .if1 .taken) (c .before .loop-test .taken))
+returns-2 c =
+    let n = c .before .before .before in
+    whole (n .before .before .before .before .before .before .before) (over-end (ready (n .before .before .before .before .before .before .before)) (longer n .0) (c .before .before .loop .inv) (c .if1 .taken) (c .before .loop-test .taken))
 
 same-length-3 : tie.Need-same-length-3 Inv-loop μ-loop Inv-stretch μ-stretch
 same-length-3 c = search needs
 
 returns-3 : tie.Need-returns-3 Inv-loop μ-loop Inv-stretch μ-stretch
-returns-3 c = whole (c .before .before .before .before .before .before .before .before .before .before .before .before .before .before .before .before) (stops-end (ready (c .before .before .before .before .before .before .before .before .before .before .before .before .before .before .before .before)) (longer (c .before .before .before .before .before .before .before .before .before) .0) (c .before .before .before .before .before .before .before .before .loop .inv) (c .before .before .before .before .before .before .before .loop-test .left) (longer (c .before .before .before .before .before .before .before .before .before) .1) _ _ (c .before .before .before .before .before .before .before .before .before .before .before .before .before .before .before .before .before .before .before .before .before .before .before .block-at .ensures) (c .before .before .before .before .before .before .block-at3 .ensures) _ (c .before .before .before .before .relax .ensures) (c .if3 .taken))
+returns-3 c =
+    let n = c .before .before .before .before .before .before .before .before .before in
+    whole (n .before .before .before .before .before .before .before)
+    (stops-end (ready (n .before .before .before .before .before .before .before)) (longer n .0) (c .before .before .before .before .before .before .before .before .loop .inv) (c .before .before .before .before .before .before .before .loop-test .left) (longer n .1) _ _ (n .before .before .before .before .before .before .before .before .before .before .before .before .before .before .block-at .ensures) (c .before .before .before .before .before .before .block-at3 .ensures) _ (c .before .before .before .before .relax .ensures) (c .if3 .taken))
 
 pub fill-column-spec : {M : Type 1} → statement M
 fill-column-spec =

@@ -1,4 +1,4 @@
--- `best::column::relax` meets its contract. Assumes nothing.
+-- `best::column::relax` meets its contract: the cells passed have been compared with the run. Assumes nothing.
 use Rattle.best.proofs.column.relax.Statement.{statement}
 use Rattle.best.proofs.column.relax.Tie as tie
 use borrow.Author.Needs.{needs}

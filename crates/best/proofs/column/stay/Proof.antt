@@ -1,4 +1,4 @@
--- `best::column::stay` meets its contract. Assumes nothing.
+-- `best::column::stay` meets its contract: the cells passed are those where the child stays. Assumes nothing.
 use Rattle.best.proofs.column.stay.Statement.{statement}
 use Rattle.best.proofs.column.stay.Tie as tie
 use borrow.Author.Needs.{needs}
