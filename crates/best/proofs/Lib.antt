@@ -1,2 +1,6 @@
 pub mod ColumnSweeps
 pub mod ColumnRuns
+pub mod NodeLinks
+pub mod NodeColumns
+pub mod NodeGains
+pub mod NodeReady

@@ -28,6 +28,14 @@ pub fn lay_best(table: &[u8], gainful: bool, marks: &mut [u8], scratch: &mut [u3
     let mut gains = [0u16; SLOTS];
     let mut lasts = [0u16; SLOTS];
     open_block(scratch, limit_of(table) as usize);
-    plan_nodes(table, gainful, &prevs, &mut rests, &mut gains, &mut lasts, scratch);
+    plan_nodes(
+        table,
+        gainful,
+        &prevs,
+        &mut rests,
+        &mut gains,
+        &mut lasts,
+        scratch,
+    );
     lay_nodes(table, &prevs, &rests, &gains, &lasts, scratch, marks);
 }

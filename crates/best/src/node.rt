@@ -1,8 +1,8 @@
 // The nodes from the last to the first: the columns of each node's children, and the figures that its parent sees.
-use crate::column::block_at;
-use crate::column::fill_column;
 use crate::column::PAGE;
 use crate::column::SLOTS;
+use crate::column::block_at;
+use crate::column::fill_column;
 use table::words::first_at;
 use table::words::limit_of;
 use table::words::next_at;
@@ -12,7 +12,7 @@ ghost use mathlib.Core.Path.{_≡_};
 ghost use mathlib.Core.List.{[]};
 ghost use Prim.Native.Nat.{_+_, _-_, _*_, _%_, _≤_};
 ghost use lib.ListN.{length, getD};
-ghost use Rattle.model.specs.Table.{nodeCount, limitOf};
+ghost use Rattle.model.specs.Table.{nodeCount};
 ghost use Rattle.model.specs.Steps.{secondStart};
 ghost use Rattle.theory.specs.Sound.{AcceptedFacts};
 ghost use Rattle.theory.specs.Cells.{page, cellAt};
@@ -30,11 +30,10 @@ pub fn link_before(table: &[u8]) -> [u16; SLOTS]
     let mut v: u16 = 0;
     while v < nodes {
         v += 1;
-        let next = next_at(table, v);
-        if next != 0 {
-            prevs[next as usize] = v;
-        }
+        prevs[next_at(table, v) as usize] = v;
     }
+    // the last of each chain has no sibling after it
+    prevs[0] = 0;
     prevs
 }
 
@@ -113,8 +112,10 @@ fn plan_node(
     words: &mut [u32],
     v: u16,
 )
-    requires { ⌜ Planned (now table) gainful v (now rests) (now gains) (now prevs) (now lasts) (now words) × (1 ≤ v) × (v ≤ nodeCount (now table)) ⌝ }
-    ensures { λ r. ⌜ Planned (now (table .entry)) gainful (v - 1) (now (rests .exit)) (now (gains .exit)) (now (prevs .entry)) (now (lasts .exit)) (now (words .exit)) ⌝ }
+    requires { ⌜ Planned (now table) gainful v (now rests) (now gains) (now prevs) (now lasts) (now words) × (1 ≤ v) × (v ≤ nodeCount (now table))
+        × (length (now rests) ≡ 1025) × (length (now gains) ≡ 1025) × (length (now lasts) ≡ 1025) ⌝ }
+    ensures { λ r. ⌜ Planned (now (table .entry)) gainful (v - 1) (now (rests .exit)) (now (gains .exit)) (now (prevs .entry)) (now (lasts .exit)) (now (words .exit))
+        × (length (now (rests .exit)) ≡ 1025) × (length (now (gains .exit)) ≡ 1025) × (length (now (lasts .exit)) ≡ 1025) ⌝ }
 {
     let limit = limit_of(table) as usize;
     let weight = weight_at(table, v) as usize;
@@ -137,7 +138,8 @@ pub fn plan_nodes(
     lasts: &mut [u16; SLOTS],
     words: &mut [u32],
 )
-    requires { ⌜ Ready (now table) (now rests) (now gains) (now prevs) (now words) ⌝ }
+    requires { ⌜ Ready (now table) (now rests) (now gains) (now prevs) (now words)
+        × (length (now rests) ≡ 1025) × (length (now gains) ≡ 1025) × (length (now lasts) ≡ 1025) ⌝ }
     ensures { λ r. ⌜ Planned (now (table .entry)) gainful 0 (now (rests .exit)) (now (gains .exit)) (now (prevs .entry)) (now (lasts .exit)) (now (words .exit)) ⌝ }
 {
     let mut v = node_count(table);

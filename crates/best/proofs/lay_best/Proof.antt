@@ -1,0 +1,65 @@
+-- `best::lay_best` meets its contract. Assumes nothing.
+use mathlib.Core.Path.{refl}
+use native.Mathlib.Omega.{arith}
+use denote.Ref.{now}
+use Rattle.model.specs.Table.{nodeCount, limitOf}
+use Rattle.best.proofs.NodeReady.{first-fits, starts-ready}
+use borrow.Author.Needs.{needs}
+use Rattle.best.proofs.lay_best.Statement.{statement}
+use Rattle.best.proofs.lay_best.Tie as tie
+
+link-before-requires : tie.Need-link-before-requires
+link-before-requires c κs = search needs
+
+limit-of-requires : tie.Need-limit-of-requires
+limit-of-requires c κs = search needs
+
+cast-open-block : tie.Need-cast-open-block
+cast-open-block c = search needs
+
+open-block-requires : tie.Need-open-block-requires
+open-block-requires c κs =
+    let b = c .before .before .before .before .before .before in
+    let t = now (b .args .table) in
+    let sound = b .pre .0 .sound in
+    (omega (arith, c .limit-of .ensures, sound .limit-high), omega (arith, c .limit-of .ensures, first-fits (nodeCount t) (limitOf t) (sound .count-low), b .pre .2))
+
+plan-nodes-requires : tie.Need-plan-nodes-requires
+plan-nodes-requires c κs =
+    let o = c .before .before .before .before .before .before .before in
+    let l = o .before .before .before .link-before in
+    let b = o .before .before .before .before .before .before .before in
+    (starts-ready _ (b .pre .0) (b .pre .2) (l .ensures) (o .before .limit-of .ensures) (o .open-block .ensures), refl, refl, refl)
+
+lay-nodes-requires : tie.Need-lay-nodes-requires
+lay-nodes-requires c κs =
+    let x = c .before .before .before .before .before .before .before .before in
+    let b = x .before .before .before .before .before .before .before .before .before .before .before .before .before .before .before in
+    ((b .args .gainful, x .plan-nodes .ensures), b .pre .1)
+
+same-length : tie.Need-same-length
+same-length c = search needs
+
+same-length-2 : tie.Need-same-length-2
+same-length-2 c = search needs
+
+returns : tie.Need-returns
+returns c =
+    let y = c .before .before in
+    let x = y .before .before .before .before .before .before .before .before .before in
+    let b = x .before .before .before .before .before .before .before .before .before .before .before .before .before .before .before in
+    y .lay-nodes .ensures (b .args .gainful) (x .plan-nodes .ensures)
+
+pub lay-best-spec : {M : Type 1} → statement M
+lay-best-spec =
+    tie.close
+    (tie.spec
+    link-before-requires
+    limit-of-requires
+    cast-open-block
+    open-block-requires
+    plan-nodes-requires
+    lay-nodes-requires
+    same-length
+    same-length-2
+    returns)

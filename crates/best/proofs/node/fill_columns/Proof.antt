@@ -1,0 +1,98 @@
+-- `best::node::fill_columns` meets its contract. Assumes nothing.
+use Prim.Native.Nat.{_-_, _≤_}
+use native.Mathlib.Omega.{arith}
+use Rattle.model.specs.Table.{nodeCount}
+use Rattle.best.proofs.NodeColumns.{Filling, filling-start, filling-next, later, filling-column, filling-turn, filling-end}
+use borrow.Author.Needs.{needs}
+use Rattle.best.proofs.node.fill_columns.Statement.{statement}
+use Rattle.best.proofs.node.fill_columns.Tie as tie
+
+abbrev Inv-loop : tie.InvT-loop
+Inv-loop table prevs rests gains words₀ v limit start last₀ child₀ words last child = Filling table rests gains prevs v last child words₀ words
+
+abbrev μ-loop : tie.MeasureT-loop
+μ-loop table prevs rests gains words₀ v limit start last₀ child₀ words last child = nodeCount table - last
+
+limit-of-requires : tie.Need-limit-of-requires Inv-loop μ-loop
+limit-of-requires c κs = search needs
+
+cast-limit : tie.Need-cast-limit Inv-loop μ-loop
+cast-limit c = search needs
+
+weight-at-requires : tie.Need-weight-at-requires Inv-loop μ-loop
+weight-at-requires c κs = search needs
+
+cast-start : tie.Need-cast-start Inv-loop μ-loop
+cast-start c = search needs
+
+first-at-requires : tie.Need-first-at-requires Inv-loop μ-loop
+first-at-requires c κs = search needs
+
+loop-holds : tie.Need-loop-holds Inv-loop μ-loop
+loop-holds c =
+    let b = c .before .before .before .before .before in
+    rw (c .first-at .ensures) (filling-start (b .pre .0) (b .args .v) (b .pre .1) (b .pre .2))
+
+cast-fill-column : tie.Need-cast-fill-column Inv-loop μ-loop
+cast-fill-column c =
+    let l = c .before .before .loop in
+    let b = c .before .before .before .before .before .before .before .before in
+    let n = filling-next (b .pre .0) (b .args .v) (b .pre .1) (b .pre .2) (l .last) (l .child) (l .words) (l .inv) (c .before .loop-test .taken) in
+    record { fits = omega (arith, n .high, b .pre .0 .accepted .sound .count-high) }
+
+fill-column-requires : tie.Need-fill-column-requires Inv-loop μ-loop
+fill-column-requires c κs =
+    let l = c .before .before .loop in
+    let w = c .before .before .before .before in
+    let b = w .before .before .before .before in
+    let limit = w .before .limit-of .ensures in
+    let light : w .weight-at .result ≤ w .before .limit-of .result = omega (arith, limit, w .weight-at .ensures, b .pre .0 .accepted .light (b .args .v) (b .pre .1) (b .pre .2)) in
+    (light, rw (limit, w .weight-at .ensures) (filling-column (b .pre .0) (b .args .v) (b .pre .1) (b .pre .2) (l .last) (l .child) (l .words) (l .inv) (c .before .loop-test .taken)))
+
+next-at-requires : tie.Need-next-at-requires Inv-loop μ-loop
+next-at-requires c κs = search needs
+
+loop-less : tie.Need-loop-less Inv-loop μ-loop
+loop-less c =
+    let t = c .before .before .before .before .before in
+    let l = t .before .loop in
+    let b = t .before .before .before .before .before .before .before in
+    let n = filling-next (b .pre .0) (b .args .v) (b .pre .1) (b .pre .2) (l .last) (l .child) (l .words) (l .inv) (t .loop-test .taken) in
+    omega (arith, n .high, later (b .pre .0) (b .args .v) (b .pre .1) (b .pre .2) (l .last) (l .child) (l .words) (l .inv) (t .loop-test .taken))
+
+loop-again : tie.Need-loop-again Inv-loop μ-loop
+loop-again c =
+    let x = c .before .before .before .fill-column in
+    let t = c .before .before .before .before .before in
+    let l = t .before .loop in
+    let w = t .before .before .before in
+    let b = w .before .before .before .before in
+    rw (c .next-at .ensures) (filling-turn (b .pre .0) (b .args .v) (b .pre .1) (b .pre .2) (l .last) (l .child) (l .words) (l .inv) (t .loop-test .taken) _ (rw (w .before .limit-of .ensures, w .weight-at .ensures) at (x .ensures)))
+
+same-length : tie.Need-same-length Inv-loop μ-loop
+same-length c = search needs
+
+returns : tie.Need-returns Inv-loop μ-loop
+returns c =
+    let l = c .before .loop in
+    filling-end _ (l .last) (l .child) (l .inv) (c .loop-test .left)
+
+pub fill-columns-spec : {M : Type 1} → statement M
+fill-columns-spec =
+    tie.close
+    (tie.spec
+    Inv-loop
+    μ-loop
+    limit-of-requires
+    cast-limit
+    weight-at-requires
+    cast-start
+    first-at-requires
+    loop-holds
+    cast-fill-column
+    fill-column-requires
+    next-at-requires
+    loop-less
+    loop-again
+    same-length
+    returns)

@@ -1,0 +1,155 @@
+-- `best::node::plan_node` meets its contract. Assumes nothing.
+use Prim.Native.Nat.{_+_, _*_, _≤_}
+use mathlib.Core.Path.{refl}
+use native.Mathlib.Omega.{arith}
+use lib.ListN.{length, length-set}
+use Rattle.best.proofs.NodeGains.{last-high, block-fits, rest-fits, gain-fits, node-planned}
+use borrow.Author.Needs.{needs}
+use Rattle.best.proofs.node.plan_node.Statement.{statement}
+use Rattle.best.proofs.node.plan_node.Tie as tie
+
+-- the block of the last child is within the words
+room : (c : tie.After-block-at) → c .block-at .result + 2 * (c .before .before .before .before .before .before .before .before .limit-of .result + 1) ≤ length (c .before .before .before .fill-columns .last .1 .1 .1 .1 .0)
+room c =
+    let x = c .before .before .before .fill-columns in
+    let b = c .before .before .before .before .before .before .before .before .before .before .before in
+    let limit = c .before .before .before .before .before .before .before .before .limit-of .ensures in
+    omega (arith, c .block-at .ensures, rw (← limit) at (block-fits (b .pre .1) (b .pre .2) (b .pre .0) (x .ensures)))
+
+light : (c : tie.After-weight-at) → c .weight-at .result ≤ c .before .limit-of .result
+light c =
+    let b = c .before .before .before .before in
+    omega (arith, c .before .limit-of .ensures, c .weight-at .ensures, b .pre .0 .ready .accepted .light (b .args .v) (b .pre .1) (b .pre .2))
+
+limit-of-requires : tie.Need-limit-of-requires
+limit-of-requires c κs = search needs
+
+cast-limit : tie.Need-cast-limit
+cast-limit c = search needs
+
+weight-at-requires : tie.Need-weight-at-requires
+weight-at-requires c κs = search needs
+
+cast-weight : tie.Need-cast-weight
+cast-weight c = search needs
+
+fill-columns-requires : tie.Need-fill-columns-requires
+fill-columns-requires c κs = search needs
+
+cast-block-at : tie.Need-cast-block-at
+cast-block-at c = search needs
+
+block-at-requires : tie.Need-block-at-requires
+block-at-requires c κs =
+    let x = c .before .before .fill-columns in
+    let w = c .before .before .before .before .before .before in
+    let b = w .before .before .before .before in
+    let sound = b .pre .0 .ready .accepted .sound in
+    (omega (arith, w .before .limit-of .ensures, sound .limit-high), omega (arith, last-high (b .pre .1) (b .pre .2) (b .pre .0) (x .ensures), sound .count-high))
+
+add-rest : tie.Need-add-rest
+add-rest c =
+    let x = c .before .before .before .fill-columns in
+    let w = c .before .before .before .before .before .before .before in
+    let b = w .before .before .before .before in
+    omega (arith, room c, light w, x .ensures .long, b .good .1 .1 .1 .1 .1 .1 .0 .0, b .good .1 .1 .1 .1 .1 .1 .0 .1)
+
+mul-rest : tie.Need-mul-rest
+mul-rest c =
+    let x = c .before .before .before .fill-columns in
+    let w = c .before .before .before .before .before .before .before in
+    let b = w .before .before .before .before in
+    omega (arith, room c, light w, x .ensures .long, b .good .1 .1 .1 .1 .1 .1 .0 .0, b .good .1 .1 .1 .1 .1 .1 .0 .1)
+
+slice-read-rest : tie.Need-slice-read-rest
+slice-read-rest c =
+    let w = c .before .before .before .before .before .before .before .before in
+    omega (arith, room (c .before), light w)
+
+cast-rest : tie.Need-cast-rest
+cast-rest c = search needs
+
+cast-gain-in : tie.Need-cast-gain-in
+cast-gain-in c = search needs
+
+gain-in-requires : tie.Need-gain-in-requires
+gain-in-requires c κs =
+    let d = c .before .before in
+    let x = d .before .before .before .fill-columns in
+    let w = d .before .before .before .before .before .before .before in
+    let b = w .before .before .before .before in (
+      omega (arith, w .before .limit-of .ensures, b .pre .0 .ready .accepted .sound .limit-high),
+      light w,
+      rest-fits (b .pre .1) (b .pre .2) (b .pre .0) (x .ensures) _ _ _ _ (w .before .limit-of .ensures) (w .weight-at .ensures) (d .block-at .ensures) refl,
+      room d,
+    )
+
+cast-gain : tie.Need-cast-gain
+cast-gain c =
+    let d = c .before .before .before in
+    let x = d .before .before .before .fill-columns in
+    let w = d .before .before .before .before .before .before .before in
+    let b = w .before .before .before .before in
+    let at = gain-fits (b .pre .1) (b .pre .2) (b .pre .0) (x .ensures) _ _ _ _ (w .before .limit-of .ensures) (w .weight-at .ensures) (d .block-at .ensures) refl (c .gain-in .result) (c .gain-in .ensures) in
+    omega (arith, at)
+
+mul-rests : tie.Need-mul-rests
+mul-rests c = search needs
+
+element-write-rests : tie.Need-element-write-rests
+element-write-rests c = search needs
+
+mul-gains : tie.Need-mul-gains
+mul-gains c = search needs
+
+element-write-gains : tie.Need-element-write-gains
+element-write-gains c = search needs
+
+mul-lasts : tie.Need-mul-lasts
+mul-lasts c = search needs
+
+element-write-lasts : tie.Need-element-write-lasts
+element-write-lasts c = search needs
+
+same-length : tie.Need-same-length
+same-length c = search needs
+
+returns : tie.Need-returns
+returns c =
+    let d = c .before .before .before in
+    let x = d .before .before .before .fill-columns in
+    let w = d .before .before .before .before .before .before .before in
+    let b = w .before .before .before .before in (
+      node-planned (b .pre .1) (b .pre .2) (b .pre .0) (x .ensures) _ _ _ _ (w .before .limit-of .ensures) (w .weight-at .ensures) (d .block-at .ensures) refl (c .gain-in .result) (c .gain-in .ensures)
+          (b .pre .3) (b .pre .4) (b .pre .5),
+      simp length-set (b .pre .3),
+      simp length-set (b .pre .4),
+      simp length-set (b .pre .5),
+    )
+
+pub plan-node-spec : {M : Type 1} → statement M
+plan-node-spec =
+    tie.close
+    (tie.spec
+    limit-of-requires
+    cast-limit
+    weight-at-requires
+    cast-weight
+    fill-columns-requires
+    cast-block-at
+    block-at-requires
+    add-rest
+    mul-rest
+    slice-read-rest
+    cast-rest
+    cast-gain-in
+    gain-in-requires
+    cast-gain
+    mul-rests
+    element-write-rests
+    mul-gains
+    element-write-gains
+    mul-lasts
+    element-write-lasts
+    same-length
+    returns)

@@ -1,0 +1,64 @@
+-- `best::node::plan_nodes` meets its contract. Assumes nothing.
+use Prim.Native.Nat.{_≤_}
+use mathlib.Core.Path.{_≡_, refl, _∙_}
+use native.Mathlib.Omega.{arith}
+use lib.ListN.{length}
+use Rattle.model.specs.Table.{nodeCount}
+use Rattle.theory.specs.CellsPlan.{Planned, planned-none}
+use borrow.Author.Needs.{needs}
+use Rattle.best.proofs.node.plan_nodes.Statement.{statement}
+use Rattle.best.proofs.node.plan_nodes.Tie as tie
+
+abbrev Inv-loop : tie.InvT-loop
+Inv-loop table gainful prevs rests₀ gains₀ lasts₀ words₀ v₀ rests gains lasts words v =
+    (v ≤ nodeCount table) × (length words ≡ length words₀) × Planned table gainful v rests gains prevs lasts words
+    × (length rests ≡ 1025) × (length gains ≡ 1025) × (length lasts ≡ 1025)
+
+abbrev μ-loop : tie.MeasureT-loop
+μ-loop table gainful prevs rests₀ gains₀ lasts₀ words₀ v₀ rests gains lasts words v = v
+
+node-count-requires : tie.Need-node-count-requires Inv-loop μ-loop
+node-count-requires c κs = search needs
+
+loop-holds : tie.Need-loop-holds Inv-loop μ-loop
+loop-holds c =
+    let b = c .before .before .before in
+    (omega (arith, c .node-count .ensures), refl, rw (c .node-count .ensures) (planned-none (b .args .gainful) _ (b .pre .0)), b .pre .1, b .pre .2, b .pre .3)
+
+plan-node-requires : tie.Need-plan-node-requires Inv-loop μ-loop
+plan-node-requires c κs = search needs
+
+sub-v : tie.Need-sub-v Inv-loop μ-loop
+sub-v c = search needs
+
+loop-less : tie.Need-loop-less Inv-loop μ-loop
+loop-less c = search needs
+
+loop-again : tie.Need-loop-again Inv-loop μ-loop
+loop-again c =
+    let x = c .before .before .plan-node in
+    let l = c .before .before .before .before .before .before .before .before .loop in
+    (omega (arith, l .inv .0), x .kept .1 .1 .1 .1 .1 .1 .0 ∙ l .inv .1, x .ensures .0, x .ensures .1, x .ensures .2, x .ensures .3)
+
+same-length : tie.Need-same-length Inv-loop μ-loop
+same-length c = search needs
+
+returns : tie.Need-returns Inv-loop μ-loop
+returns c =
+    let l = c .before .loop in
+    rw (c .loop-test .left) at (l .inv .2)
+
+pub plan-nodes-spec : {M : Type 1} → statement M
+plan-nodes-spec =
+    tie.close
+    (tie.spec
+    Inv-loop
+    μ-loop
+    node-count-requires
+    loop-holds
+    plan-node-requires
+    sub-v
+    loop-less
+    loop-again
+    same-length
+    returns)
