@@ -11,12 +11,13 @@ use lib.Dec.{eqb, ltb}
 use borrow.Author.Tests.{eqb-true, ltb-false, not-false}
 use Rattle.model.specs.Basics.{pick}
 use Rattle.model.specs.Table.{nodeCount, limitOf, Chain, treeOf}
-use Rattle.model.specs.Refusals.{Check, shortTable, badCount, badLimit, badLength, noWeight, badWalk, heavyNode, badMarks, shortScratch, scratchWords, formChecks, treeChecks, planChecks, passes, acceptedTree, accepted, firstOf, readTree, judgePlan, planned}
+use Rattle.model.specs.Refusals.{Check, shortTable, badCount, badLimit, badLength, noWeight, badWalk, heavyNode, badMarks, shortScratch, scratchWords, formChecks, treeChecks, planChecks, passes, acceptedTree, accepted, firstOf, readTree, judgePlan, Planned, planned, planBest}
 use Rattle.model.specs.declared.Verdict.the-variants.{NotJudged}
 use Rattle.model.specs.declared.Answer.{Answer}
 use Rattle.theory.specs.Ranges.{pick-true, pick-false, when-nowhere, append-nil}
 use Rattle.theory.specs.Sound.{AcceptedFacts, accepted-facts, passes-first, passes-rest, passes-append, both-true}
 use Rattle.theory.specs.Checks.{HasNumbers, accepted-pass, firstOf-pass, firstOf-stop}
+use Rattle.theory.specs.Promise.{BestPromise, best-promise}
 use Rattle.planner.specs.Outcome.{outcome, PlanReady}
 
 -- the checks after those of the tree
@@ -111,3 +112,8 @@ module _ (t m s : List ℕ) (r : Answer) (is : r ≡ firstOf (planChecks t m s) 
     plan-made e a m′ s′ p q j =
         rw (j, p, q)
         (sym (pick-true (passes (planChecks t m s)) _ _ (plan-passes e)))
+
+-- demand 3, of what the best planner leaves
+pub best-promised : {t m s m′ s′ : List ℕ} {r : Answer} → outcome r m′ s′ ≡ planBest t m s → BestPromise t m s r m′
+best-promised {t} {m} {s} e =
+    rw (ap (λ (p : Planned). p .answer) e, ap (λ (p : Planned). p .marks) e) (best-promise t m s)

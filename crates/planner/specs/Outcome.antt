@@ -5,18 +5,20 @@ use mathlib.Core.Path.{_≡_}
 use mathlib.Core.List.{List}
 use lib.ListN.{length}
 use Rattle.model.specs.Table.{nodeCount, limitOf, Chain}
-use Rattle.model.specs.Steps.{singleMarks, pairMarks}
+use Rattle.model.specs.Steps.{bestMarks, levelMarks, singleMarks, pairMarks}
 use Rattle.model.specs.Refusals.{Planned, scratchWords}
 use Rattle.model.specs.declared.Answer.{Answer}
 use Rattle.theory.specs.Sound.{AcceptedFacts}
 use Rattle.planner.specs.declared.Planner.{Planner}
-use Rattle.planner.specs.declared.Planner.the-variants.{Single, Pair}
+use Rattle.planner.specs.declared.Planner.the-variants.{Best, Level, Single, Pair}
 
 abbrev pub outcome : Answer → List ℕ → List ℕ → Planned
 outcome r marks scratch = record { answer = r; marks = marks; scratch = scratch }
 
 -- the steps of each planner
 abbrev pub stepsOf : Planner → ℕ → Chain → List ℕ
+stepsOf Best = bestMarks
+stepsOf Level = levelMarks
 stepsOf Single = singleMarks
 stepsOf Pair = pairMarks
 

@@ -3,6 +3,7 @@ mod common;
 mod pair;
 mod single;
 
+use best::lay_best;
 use common::check_plan;
 use common::clear;
 use judge::judge_plan;
@@ -11,11 +12,14 @@ use pair::lay_pair;
 use single::lay_single;
 ghost use mathlib.Core.Path.{_≡_};
 ghost use Rattle.model.specs.Table.{limitOf, treeOf};
-ghost use Rattle.model.specs.Refusals.{planned, planSingle, planPair};
+ghost use Rattle.model.specs.Refusals.{planned, planBest, planLevel, planSingle, planPair};
+ghost use Rattle.theory.specs.Promise.{BestPromise};
 ghost use Rattle.planner.specs.Outcome.{outcome, stepsOf, PlanReady};
 
 // Whose steps make the plan.
 enum Planner {
+    Best,
+    Level,
     Single,
     Pair,
 }
@@ -26,6 +30,8 @@ fn lay_plan(planner: Planner, table: &[u8], marks: &mut [u8], scratch: &mut [u32
     ensures { λ r. ⌜ now (marks .exit) ≡ stepsOf planner (limitOf (now (table .entry))) (treeOf (now (table .entry))) ⌝ }
 {
     match planner {
+        Planner::Best => lay_best(table, true, marks, scratch),
+        Planner::Level => lay_best(table, false, marks, scratch),
         Planner::Single => lay_single(table, marks, scratch),
         Planner::Pair => lay_pair(table, marks, scratch),
     }
@@ -41,6 +47,21 @@ fn make_plan(planner: Planner, table: &[u8], marks: &mut [u8], scratch: &mut [u3
     lay_plan(planner, table, marks, scratch);
     clear(scratch);
     judge_plan(table, marks)
+}
+
+// Entry: the best planner. Its plan is the lowest there is, and 7 means that there is none.
+pub fn plan_best(table: &[u8], marks: &mut [u8], scratch: &mut [u32]) -> Answer
+    ensures { λ r. ⌜ outcome r (now (marks .exit)) (now (scratch .exit)) ≡ planBest (now (table .entry)) (now (marks .entry)) (now (scratch .entry)) ⌝ }
+    ensures { λ r. ⌜ BestPromise (now (table .entry)) (now (marks .entry)) (now (scratch .entry)) r (now (marks .exit)) ⌝ }
+{
+    make_plan(Planner::Best, table, marks, scratch)
+}
+
+// Entry: the level planner.
+pub fn plan_level(table: &[u8], marks: &mut [u8], scratch: &mut [u32]) -> Answer
+    ensures { λ r. ⌜ outcome r (now (marks .exit)) (now (scratch .exit)) ≡ planLevel (now (table .entry)) (now (marks .entry)) (now (scratch .entry)) ⌝ }
+{
+    make_plan(Planner::Level, table, marks, scratch)
 }
 
 // Entry: the single planner.
