@@ -4,3 +4,8 @@ pub mod NodeLinks
 pub mod NodeColumns
 pub mod NodeGains
 pub mod NodeReady
+pub mod LaySums
+pub mod LayRuns
+pub mod LayMarking
+pub mod LayNode
+pub mod LayAll

@@ -1,0 +1,230 @@
+-- A run's marks, from its last member back, one a turn. Defines Marking.
+-- Proves count-less, run-sums, level-small, marking-start, marking-high, marking-low, marking-takes, marking-turn and marking-end.
+-- Assumes nothing.
+use Prim.Native.Nat.{ℕ, zero, suc, _+_, _-_, _≤_, _<_}
+use mathlib.Core.Path.{_≡_, refl, sym, _∙_, ap, ap₂}
+use mathlib.Core.Bool.{Bool, true, false, _&&_, _||_, false≢true}
+use mathlib.Core.Logic.{_⊎_, inl, inr}
+use mathlib.Core.List.{List, [], _∷_, _++_, reverse, append-assoc, append-nil}
+use native.Mathlib.Omega.{arith}
+use lib.ListN.{length, getD, set, length-set}
+use lib.Dec.{eqb, ltb, leb}
+use borrow.Author.Tests.{eqb-true, eqb-false, eq-eqb, ne-eqb, ltb-true}
+use Rattle.model.specs.Basics.{pick}
+use Rattle.model.specs.Plan.{begins}
+use Rattle.model.specs.Steps.{Choice, runChoices}
+use Rattle.theory.specs.ReduceCount.{countGain}
+use Rattle.theory.specs.ReduceLevel.{Level, levelHere, levelFrom, cutAt}
+use Rattle.theory.specs.Cells.{pulled}
+use Rattle.theory.specs.CellsFront.{frontOf, childIn, front-cons, front-length}
+use Rattle.theory.specs.CellsRun.{members, Kept, countsOf, kept-count, back, back-le}
+use Rattle.theory.specs.CellsLay.{takes, lastMark, backRun, back-run, run-level, count-back}
+use Rattle.theory.specs.CellsChosen.{LaidRun}
+use Rattle.best.specs.Lay.{runBack, Gainful, SumReady, RunReady, RunDone}
+use Rattle.best.proofs.LayRuns.{front-low, front-real, laid-none, laid-one, laid-then, gainful-set}
+
+-- ---- A member that is taken has a gain
+
+-- at the gain 0 none is taken
+abbrev NoneAtZero : Level → Type 0
+NoneAtZero l = l .gain ≡ 0 → l .times ≡ 0
+
+level-here-none : (n t g room sum : ℕ) (next : ℕ → Level) → ((s : ℕ) → NoneAtZero (next s)) → NoneAtZero (levelHere n t (suc g) room sum next)
+unfolding levelHere pick
+level-here-none zero t g room sum next h = h sum
+level-here-none (suc n) t g room sum next h = go (leb sum room) (level-here-none n (suc t) g room (sum - suc g) next h)
+  where
+    go : (b : Bool) → NoneAtZero (levelHere n (suc t) (suc g) room (sum - suc g) next)
+        → NoneAtZero (pick b (record { gain = suc g; times = t }) (levelHere n (suc t) (suc g) room (sum - suc g) next))
+    go true ih = λ e. absurd (omega arith)
+    go false ih = ih
+
+level-none : (g : ℕ) (c : ℕ → ℕ) (room sum : ℕ) → NoneAtZero (levelFrom g c room sum)
+unfolding levelFrom
+level-none zero c room sum = λ e. refl
+level-none (suc g) c room sum = level-here-none (c (suc g)) 0 g room sum (λ s. levelFrom g c room s) (λ s. level-none g c room s)
+
+here-le : (n t g m room sum : ℕ) (next : ℕ → Level) → g ≤ m → ((s : ℕ) → next s .gain ≤ m) → levelHere n t g room sum next .gain ≤ m
+unfolding levelHere pick
+here-le zero t g m room sum next l h = h sum
+here-le (suc n) t g m room sum next l h = go (leb sum room) (here-le n (suc t) g m room (sum - g) next l h)
+  where
+    go : (b : Bool) → levelHere n (suc t) g room (sum - g) next .gain ≤ m
+        → pick b (record { gain = g; times = t }) (levelHere n (suc t) g room (sum - g) next) .gain ≤ m
+    go true ih = l
+    go false ih = ih
+
+level-le : (g : ℕ) (c : ℕ → ℕ) (room sum : ℕ) → levelFrom g c room sum .gain ≤ g
+unfolding levelFrom
+level-le zero c room sum = omega arith
+level-le (suc g) c room sum =
+    here-le (c (suc g)) 0 (suc g) (suc g) room sum (λ s. levelFrom g c room s) (omega arith) (λ s. omega (arith, level-le g c room s))
+
+takes-gain : (g t n gain : ℕ) → (g ≡ 0 → t ≡ 0) → takes g t n gain ≡ true → 1 ≤ gain
+takes-gain g t n gain h = go (ltb g gain) (eqb gain g) (ltb n t) refl refl refl
+  where
+    go : (a b d : Bool) → ltb g gain ≡ a → eqb gain g ≡ b → ltb n t ≡ d → (a || (b && d)) ≡ true → 1 ≤ gain
+    go true b d p q r e = let l : g < gain = ltb-true g gain p in omega arith
+    go false true true p q r e = some (eqb g 0) refl
+      where
+        some : (z : Bool) → eqb g 0 ≡ z → 1 ≤ gain
+        some true y = let none : t ≡ 0 = h (eqb-true g 0 y) in absurd (omega (arith, ltb-true n t r))
+        some false y = let d : g ≡ 0 → ⊥ = eqb-false g 0 y in omega (arith, eqb-true gain g q)
+    go false true false p q r e = absurd (false≢true e)
+    go false false d p q r e = absurd (false≢true e)
+
+-- as it is kept
+abbrev asSecond : Bool → ℕ
+asSecond b = pick b 1 0
+
+second-is : (b : Bool) → eqb (asSecond b) 1 ≡ b
+unfolding pick
+second-is true = refl
+second-is false = refl
+
+second-taken : (b : Bool) → asSecond b ≡ 1 → b ≡ true
+unfolding pick
+second-taken true e = refl
+second-taken false e = absurd (omega arith)
+
+choice-is : (mark second m : ℕ) (b : Bool) → mark ≡ m → second ≡ pick b 1 0
+    → _≡_ {A = Choice} (record { mark = mark; second = eqb second 1 }) (record { mark = m; second = b })
+choice-is mark second m b p q = ap₂ (λ x y. record { mark = x; second = y }) p (ap (λ x. eqb x 1) q ∙ second-is b)
+
+-- one less where the member is at the level
+pub count-less : (gain g before before′ : ℕ) → ((gain ≡ g) × (before′ ≡ before - 1)) ⊎ ((gain ≡ g → ⊥) × (before′ ≡ before))
+    → before′ ≡ before - pick (eqb gain g) 1 0
+unfolding pick
+count-less gain g before before′ (inl w) = rw (eq-eqb gain g (w .0)) (w .1)
+count-less gain g before before′ (inr w) = rw (ne-eqb gain g (w .0)) (omega (arith, w .1))
+
+-- what the sums of a run ask for
+pub run-sums : {K c n : ℕ} {rests gains prevs marks seconds : List ℕ} → RunReady K c n rests gains prevs marks seconds → SumReady c n rests gains prevs
+run-sums r =
+    record {
+      high = omega (arith, r .high, r .short);
+      earlier = r .earlier;
+      none = r .none;
+      good = λ u. record { light = omega (arith, r .good u .light, r .limit-high); fits = r .good u .fits };
+      within = r .within;
+    }
+
+-- ---- One member a turn
+
+-- `left` members are left, of which `before` have the level's gain g; the level takes the earliest t of those
+pub record Marking (rests gains prevs : List ℕ) (c n g t : ℕ) (marks seconds marks′ seconds′ : List ℕ) (before left next : ℕ) : Type 0 where
+  pub done : ℕ
+  pub choices : List Choice
+  pub sum : done + left ≡ n
+  pub at : next ≡ back prevs done c
+  pub within : left ≤ length (frontOf rests gains prevs next)
+  pub count : before ≡ countGain g (members (pulled left [] (frontOf rests gains prevs next)))
+  pub laid : LaidRun prevs done c choices marks seconds marks′ seconds′
+  pub rest : choices ++ backRun g t before left (frontOf rests gains prevs next)
+      ≡ backRun g t (countGain g (members (pulled n [] (frontOf rests gains prevs c)))) n (frontOf rests gains prevs c)
+  pub gainful : Gainful gains seconds′
+  pub slots : length seconds′ ≡ 1025
+
+module _ {K c n : ℕ} {rests gains prevs marks seconds : List ℕ} (ready : RunReady K c n rests gains prevs marks seconds) where
+  module _ {total gained top : ℕ} {counts : List ℕ} (kept : Kept K (pulled n [] (frontOf rests gains prevs c)) n total gained top counts) (g t : ℕ)
+      (gain-is : g ≡ levelFrom top (countsOf counts) K total .gain) (times-is : t ≡ levelFrom top (countsOf counts) K total .times)
+    where
+      pub level-small : (g ≤ 1024) × ((h : ℕ) → getD counts h 0 ≤ 1024)
+      level-small =
+          let few : n ≤ 1024 = omega (arith, ready .within, front-length rests gains prevs (ready .earlier) c, ready .high, ready .short) in
+          (omega (arith, gain-is, level-le top (countsOf counts) K total, kept .top-high, ready .limit-high), λ h. omega (arith, kept-count kept h))
+
+      pub marking-start : Marking rests gains prevs c n g t marks seconds marks seconds (getD counts g 0) n c
+      unfolding back
+      marking-start =
+          let same : getD counts g 0 ≡ countGain g (members (pulled n [] (frontOf rests gains prevs c))) = sym (kept .counts-are g) in
+          record {
+            done = 0;
+            choices = [];
+            sum = omega arith;
+            at = refl;
+            within = ready .within;
+            count = same;
+            laid = laid-none prevs c marks seconds;
+            rest = ap (λ k. backRun g t k n (frontOf rests gains prevs c)) same;
+            gainful = ready .gainful;
+            slots = ready .slots;
+          }
+
+      module _ {marks′ seconds′ : List ℕ} {before left next : ℕ} (m : Marking rests gains prevs c n g t marks seconds marks′ seconds′ before left next) where
+        pub marking-high : next ≤ length marks
+        marking-high = omega (arith, m .at, back-le prevs (ready .earlier) (ready .none) (m .done) c, ready .high)
+
+        module _ (some : left ≡ 0 → ⊥) where
+          pub marking-low : 1 ≤ next
+          marking-low = front-low rests gains prevs (ready .earlier) next (omega (arith, m .within))
+
+          shape : frontOf rests gains prevs next ≡ childIn rests gains next ∷ frontOf rests gains prevs (getD prevs next 0)
+          shape = front-cons rests gains prevs (ready .earlier) next marking-low
+
+          -- how many at the level come before the member
+          counted : before ≡ countGain g (members (pulled (left - 1) [] (frontOf rests gains prevs (getD prevs next 0)))) + pick (eqb (getD gains next 0) g) 1 0
+          counted =
+              let e : left ≡ suc (left - 1) = omega arith in
+              m .count
+              ∙ ap₂ (λ k ks. countGain g (members (pulled k [] ks))) e shape
+              ∙ count-back g (left - 1) (childIn rests gains next) (frontOf rests gains prevs (getD prevs next 0))
+
+          pub marking-takes : getD gains next 0 ≡ g → 1 ≤ before
+          unfolding pick
+          marking-takes e =
+              let one : asSecond (eqb (getD gains next 0) g) ≡ 1 = rw (eq-eqb (getD gains next 0) g e) refl in
+              omega (arith, counted, one)
+
+          pub marking-turn : (before′ mark second : ℕ) → before′ ≡ before - pick (eqb (getD gains next 0) g) 1 0 → mark ≡ lastMark (left - 1)
+              → second ≡ pick (takes g t before′ (getD gains next 0)) 1 0
+              → Marking rests gains prevs c n g t marks seconds (set marks′ (next - 1) mark) (set seconds′ next second) before′ (left - 1) (getD prevs next 0)
+          unfolding back backRun
+          marking-turn before′ mark second b a s =
+              let gain : ℕ = getD gains next 0 in
+              let ch : Choice = record { mark = lastMark (left - 1); second = takes g t before′ gain } in
+              let laid-ch : Choice = record { mark = mark; second = eqb second 1 } in
+              let short : next < length seconds′ = omega (arith, m .slots, marking-high, ready .short) in
+              let same : laid-ch ≡ ch = choice-is mark second (lastMark (left - 1)) (takes g t before′ gain) a s in
+              let alone : LaidRun prevs 1 next (laid-ch ∷ []) marks′ seconds′ (set marks′ (next - 1) mark) (set seconds′ next second) =
+              laid-one prevs next marks′ seconds′ mark second marking-low (omega (arith, m .laid .long, marking-high)) short in
+              let one : LaidRun prevs 1 next (ch ∷ []) marks′ seconds′ (set marks′ (next - 1) mark) (set seconds′ next second) = rw same at alone in
+              let more : m .done + 1 ≡ suc (m .done) = omega arith in
+              let less : left ≡ suc (left - 1) = omega arith in
+              let step : ch ∷ backRun g t before′ (left - 1) (frontOf rests gains prevs (getD prevs next 0)) ≡ backRun g t before left (frontOf rests gains prevs next) =
+              sym
+              (ap₂ (backRun g t before) less shape
+              ∙ ap (λ k. record { mark = lastMark (left - 1); second = takes g t k gain } ∷ backRun g t k (left - 1) (frontOf rests gains prevs (getD prevs next 0))) (sym b)) in
+              let none : g ≡ 0 → t ≡ 0 = λ z. times-is ∙ level-none top (countsOf counts) K total (sym gain-is ∙ z) in
+              record {
+                done = m .done + 1;
+                choices = m .choices ++ (ch ∷ []);
+                sum = omega (arith, m .sum);
+                at = ap (λ u. getD prevs u 0) (m .at) ∙ sym (ap (λ k. back prevs k c) more);
+                within = omega (arith, m .within, ap length shape);
+                count = omega (arith, counted);
+                laid = laid-then (ready .earlier) (λ j l. front-real rests gains prevs (ready .earlier) j c (omega (arith, m .sum, ready .within))) (m .at) (m .laid) one;
+                rest = append-assoc (m .choices) (ch ∷ []) (backRun g t before′ (left - 1) (frontOf rests gains prevs (getD prevs next 0)))
+                    ∙ ap (λ l. m .choices ++ l) step
+                    ∙ m .rest;
+                gainful = gainful-set gains seconds′ next second short (m .gainful) (λ e. takes-gain g t before′ gain none (second-taken (takes g t before′ gain) (sym s ∙ e)));
+                slots = simp length-set (m .slots);
+              }
+
+        pub marking-end : left ≡ 0 → RunDone K c n rests gains prevs marks seconds marks′ seconds′ next
+        unfolding backRun
+        marking-end z =
+            let all : m .done ≡ n = omega (arith, m .sum) in
+            let whole : m .choices ≡ runBack K n (frontOf rests gains prevs c) =
+            sym (append-nil (m .choices))
+            ∙ ap (λ k. m .choices ++ backRun g t before k (frontOf rests gains prevs next)) (sym z)
+            ∙ m .rest
+            ∙ back-run g t n (frontOf rests gains prevs c) (ready .within)
+            ∙ ap₂ (λ x y. reverse (runChoices begins (cutAt x y (members (pulled n [] (frontOf rests gains prevs c)))))) gain-is times-is
+            ∙ ap (λ ms. reverse (runChoices begins ms)) (sym (run-level kept)) in
+            record {
+              laid = rw (all, whole) at (m .laid);
+              slots = m .slots;
+              gainful = m .gainful;
+              next = rw all at (m .at);
+            }

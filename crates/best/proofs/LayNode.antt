@@ -1,0 +1,305 @@
+-- The marks of a node's children, from the last back: a child that stays, or a run, each turn. Defines Walking.
+-- Proves walk-from, walk-reads, walk-stay, walk-ready, walk-run, walk-less and walk-end. Assumes nothing.
+use Prim.Native.Nat.{ℕ, zero, suc, _+_, _-_, _*_, _≤_, _<_}
+use mathlib.Core.Path.{_≡_, refl, sym, _∙_, ap, ap₂}
+use mathlib.Core.Bool.{Bool, true, false}
+use mathlib.Core.List.{List, [], _∷_, _++_, append-assoc, append-nil}
+use mathlib.Core.Logic.{inl, inr}
+use native.Mathlib.Omega.{arith}
+use native.Mathlib.Nat.{mul-le-mul}
+use lib.ListN.{length, getD, set, drop, length-drop, length-set}
+use lib.Dec.{eqb}
+use borrow.Author.Tests.{eqb-true}
+use Rattle.model.specs.Basics.{pick}
+use Rattle.model.specs.Table.{nodeCount, limitOf, weightAt}
+use Rattle.model.specs.Plan.{parentAt}
+use Rattle.model.specs.Steps.{Child, Choice, entryAt, secondStart}
+use Rattle.theory.specs.Cells.{pulled, rebuilt, Sane, Agrees, stayChoice, cellAt, cell-entry}
+use Rattle.theory.specs.CellsFront.{frontOf, front-none, front-cons, front-length, front-good}
+use Rattle.theory.specs.CellsRun.{back, back-le, blockAt, block-apart}
+use Rattle.theory.specs.CellsNode.{Kin, kin-back, back-shift, Before}
+use Rattle.theory.specs.CellsMarks.{choicesBack, choices-back-none, choices-back-cons}
+use Rattle.theory.specs.CellsChosen.{chosenIn, choicesFor, LaidRun}
+use Rattle.best.specs.Lay.{runBack, Gainful, RunReady, RunDone, startOf, NodeReady, NodeDone}
+use Rattle.best.proofs.LayRuns.{front-back, front-real, back-add, Real, laid-none, laid-one, laid-then, gainful-set}
+
+-- ---- An entry's choices from the length of the run that won
+
+rebuilt-stay : (K s : ℕ) (k : Child) (ks : List Child) → rebuilt K 0 (k ∷ ks) s ≡ stayChoice ∷ entryAt K ks (s + k .rest) .choices
+unfolding rebuilt
+rebuilt-stay K s k ks = refl
+
+sane-stay : (K s : ℕ) (k : Child) (ks : List Child) → Sane K s (k ∷ ks) 0 → s + k .rest ≤ K
+unfolding Sane
+sane-stay K s k ks h = h
+
+sane-run : (K s r : ℕ) (ks : List Child) → Sane K s ks r → (r ≡ 0 → ⊥) → r ≤ length ks
+unfolding Sane
+sane-run K s r [] h d = absurd (d h)
+sane-run K s zero (k ∷ ks) h d = absurd (d refl)
+sane-run K s (suc r) (k ∷ ks) h d = omega (arith, h)
+
+rebuilt-run : (K s r : ℕ) (ks : List Child) → r ≤ length ks → (r ≡ 0 → ⊥)
+    → rebuilt K r ks s ≡ runBack K r ks ++ entryAt K (drop r ks) s .choices
+unfolding rebuilt pulled
+rebuilt-run K s zero ks h d = absurd (d refl)
+rebuilt-run K s (suc r) [] h d = absurd (omega arith)
+rebuilt-run K s (suc r) (k ∷ ks) h d = refl
+
+no-choices : (K s : ℕ) → entryAt K [] s .choices ≡ []
+unfolding entryAt
+no-choices K s = refl
+
+-- ---- All siblings
+
+choices-all : (t prevs : List ℕ) (ch : ℕ → Choice) (v : ℕ) → Before t prevs → getD prevs 0 0 ≡ 0 → (n u : ℕ) → Kin t v u → back prevs n u ≡ 0
+    → Real prevs n u → choicesFor prevs ch n u ≡ choicesBack t ch u
+unfolding choicesFor back
+choices-all t prevs ch v before none zero u k e real = sym (ap (choicesBack t ch) e ∙ choices-back-none t ch)
+choices-all t prevs ch v before none (suc n) u (inl z) e real = absurd (omega (arith, real 0 (omega arith)))
+choices-all t prevs ch v before none (suc n) u (inr q) e real =
+    ap (λ cs. ch u ∷ cs)
+    (choices-all t prevs ch v before none n (getD prevs u 0)
+    (kin-back t prevs before none v 1 u (inr q))
+    (sym (back-shift prevs n u) ∙ e)
+    (λ j l. rw (back-shift prevs j u) at (real (suc j) (omega arith))))
+    ∙ ap (λ w. ch u ∷ choicesBack t ch w) (before u (q .0) (q .1))
+    ∙ sym (choices-back-cons t ch u (q .0))
+
+-- ---- One child or one run a turn
+
+-- the start of node v's plan
+abbrev nodeStart : List ℕ → ℕ → List ℕ → List ℕ → ℕ
+nodeStart t v rests seconds = startOf (limitOf t) (weightAt t v) (getD rests v 0) (eqb (getD seconds v 0) 1)
+
+-- `child` comes before those that were walked; what is left is chosen from the start on
+pub record Walking (t : List ℕ) (v : ℕ) (rests gains prevs lasts marks seconds marks′ seconds′ : List ℕ) (start child : ℕ) : Type 0 where
+  pub walked : ℕ
+  pub choices : List Choice
+  pub at : child ≡ back prevs walked (getD lasts v 0)
+  pub within : walked ≤ length (frontOf rests gains prevs (getD lasts v 0))
+  pub laid : LaidRun prevs walked (getD lasts v 0) choices marks seconds marks′ seconds′
+  pub rest : choices ++ entryAt (limitOf t) (frontOf rests gains prevs child) start .choices
+      ≡ entryAt (limitOf t) (frontOf rests gains prevs (getD lasts v 0)) (nodeStart t v rests seconds) .choices
+  pub low : weightAt t v ≤ start
+  pub high : start ≤ limitOf t
+  pub gainful : Gainful gains seconds′
+  pub slots : length seconds′ ≡ 1025
+
+module _ {t : List ℕ} {v : ℕ} {rests gains prevs lasts xs marks seconds : List ℕ} (node : NodeReady t v rests gains prevs lasts xs marks seconds) where
+  pub limit-small : limitOf t ≤ 1024
+  limit-small = node .ready .accepted .sound .limit-high
+
+  pub count-small : nodeCount t ≤ 1024
+  count-small = node .ready .accepted .sound .count-high
+
+  start-within : (b : Bool) → eqb (getD seconds v 0) 1 ≡ b
+      → (weightAt t v ≤ startOf (limitOf t) (weightAt t v) (getD rests v 0) b) × (startOf (limitOf t) (weightAt t v) (getD rests v 0) b ≤ limitOf t)
+  unfolding pick secondStart
+  start-within true e =
+      let s = node .second (node .gainful v (eqb-true (getD seconds v 0) 1 e)) in
+      (omega arith, s)
+  start-within false e = (omega arith, node .ready .accepted .light v (node .low) (node .high))
+
+  walk-start : Walking t v rests gains prevs lasts marks seconds marks seconds (nodeStart t v rests seconds) (getD lasts v 0)
+  unfolding back
+  walk-start =
+      let s = start-within (eqb (getD seconds v 0) 1) refl in
+      record {
+        walked = 0;
+        choices = [];
+        at = refl;
+        within = omega arith;
+        laid = laid-none prevs (getD lasts v 0) marks seconds;
+        rest = refl;
+        low = s .0;
+        high = s .1;
+        gainful = node .gainful;
+        slots = node .slots;
+      }
+
+  -- from the start as it is found
+  pub walk-from : (K start : ℕ) → K ≡ limitOf t → start ≡ startOf K (weightAt t v) (getD rests v 0) (eqb (getD seconds v 0) 1)
+      → Walking t v rests gains prevs lasts marks seconds marks seconds start (getD lasts v 0)
+  walk-from K start e f = rw (f, e) walk-start
+
+  pub last-high : getD lasts v 0 ≤ nodeCount t
+  last-high = go (node .kin)
+    where
+      go : Kin t v (getD lasts v 0) → getD lasts v 0 ≤ nodeCount t
+      go (inl e) = omega arith
+      go (inr q) = q .1
+
+  module _ {marks′ seconds′ : List ℕ} {start child : ℕ} (w : Walking t v rests gains prevs lasts marks seconds marks′ seconds′ start child) where
+    child-kin : Kin t v child
+    child-kin = rw (w .at) (kin-back t prevs (node .ready .before) (node .ready .none) v (w .walked) (getD lasts v 0) (node .kin))
+
+    pub walk-high : child ≤ nodeCount t
+    walk-high = go child-kin
+      where
+        go : Kin t v child → child ≤ nodeCount t
+        go (inl e) = omega arith
+        go (inr q) = q .1
+
+    -- the length of the run is within the words
+    pub walk-reads : (K block : ℕ) → K ≡ limitOf t → block ≡ blockAt K child → block + (K + 1) + start < length xs
+    walk-reads K block e f =
+        let here : block ≡ blockAt (limitOf t) child = f ∙ ap (λ k. blockAt k child) e in
+        omega (arith, block-apart (limitOf t) child (nodeCount t + 1) (omega (arith, walk-high)), node .ready .room, w .high, here, e)
+
+    pub block-small : (K block : ℕ) → K ≡ limitOf t → block ≡ blockAt K child → block + (K + 1) + start < 2200000
+    block-small K block e f =
+        let here : block ≡ blockAt (limitOf t) child = f ∙ ap (λ k. blockAt k child) e in
+        let most : child * (2 * (limitOf t + 1)) ≤ 1024 * 2050 =
+        mul-le-mul {n₁ = child} {m₁ = 2 * (limitOf t + 1)} {n₂ = 1024} {m₂ = 2050} (omega (arith, walk-high, count-small)) (omega (arith, limit-small)) in
+        omega (arith, here, e, most, w .high, limit-small)
+
+    real : (k : ℕ) → w .walked + k ≤ length (frontOf rests gains prevs (getD lasts v 0)) → Real prevs (w .walked + k) (getD lasts v 0)
+    real k h j l = front-real rests gains prevs (node .ready .earlier) j (getD lasts v 0) (omega arith)
+
+    left-long : length (frontOf rests gains prevs child) + w .walked ≡ length (frontOf rests gains prevs (getD lasts v 0))
+    left-long =
+        let e : frontOf rests gains prevs child ≡ drop (w .walked) (frontOf rests gains prevs (getD lasts v 0)) =
+        ap (frontOf rests gains prevs) (w .at) ∙ front-back rests gains prevs (node .ready .earlier) (w .walked) (getD lasts v 0) (w .within) in
+        omega (arith, ap length e, length-drop (w .walked) (frontOf rests gains prevs (getD lasts v 0)), w .within)
+
+    module _ (K block len : ℕ) (limit-is : K ≡ limitOf t) (block-is : block ≡ blockAt K child) (found : len ≡ getD xs (block + (K + 1) + start) 0)
+        (some : child ≡ 0 → ⊥)
+      where
+        is : len ≡ getD xs (blockAt (limitOf t) child + (limitOf t + 1) + start) 0
+        is = found ∙ ap (λ b. getD xs (b + (K + 1) + start) 0) block-is ∙ ap (λ k. getD xs (blockAt k child + (k + 1) + start) 0) limit-is
+
+        one : 1 ≤ child
+        one = omega arith
+
+        agrees : Agrees (limitOf t) start (frontOf rests gains prevs child) (entryAt (limitOf t) (frontOf rests gains prevs child) start) (cellAt (limitOf t) (frontOf rests gains prevs child) start)
+        agrees =
+            cell-entry (limitOf t) (omega (arith, limit-small)) (frontOf rests gains prevs child) start (w .high)
+            (front-good (limitOf t) rests gains prevs (node .ready .good) child)
+            (omega (arith, front-length rests gains prevs (node .ready .earlier) child, walk-high, count-small))
+
+        len-is : cellAt (limitOf t) (frontOf rests gains prevs child) start .run ≡ len
+        len-is =
+            sym
+            (is
+            ∙ ap (λ u. getD xs (blockAt (limitOf t) u + (limitOf t + 1) + start) 0) (w .at)
+            ∙ ap (λ c. c .run) (node .columns (w .walked) start (w .low) (w .high))
+            ∙ ap (λ u. cellAt (limitOf t) (frontOf rests gains prevs u) start .run) (sym (w .at)))
+
+        chosen : entryAt (limitOf t) (frontOf rests gains prevs child) start .choices ≡ rebuilt (limitOf t) len (frontOf rests gains prevs child) start
+        chosen = agrees .choices ∙ ap (λ r. rebuilt (limitOf t) r (frontOf rests gains prevs child) start) len-is
+
+        sane : Sane (limitOf t) start (frontOf rests gains prevs child) len
+        sane = rw len-is at (agrees .sane)
+
+        shape : frontOf rests gains prevs child ≡ record { rest = getD rests child 0; gain = getD gains child 0 } ∷ frontOf rests gains prevs (getD prevs child 0)
+        shape = front-cons rests gains prevs (node .ready .earlier) child one
+
+        pub prev-less : getD prevs child 0 < child
+        prev-less = node .ready .earlier child one
+
+        module _ (zeroed : len ≡ 0) where
+          pub stay-fits : start + getD rests child 0 ≤ limitOf t
+          stay-fits =
+              sane-stay (limitOf t) start (record { rest = getD rests child 0; gain = getD gains child 0 }) (frontOf rests gains prevs (getD prevs child 0))
+              (rw (zeroed, shape) at sane)
+
+          pub walk-stay : Walking t v rests gains prevs lasts marks seconds (set marks′ (child - 1) 0) (set seconds′ child 0) (start + getD rests child 0) (getD prevs child 0)
+          unfolding back
+          walk-stay =
+              let more : w .walked + 1 ≡ suc (w .walked) = omega arith in
+              let X : List Choice = entryAt (limitOf t) (frontOf rests gains prevs (getD prevs child 0)) (start + getD rests child 0) .choices in
+              let here : stayChoice ∷ X ≡ entryAt (limitOf t) (frontOf rests gains prevs child) start .choices =
+              sym
+              (chosen
+              ∙ ap₂ (λ r ks. rebuilt (limitOf t) r ks start) zeroed shape
+              ∙ rebuilt-stay (limitOf t) start (record { rest = getD rests child 0; gain = getD gains child 0 }) (frontOf rests gains prevs (getD prevs child 0))) in
+              let short : child < length seconds′ = omega (arith, walk-high, count-small, w .slots) in
+              let fits : w .walked + 1 ≤ length (frontOf rests gains prevs (getD lasts v 0)) = omega (arith, left-long, ap length shape) in
+              record {
+                walked = w .walked + 1;
+                choices = w .choices ++ (stayChoice ∷ []);
+                at = ap (λ u. getD prevs u 0) (w .at) ∙ sym (ap (λ k. back prevs k (getD lasts v 0)) more);
+                within = fits;
+                laid =
+                    laid-then (node .ready .earlier) (real 1 fits) (w .at) (w .laid)
+                    (laid-one prevs child marks′ seconds′ 0 0 one (omega (arith, walk-high, node .long, w .laid .long)) short);
+                rest = append-assoc (w .choices) (stayChoice ∷ []) X ∙ ap (λ l. w .choices ++ l) here ∙ w .rest;
+                low = omega (arith, w .low);
+                high = stay-fits;
+                gainful = gainful-set gains seconds′ child 0 short (w .gainful) (λ e. absurd (omega arith));
+                slots = simp length-set (w .slots);
+              }
+
+        module _ (run : len ≡ 0 → ⊥) where
+          run-within : len ≤ length (frontOf rests gains prevs child)
+          run-within = sane-run (limitOf t) start len (frontOf rests gains prevs child) sane run
+
+          pub walk-ready : RunReady K child len rests gains prevs marks′ seconds′
+          walk-ready =
+              rw limit-is
+              record {
+                limit-high = limit-small;
+                high = omega (arith, walk-high, node .long, w .laid .long);
+                short = omega (arith, count-small, node .long, w .laid .long);
+                slots = w .slots;
+                earlier = node .ready .earlier;
+                none = node .ready .none;
+                good = node .ready .good;
+                within = run-within;
+                gainful = w .gainful;
+              }
+
+          module _ {marks″ seconds″ : List ℕ} {r : ℕ} (given : RunDone K child len rests gains prevs marks′ seconds′ marks″ seconds″ r) where
+            done : RunDone (limitOf t) child len rests gains prevs marks′ seconds′ marks″ seconds″ r
+            done = rw limit-is at given
+
+            pub walk-less : r < child
+            walk-less =
+                let e : len ≡ suc (len - 1) = omega arith in
+                let l : back prevs (len - 1) (getD prevs child 0) ≤ getD prevs child 0 = back-le prevs (node .ready .earlier) (node .ready .none) (len - 1) (getD prevs child 0) in
+                omega (arith, done .next ∙ ap (λ k. back prevs k child) e ∙ back-shift prevs (len - 1) child, l, prev-less)
+
+            pub walk-run : Walking t v rests gains prevs lasts marks seconds marks″ seconds″ start r
+            walk-run =
+                let X : List Choice = entryAt (limitOf t) (frontOf rests gains prevs r) start .choices in
+                let before : drop len (frontOf rests gains prevs child) ≡ frontOf rests gains prevs r =
+                sym (ap (frontOf rests gains prevs) (done .next) ∙ front-back rests gains prevs (node .ready .earlier) len child run-within) in
+                let here : runBack (limitOf t) len (frontOf rests gains prevs child) ++ X ≡ entryAt (limitOf t) (frontOf rests gains prevs child) start .choices =
+                sym
+                (chosen
+                ∙ rebuilt-run (limitOf t) start len (frontOf rests gains prevs child) run-within run
+                ∙ ap (λ ks. runBack (limitOf t) len (frontOf rests gains prevs child) ++ entryAt (limitOf t) ks start .choices) before) in
+                let fits : w .walked + len ≤ length (frontOf rests gains prevs (getD lasts v 0)) = omega (arith, left-long, run-within) in
+                record {
+                  walked = w .walked + len;
+                  choices = w .choices ++ runBack (limitOf t) len (frontOf rests gains prevs child);
+                  at = done .next ∙ ap (back prevs len) (w .at) ∙ back-add prevs (w .walked) len (getD lasts v 0);
+                  within = fits;
+                  laid = laid-then (node .ready .earlier) (real len fits) (w .at) (w .laid) (done .laid);
+                  rest = append-assoc (w .choices) (runBack (limitOf t) len (frontOf rests gains prevs child)) X ∙ ap (λ l. w .choices ++ l) here ∙ w .rest;
+                  low = w .low;
+                  high = w .high;
+                  gainful = done .gainful;
+                  slots = done .slots;
+                }
+
+    pub walk-end : child ≡ 0 → NodeDone t v rests gains prevs lasts marks seconds marks′ seconds′
+    walk-end z =
+        let none : entryAt (limitOf t) (frontOf rests gains prevs child) start .choices ≡ [] =
+        ap (λ ks. entryAt (limitOf t) ks start .choices) (ap (frontOf rests gains prevs) z ∙ front-none rests gains prevs (node .ready .earlier))
+        ∙ no-choices (limitOf t) start in
+        let all : choicesFor prevs (chosenIn marks′ seconds′) (w .walked) (getD lasts v 0) ≡ choicesBack t (chosenIn marks′ seconds′) (getD lasts v 0) =
+        choices-all t prevs (chosenIn marks′ seconds′) v (node .ready .before) (node .ready .none) (w .walked) (getD lasts v 0) (node .kin) (sym (w .at) ∙ z)
+        (λ j l. front-real rests gains prevs (node .ready .earlier) j (getD lasts v 0) (omega (arith, w .within))) in
+        record {
+          long = w .laid .long;
+          slots = w .slots;
+          gainful = w .gainful;
+          chosen = sym all ∙ w .laid .chosen ∙ sym (append-nil (w .choices)) ∙ ap (λ l. w .choices ++ l) (sym none) ∙ w .rest;
+          others = λ u low h. w .laid .others u low (λ i l e. h (parent u low i (kin-back t prevs (node .ready .before) (node .ready .none) v i (getD lasts v 0) (node .kin)) e));
+        }
+      where
+        parent : (u : ℕ) → 1 ≤ u → (i : ℕ) → Kin t v (back prevs i (getD lasts v 0)) → u ≡ back prevs i (getD lasts v 0) → parentAt t u ≡ v
+        parent u low i (inl y) e = absurd (omega arith)
+        parent u low i (inr q) e = rw e (q .2)

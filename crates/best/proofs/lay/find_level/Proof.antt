@@ -1,0 +1,125 @@
+-- `best::lay::find_level` meets its contract. Assumes nothing.
+use borrow.Author.Needs.{needs}
+use Rattle.best.proofs.lay.find_level.Statement.{statement}
+use Rattle.best.proofs.lay.find_level.Tie as tie
+use Prim.Native.Nat.{_+_, _-_, _*_, _≤_, _<_}
+use mathlib.Core.Path.{_≡_, sym, _∙_, ap}
+use native.Mathlib.Omega.{arith}
+use Rattle.theory.specs.CellsRun.{countsOf}
+use Rattle.theory.specs.ReduceLevel.{levelFrom}
+use Rattle.theory.specs.CellsLay.{levelling, levelling-start, levelling-down, levelling-stop, levelling-take, levelling-none}
+
+abbrev Inv-loop : tie.InvT-loop
+Inv-loop counts top total limit gain₀ left₀ times₀ sum₀ gain left times sum =
+    (gain ≤ top) × (times + left < 65536) × (levelFrom top (countsOf counts) limit total ≡ levelling gain left times (countsOf counts) limit sum)
+
+abbrev μ-loop : tie.MeasureT-loop
+μ-loop counts top total limit gain₀ left₀ times₀ sum₀ gain left times sum = gain * 65536 + left
+
+cast-left : tie.Need-cast-left Inv-loop μ-loop
+cast-left c = search needs
+
+mul-left : tie.Need-mul-left Inv-loop μ-loop
+mul-left c = search needs
+
+element-copy-out-left : tie.Need-element-copy-out-left Inv-loop μ-loop
+element-copy-out-left c = search needs
+
+loop-holds : tie.Need-loop-holds Inv-loop μ-loop
+loop-holds c =
+    let a = c .before .args in
+    (omega arith, omega (arith, c .before .pre .2 (a .top)), levelling-start (a .top) (countsOf (a .counts .now)) (a .limit) (a .total))
+
+sub-gain : tie.Need-sub-gain Inv-loop μ-loop
+sub-gain c = search needs
+
+cast-left-2 : tie.Need-cast-left-2 Inv-loop μ-loop
+cast-left-2 c = search needs
+
+mul-left-2 : tie.Need-mul-left-2 Inv-loop μ-loop
+mul-left-2 c = search needs
+
+element-copy-out-left-2 : tie.Need-element-copy-out-left-2 Inv-loop μ-loop
+element-copy-out-left-2 c = search needs
+
+loop-less : tie.Need-loop-less Inv-loop μ-loop
+loop-less c =
+    let b = c .before .before .before .before .before in
+    omega (arith, b .pre .2 (c .before .before .before .loop .gain - 1), c .before .if1 .taken)
+
+loop-again : tie.Need-loop-again Inv-loop μ-loop
+loop-again c =
+    let l = c .before .before .before .loop in
+    let a = c .before .before .before .before .before .args in
+    let low : 0 < l .gain = omega (arith, c .before .before .loop-test .taken) in (
+      omega (arith, l .inv .0),
+      omega (arith, c .before .before .before .before .before .pre .2 (l .gain - 1)),
+      l .inv .2
+          ∙ ap (λ n. levelling (l .gain) n (l .times) (countsOf (a .counts .now)) (a .limit) (l .sum)) (c .before .if1 .taken)
+          ∙ levelling-down (l .gain) (l .times) (countsOf (a .counts .now)) (a .limit) (l .sum) low,
+    )
+
+returns : tie.Need-returns Inv-loop μ-loop
+returns c =
+    let l = c .before .before .before .loop in
+    let a = c .before .before .before .before .before .args in
+    let is = l .inv .2 ∙ levelling-stop (l .gain) (l .left) (l .times) (countsOf (a .counts .now)) (a .limit) (l .sum) (omega arith) (omega arith) (c .if2 .taken) in
+    (ap (λ x. x .gain) (sym is), ap (λ x. x .times) (sym is))
+
+sub-left : tie.Need-sub-left Inv-loop μ-loop
+sub-left c = search needs
+
+cast-sum : tie.Need-cast-sum Inv-loop μ-loop
+cast-sum c = search needs
+
+sub-sum : tie.Need-sub-sum Inv-loop μ-loop
+sub-sum c = search needs
+
+add-times : tie.Need-add-times Inv-loop μ-loop
+add-times c = let h = c .before .before .before .loop .inv .1 in search needs
+
+loop-less-2 : tie.Need-loop-less-2 Inv-loop μ-loop
+loop-less-2 c = search needs
+
+loop-again-2 : tie.Need-loop-again-2 Inv-loop μ-loop
+loop-again-2 c =
+    let l = c .before .before .before .loop in
+    let a = c .before .before .before .before .before .args in (
+      l .inv .0,
+      omega (arith, l .inv .1),
+      l .inv .2 ∙ levelling-take (l .gain) (l .left) (l .times) (countsOf (a .counts .now)) (a .limit) (l .sum) (omega arith) (omega arith) (c .if2 .left),
+    )
+
+returns-2 : tie.Need-returns-2 Inv-loop μ-loop
+returns-2 c =
+    let l = c .before .loop in
+    let a = c .before .before .before .args in
+    let is = l .inv .2
+    ∙ ap (λ g. levelling g (l .left) (l .times) (countsOf (a .counts .now)) (a .limit) (l .sum)) (c .loop-test .left)
+    ∙ levelling-none (l .left) (l .times) (countsOf (a .counts .now)) (a .limit) (l .sum) in
+    (ap (λ x. x .gain) (sym is), ap (λ x. x .times) (sym is))
+
+pub find-level-spec : {M : Type 1} → statement M
+find-level-spec =
+    tie.close
+    (tie.spec
+    Inv-loop
+    μ-loop
+    cast-left
+    mul-left
+    element-copy-out-left
+    loop-holds
+    sub-gain
+    cast-left-2
+    mul-left-2
+    element-copy-out-left-2
+    loop-less
+    loop-again
+    returns
+    sub-left
+    cast-sum
+    sub-sum
+    add-times
+    loop-less-2
+    loop-again-2
+    returns-2)

@@ -1,0 +1,232 @@
+-- `best::lay::lay_children` meets its contract. Assumes nothing.
+use borrow.Author.Needs.{needs}
+use Rattle.best.proofs.lay.lay_children.Statement.{statement}
+use Rattle.best.proofs.lay.lay_children.Tie as tie
+use mathlib.Core.Path.{refl}
+use native.Mathlib.Omega.{arith}
+use Rattle.best.proofs.LayNode.{Walking, limit-small, count-small, walk-from, last-high, walk-high, walk-reads, block-small, prev-less, stay-fits, walk-stay, walk-ready, walk-less, walk-run, walk-end}
+
+abbrev Inv-loop : tie.InvT-loop
+Inv-loop table prevs rests gains lasts words marks₀ seconds₀ v limit start₀ child₀ marks seconds start child =
+    Walking table v rests gains prevs lasts marks₀ seconds₀ marks seconds start child
+
+abbrev μ-loop : tie.MeasureT-loop
+μ-loop table prevs rests gains lasts words marks₀ seconds₀ v limit start₀ child₀ marks seconds start child = child
+
+limit-of-requires : tie.Need-limit-of-requires Inv-loop μ-loop
+limit-of-requires c κs = search needs
+
+cast-limit : tie.Need-cast-limit Inv-loop μ-loop
+cast-limit c = search needs
+
+start-of-requires : tie.Need-start-of-requires Inv-loop μ-loop
+start-of-requires c κs =
+    let b = c .before .before .before .before .before in
+    let lim = c .before .limit-of in (
+      omega (arith, lim .ensures, limit-small (b .pre)),
+      omega (arith, b .pre .high, count-small (b .pre)),
+      omega (arith, lim .ensures, b .pre .ready .good (b .args .v) .light),
+    )
+
+mul-child : tie.Need-mul-child Inv-loop μ-loop
+mul-child c = search needs
+
+element-copy-out-child : tie.Need-element-copy-out-child Inv-loop μ-loop
+element-copy-out-child c = search needs
+
+cast-child : tie.Need-cast-child Inv-loop μ-loop
+cast-child c =
+    let b = c .before .before .before .before .before .before .before in
+    let high = last-high (b .pre) in
+    let few = count-small (b .pre) in
+    search needs
+
+loop-holds : tie.Need-loop-holds Inv-loop μ-loop
+loop-holds c =
+    let x = c .before .start-of in
+    let lim = c .before .before .before .limit-of in
+    walk-from (c .before .before .before .before .before .before .before .pre) (lim .result) (x .result) (lim .ensures) (x .ensures)
+
+block-at-requires : tie.Need-block-at-requires Inv-loop μ-loop
+block-at-requires c κs =
+    let l = c .before in
+    let b = l .before .before .before .before .before .before .before .before in
+    let lim = l .before .before .before .before .limit-of in
+    (omega (arith, lim .ensures, limit-small (b .pre)), omega (arith, walk-high (b .pre) (l .loop .inv), count-small (b .pre)))
+
+add-len : tie.Need-add-len Inv-loop μ-loop
+add-len c = search needs
+
+add-len-2 : tie.Need-add-len-2 Inv-loop μ-loop
+add-len-2 c =
+    let l = c .before .before in
+    let b = l .before .before .before .before .before .before .before .before in
+    let lim = l .before .before .before .before .limit-of in
+    let small = block-small (b .pre) (l .loop .inv) (lim .result) (c .block-at .result) (lim .ensures) (c .block-at .ensures) in
+    search needs
+
+add-len-3 : tie.Need-add-len-3 Inv-loop μ-loop
+add-len-3 c =
+    let l = c .before .before in
+    let b = l .before .before .before .before .before .before .before .before in
+    let lim = l .before .before .before .before .limit-of in
+    let small = block-small (b .pre) (l .loop .inv) (lim .result) (c .block-at .result) (lim .ensures) (c .block-at .ensures) in
+    search needs
+
+mul-len : tie.Need-mul-len Inv-loop μ-loop
+mul-len c =
+    let l = c .before .before in
+    let b = l .before .before .before .before .before .before .before .before in
+    let lim = l .before .before .before .before .limit-of in
+    let small = block-small (b .pre) (l .loop .inv) (lim .result) (c .block-at .result) (lim .ensures) (c .block-at .ensures) in
+    search needs
+
+shared-slice-read-len : tie.Need-shared-slice-read-len Inv-loop μ-loop
+shared-slice-read-len c =
+    let l = c .before .before .before in
+    let b = l .before .before .before .before .before .before .before .before in
+    let lim = l .before .before .before .before .limit-of in
+    walk-reads (b .pre) (l .loop .inv) (lim .result) (c .before .block-at .result) (lim .ensures) (c .before .block-at .ensures)
+
+element-write-seconds : tie.Need-element-write-seconds Inv-loop μ-loop
+element-write-seconds c =
+    let l = c .before .before .before .before in
+    let b = l .before .before .before .before .before .before .before .before in
+    let lim = l .before .before .before .before .limit-of in
+    omega (arith, walk-high (b .pre) (l .loop .inv), count-small (b .pre))
+
+sub-marks : tie.Need-sub-marks Inv-loop μ-loop
+sub-marks c = search needs
+
+slice-write-marks : tie.Need-slice-write-marks Inv-loop μ-loop
+slice-write-marks c =
+    let l = c .before .before .before .before in
+    let b = l .before .before .before .before .before .before .before .before in
+    let lim = l .before .before .before .before .limit-of in
+    omega (arith, walk-high (b .pre) (l .loop .inv), b .pre .long, l .loop .inv .laid .long, c .before .before .before .loop-test .taken)
+
+mul-start : tie.Need-mul-start Inv-loop μ-loop
+mul-start c = search needs
+
+element-copy-out-start : tie.Need-element-copy-out-start Inv-loop μ-loop
+element-copy-out-start c =
+    let l = c .before .before .before .before in
+    let b = l .before .before .before .before .before .before .before .before in
+    let lim = l .before .before .before .before .limit-of in
+    omega (arith, walk-high (b .pre) (l .loop .inv), count-small (b .pre))
+
+cast-start : tie.Need-cast-start Inv-loop μ-loop
+cast-start c =
+    let l = c .before .before .before .before .before in
+    let b = l .before .before .before .before .before .before .before .before in
+    let lim = l .before .before .before .before .limit-of in
+    let fits = stay-fits (b .pre) (l .loop .inv) (lim .result) (c .before .before .before .block-at .result) _ (lim .ensures) (c .before .before .before .block-at .ensures) refl (c .before .before .before .before .loop-test .taken) (c .before .if1 .taken) in
+    let small = limit-small (b .pre) in
+    search needs
+
+add-start : tie.Need-add-start Inv-loop μ-loop
+add-start c =
+    let l = c .before .before .before .before .before in
+    let b = l .before .before .before .before .before .before .before .before in
+    let lim = l .before .before .before .before .limit-of in
+    let fits = stay-fits (b .pre) (l .loop .inv) (lim .result) (c .before .before .before .block-at .result) _ (lim .ensures) (c .before .before .before .block-at .ensures) refl (c .before .before .before .before .loop-test .taken) (c .before .if1 .taken) in
+    let small = limit-small (b .pre) in
+    search needs
+
+mul-child-2 : tie.Need-mul-child-2 Inv-loop μ-loop
+mul-child-2 c = search needs
+
+element-copy-out-child-2 : tie.Need-element-copy-out-child-2 Inv-loop μ-loop
+element-copy-out-child-2 c =
+    let l = c .before .before .before .before .before in
+    let b = l .before .before .before .before .before .before .before .before in
+    let lim = l .before .before .before .before .limit-of in
+    omega (arith, walk-high (b .pre) (l .loop .inv), count-small (b .pre))
+
+cast-child-2 : tie.Need-cast-child-2 Inv-loop μ-loop
+cast-child-2 c =
+    let l = c .before .before .before .before .before .before in
+    let b = l .before .before .before .before .before .before .before .before in
+    let lim = l .before .before .before .before .limit-of in
+    let less = prev-less (b .pre) (l .loop .inv) (lim .result) (c .before .before .before .before .block-at .result) _ (lim .ensures) (c .before .before .before .before .block-at .ensures) refl (c .before .before .before .before .before .loop-test .taken) in
+    let high = walk-high (b .pre) (l .loop .inv) in
+    let few = count-small (b .pre) in
+    search needs
+
+loop-less : tie.Need-loop-less Inv-loop μ-loop
+loop-less c =
+    let l = c .before .before .before .before .before .before in
+    let b = l .before .before .before .before .before .before .before .before in
+    let lim = l .before .before .before .before .limit-of in
+    prev-less (b .pre) (l .loop .inv) (lim .result) (c .before .before .before .before .block-at .result) _ (lim .ensures) (c .before .before .before .before .block-at .ensures) refl (c .before .before .before .before .before .loop-test .taken)
+
+loop-again : tie.Need-loop-again Inv-loop μ-loop
+loop-again c =
+    let l = c .before .before .before .before .before .before in
+    let b = l .before .before .before .before .before .before .before .before in
+    let lim = l .before .before .before .before .limit-of in
+    walk-stay (b .pre) (l .loop .inv) (lim .result) (c .before .before .before .before .block-at .result) _ (lim .ensures) (c .before .before .before .before .block-at .ensures) refl (c .before .before .before .before .before .loop-test .taken) (c .before .before .if1 .taken)
+
+lay-run-requires : tie.Need-lay-run-requires Inv-loop μ-loop
+lay-run-requires c κs =
+    let l = c .before .before .before .before .before .before in
+    let b = l .before .before .before .before .before .before .before .before in
+    let lim = l .before .before .before .before .limit-of in
+    walk-ready (b .pre) (l .loop .inv) (lim .result) (c .before .before .before .before .block-at .result) _ (lim .ensures) (c .before .before .before .before .block-at .ensures) refl (c .before .before .before .before .before .loop-test .taken) (c .before .before .if1 .left)
+
+loop-less-2 : tie.Need-loop-less-2 Inv-loop μ-loop
+loop-less-2 c =
+    let l = c .before .before .before .before .before .before .before .before .before in
+    let b = l .before .before .before .before .before .before .before .before in
+    let lim = l .before .before .before .before .limit-of in
+    walk-less (b .pre) (l .loop .inv) (lim .result) (c .before .before .before .before .before .before .before .block-at .result) _ (lim .ensures) (c .before .before .before .before .before .before .before .block-at .ensures) refl (c .before .before .before .before .before .before .before .before .loop-test .taken) (c .before .before .before .before .before .if1 .left) (c .before .before .lay-run .ensures)
+
+loop-again-2 : tie.Need-loop-again-2 Inv-loop μ-loop
+loop-again-2 c =
+    let l = c .before .before .before .before .before .before .before .before .before in
+    let b = l .before .before .before .before .before .before .before .before in
+    let lim = l .before .before .before .before .limit-of in
+    walk-run (b .pre) (l .loop .inv) (lim .result) (c .before .before .before .before .before .before .before .block-at .result) _ (lim .ensures) (c .before .before .before .before .before .before .before .block-at .ensures) refl (c .before .before .before .before .before .before .before .before .loop-test .taken) (c .before .before .before .before .before .if1 .left) (c .before .before .lay-run .ensures)
+
+same-length : tie.Need-same-length Inv-loop μ-loop
+same-length c = c .before .loop .inv .laid .long
+
+returns : tie.Need-returns Inv-loop μ-loop
+returns c = walk-end (c .before .before .before .before .before .before .before .before .before .pre) (c .before .loop .inv) (c .loop-test .left)
+
+pub lay-children-spec : {M : Type 1} → statement M
+lay-children-spec =
+    tie.close
+    (tie.spec
+    Inv-loop
+    μ-loop
+    limit-of-requires
+    cast-limit
+    start-of-requires
+    mul-child
+    element-copy-out-child
+    cast-child
+    loop-holds
+    block-at-requires
+    add-len
+    add-len-2
+    add-len-3
+    mul-len
+    shared-slice-read-len
+    element-write-seconds
+    sub-marks
+    slice-write-marks
+    mul-start
+    element-copy-out-start
+    cast-start
+    add-start
+    mul-child-2
+    element-copy-out-child-2
+    cast-child-2
+    loop-less
+    loop-again
+    lay-run-requires
+    loop-less-2
+    loop-again-2
+    same-length
+    returns)

@@ -1,0 +1,82 @@
+-- What laying marks relies on, and what it leaves: for a run, for a node's children.
+-- Defines runBack, Gainful, SumReady, RunReady, RunDone, startOf, NodeReady, NodeDone. Assumes nothing.
+use Prim.Native.Nat.{ℕ, _≤_}
+use mathlib.Core.Path.{_≡_}
+use mathlib.Core.Bool.{Bool}
+use mathlib.Core.List.{List, [], reverse}
+use lib.ListN.{length, getD}
+use lib.Dec.{eqb}
+use Rattle.model.specs.Basics.{pick}
+use Rattle.model.specs.Table.{nodeCount, limitOf, weightAt}
+use Rattle.model.specs.Plan.{begins, parentAt}
+use Rattle.model.specs.Steps.{Child, Choice, runOf, runChoices, entryAt, secondStart}
+use Rattle.theory.specs.Cells.{pulled}
+use Rattle.theory.specs.CellsFront.{frontOf, Earlier, EachGood}
+use Rattle.theory.specs.CellsRun.{back}
+use Rattle.theory.specs.CellsNode.{Kin, Ready, ColumnsBack}
+use Rattle.theory.specs.CellsMarks.{choicesBack}
+use Rattle.theory.specs.CellsChosen.{chosenIn, LaidRun}
+
+-- ---- A run
+
+-- the choices of a run of the last n children, the last first
+abbrev pub runBack : ℕ → ℕ → List Child → List Choice
+runBack K n ks = reverse (runChoices begins (runOf K (pulled n [] ks)))
+
+-- a node that follows its second plan has one
+abbrev pub Gainful : List ℕ → List ℕ → Type 0
+Gainful gains seconds = (u : ℕ) → getD seconds u 0 ≡ 1 → 1 ≤ getD gains u 0
+
+-- node c has n - 1 siblings before it, at least
+pub record SumReady (c n : ℕ) (rests gains prevs : List ℕ) : Type 0 where
+  pub high : c ≤ 1024
+  pub earlier : Earlier prevs
+  pub none : getD prevs 0 0 ≡ 0
+  pub good : EachGood 1024 rests gains
+  pub within : n ≤ length (frontOf rests gains prevs c)
+
+pub record RunReady (K c n : ℕ) (rests gains prevs marks seconds : List ℕ) : Type 0 where
+  pub limit-high : K ≤ 1024
+  pub high : c ≤ length marks
+  pub short : length marks ≤ 1024
+  pub slots : length seconds ≡ 1025
+  pub earlier : Earlier prevs
+  pub none : getD prevs 0 0 ≡ 0
+  pub good : EachGood K rests gains
+  pub within : n ≤ length (frontOf rests gains prevs c)
+  pub gainful : Gainful gains seconds
+
+-- the run is laid, and r is the sibling before it
+pub record RunDone (K c n : ℕ) (rests gains prevs marks seconds marks′ seconds′ : List ℕ) (r : ℕ) : Type 0 where
+  pub laid : LaidRun prevs n c (runBack K n (frontOf rests gains prevs c)) marks seconds marks′ seconds′
+  pub slots : length seconds′ ≡ 1025
+  pub gainful : Gainful gains seconds′
+  pub next : r ≡ back prevs n c
+
+-- ---- The children of a node
+
+-- where a plan starts: at the node's weight w, or at the second start, where the best plan's rest is W
+abbrev pub startOf : ℕ → ℕ → ℕ → Bool → ℕ
+startOf K w W second = pick second (secondStart K w W) w
+
+-- the columns of node v's children are there
+pub record NodeReady (t : List ℕ) (v : ℕ) (rests gains prevs lasts xs marks seconds : List ℕ) : Type 0 where
+  pub low : 1 ≤ v
+  pub high : v ≤ nodeCount t
+  pub ready : Ready t rests gains prevs xs
+  pub kin : Kin t v (getD lasts v 0)
+  pub columns : ColumnsBack (limitOf t) (weightAt t v) rests gains prevs xs (getD lasts v 0)
+  pub second : 1 ≤ getD gains v 0 → secondStart (limitOf t) (weightAt t v) (getD rests v 0) ≤ limitOf t
+  pub long : length marks ≡ nodeCount t
+  pub slots : length seconds ≡ 1025
+  pub gainful : Gainful gains seconds
+
+-- what becomes of v's children is what its plan chose, and nothing else is changed
+pub record NodeDone (t : List ℕ) (v : ℕ) (rests gains prevs lasts marks seconds marks′ seconds′ : List ℕ) : Type 0 where
+  pub long : length marks′ ≡ length marks
+  pub slots : length seconds′ ≡ 1025
+  pub gainful : Gainful gains seconds′
+  pub chosen : choicesBack t (chosenIn marks′ seconds′) (getD lasts v 0)
+      ≡ entryAt (limitOf t) (frontOf rests gains prevs (getD lasts v 0))
+      (startOf (limitOf t) (weightAt t v) (getD rests v 0) (eqb (getD seconds v 0) 1)) .choices
+  pub others : (u : ℕ) → 1 ≤ u → (parentAt t u ≡ v → ⊥) → chosenIn marks′ seconds′ u ≡ chosenIn marks seconds u
