@@ -2,17 +2,19 @@
 use crate::read::read_archive;
 use crate::write::write_archive;
 use model::Answer;
-use planner::plan_pair;
+use planner::plan_best;
 ghost use mathlib.Core.Path.{_≡_};
-ghost use Rattle.model.specs.Refusals.{planPair, writeArchive};
+ghost use Rattle.model.specs.Refusals.{planBest, writeArchive};
+ghost use Rattle.theory.specs.ArchiveLowest.{LowestOnFilm};
 ghost use Rattle.archive.specs.Film.{filmed, thenWrite, returned, thenRead};
 
 // The best planner and, where it accepts, the writer.
 pub fn plan_and_write(table: &[u8], marks: &mut [u8], scratch: &mut [u32], out: &mut [u8]) -> Answer
     ensures { λ r. ⌜ filmed r (now (marks .exit)) (now (scratch .exit)) (now (out .exit))
-        ≡ thenWrite (now (table .entry)) (now (out .entry)) (planPair (now (table .entry)) (now (marks .entry)) (now (scratch .entry))) ⌝ }
+        ≡ thenWrite (now (table .entry)) (now (out .entry)) (planBest (now (table .entry)) (now (marks .entry)) (now (scratch .entry))) ⌝ }
+    ensures { λ r. ⌜ (r .number ≡ 0 → LowestOnFilm (now (table .entry)) (now (out .exit)) r) ⌝ }
 {
-    let planned = plan_pair(table, marks, scratch);
+    let planned = plan_best(table, marks, scratch);
     if planned.number != 0 {
         return planned;
     }

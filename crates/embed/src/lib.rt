@@ -2,7 +2,7 @@
 use model::Answer;
 use model::Verdict;
 ghost use mathlib.Core.Path.{_≡_};
-ghost use Rattle.model.specs.Refusals.{readTree, judgePlan, planSingle, planPair, writeArchive, readArchive};
+ghost use Rattle.model.specs.Refusals.{readTree, judgePlan, planBest, planLevel, planSingle, planPair, writeArchive, readArchive};
 ghost use Rattle.embed.specs.Figures.{figuresOf};
 ghost use Rattle.embed.specs.Left.{left, leftBy, filled, filledBy, refilled, refilledBy};
 
@@ -55,6 +55,24 @@ pub extern "C" fn balduqen_judge(table: &[u8], marks: &[u8]) -> Figures
     ensures { λ r. ⌜ r ≡ figuresOf (judgePlan (now (table .entry)) (now (marks .entry))) ⌝ }
 {
     flatten(judge::judge_plan(table, marks))
+}
+
+#[no_mangle]
+pub extern "C" fn balduqen_plan_best(table: &[u8], marks: &mut [u8], scratch: &mut [u32]) -> Figures
+    ensures { λ r. ⌜ left r (now (marks .exit)) (now (scratch .exit)) ≡ leftBy (planBest (now (table .entry)) (now (marks .entry)) (now (scratch .entry))) ⌝ }
+{
+    flatten(planner::plan_best(table, marks, scratch))
+}
+
+#[no_mangle]
+pub extern "C" fn balduqen_plan_level(
+    table: &[u8],
+    marks: &mut [u8],
+    scratch: &mut [u32],
+) -> Figures
+    ensures { λ r. ⌜ left r (now (marks .exit)) (now (scratch .exit)) ≡ leftBy (planLevel (now (table .entry)) (now (marks .entry)) (now (scratch .entry))) ⌝ }
+{
+    flatten(planner::plan_level(table, marks, scratch))
 }
 
 #[no_mangle]

@@ -1,11 +1,11 @@
 -- `archive::film::plan_and_write` meets its contract. Assumes nothing.
-use Rattle.archive.specs.Film.{film-refused, film-written}
+use Rattle.archive.specs.Film.{film-refused, film-written, film-promise}
 use borrow.Author.Needs.{needs}
 use Rattle.archive.proofs.film.plan_and_write.Statement.{statement}
 use Rattle.archive.proofs.film.plan_and_write.Tie as tie
 
-plan-pair-requires : tie.Need-plan-pair-requires
-plan-pair-requires c κs = search needs
+plan-best-requires : tie.Need-plan-best-requires
+plan-best-requires c κs = search needs
 
 same-length : tie.Need-same-length
 same-length c = search needs
@@ -14,7 +14,8 @@ same-length-2 : tie.Need-same-length-2
 same-length-2 c = search needs
 
 returns : tie.Need-returns
-returns c = film-refused _ _ (c .before .before .before .before .before .before .plan-pair .ensures) (c .if1 .taken)
+returns c =
+    (film-refused _ _ (c .before .before .before .before .before .before .plan-best .ensures .0) (c .if1 .taken), λ z. absurd (c .if1 .taken z))
 
 write-archive-requires : tie.Need-write-archive-requires
 write-archive-requires c κs = search needs
@@ -29,13 +30,16 @@ same-length-5 : tie.Need-same-length-5
 same-length-5 c = search needs
 
 returns-2 : tie.Need-returns-2
-returns-2 c = film-written _ _ (c .before .before .before .before .before .before .before .before .before .before .before .plan-pair .ensures) (c .before .before .before .before .before .if1 .left) (c .before .before .write-archive .ensures)
+returns-2 c =
+    let planned = c .before .before .before .before .before .before .before .before .before .before .before .plan-best .ensures .0 in
+    let same = film-written _ _ planned (c .before .before .before .before .before .if1 .left) (c .before .before .write-archive .ensures) in
+    (same, film-promise _ _ _ _ same)
 
 pub plan-and-write-spec : {M : Type 1} → statement M
 plan-and-write-spec =
     tie.close
     (tie.spec
-    plan-pair-requires
+    plan-best-requires
     same-length
     same-length-2
     returns

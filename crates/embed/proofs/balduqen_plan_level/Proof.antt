@@ -1,0 +1,28 @@
+-- `embed::balduqen_plan_level` meets its contract. Assumes nothing.
+use mathlib.Core.Path.{ap, _∙_}
+use Rattle.embed.specs.declared.Figures.{Figures}
+use Rattle.embed.specs.Left.{left, leftBy}
+use borrow.Author.Needs.{needs}
+use Rattle.embed.proofs.balduqen_plan_level.Statement.{statement}
+use Rattle.embed.proofs.balduqen_plan_level.Tie as tie
+
+plan-level-requires : tie.Need-plan-level-requires
+plan-level-requires c κs = search needs
+
+flatten-requires : tie.Need-flatten-requires
+flatten-requires c κs = search needs
+
+same-length : tie.Need-same-length
+same-length c = search needs
+
+same-length-2 : tie.Need-same-length-2
+same-length-2 c = search needs
+
+returns : tie.Need-returns
+returns c =
+    let p = c .before .before .before .before .before .plan-level in
+    ap (λ (f : Figures). left f (p .last .1 .0) (p .last .1 .1 .0)) (c .flatten .ensures) ∙ ap leftBy (p .ensures)
+
+pub balduqen-plan-level-spec : {M : Type 1} → statement M
+balduqen-plan-level-spec =
+    tie.close (tie.spec plan-level-requires flatten-requires same-length same-length-2 returns)
