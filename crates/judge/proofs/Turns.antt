@@ -1,25 +1,26 @@
--- One turn of each pass of the judge, for node v + 1 after the nodes 1 to v, and what a pass has at its end. Assumes nothing.
+-- One turn of the judge's pass, for node v + 1 after the nodes 1 to v, and what the pass has at its end. Defines Pass. Assumes nothing.
 use mathlib.Core.Path.{_≡_, refl, sym, ap, ap₂, _∙_}
-use mathlib.Core.Bool.{Bool, true, false}
+use mathlib.Core.Bool.{Bool, true, false, not}
 use mathlib.Core.List.{List}
-use mathlib.Core.Logic.{_⊎_, inl, inr}
 use lib.Dec.{eqb, ltb}
 use Prim.Native.Nat.{ℕ, zero, suc, _+_, _-_, _*_, _≤_, _<_}
 use native.Mathlib.Omega.{arith}
 use native.Mathlib.Numerals.{add-one}
-use lib.ListN.{length, getD, set}
+use lib.ListN.{length, getD, set, replicate, getD-replicate}
 use lib.Seq.{getD-set-same, getD-set-other}
 use borrow.Author.Tests.{eqb-true, eqb-false, eq-eqb, ne-eqb}
-use Rattle.model.specs.Basics.{pick, countTo, firstTo, lastTo}
+use Rattle.model.specs.Basics.{pick, when, atPlace, sumTo, countTo, firstTo, lastTo}
 use Rattle.model.specs.Table.{nodeCount, limitOf, weightAt, nextAt}
-use Rattle.model.specs.Plan.{prevAt, parentAt, markAt, hasMark, begins, inRun, goodMark, pageOf, pageCount, pageWeight, heavyPage}
-use Rattle.theory.specs.Ranges.{upto-suc, pick-true, pick-false, sumTo-zero, sumTo-suc, countTo-suc, firstTo-cong, lastTo-zero, lastTo-yes, lastTo-no}
-use Rattle.theory.specs.Sound.{AcceptedFacts}
-use Rattle.theory.specs.Links.{next-le, next-later, prevAt-less}
-use Rattle.theory.specs.JudgePages.{stepBack, back-less, pageOf-none, pageOf-step, parentAt-step, sumTo-most}
-use Rattle.theory.specs.Judged.{pageCount-le}
+use Rattle.model.specs.Plan.{prevAt, parentAt, markAt, hasMark, begins, inRun, goodMark, pageOf, pageCount, pageWeight, badMark, heavyPage}
 use Rattle.model.specs.declared.Place.{Place}
-use Rattle.judge.specs.Rows.{slots, Row, goodCase, weightOn, weights-page}
+use Rattle.model.specs.declared.Place.the-variants.{At, Nowhere}
+use Rattle.theory.specs.Ranges.{pick-true, pick-false, sumTo-zero, sumTo-suc, countTo-zero, countTo-suc, countTo-le, firstTo-zero, firstTo-suc, firstTo-cong, lastTo-zero, lastTo-yes, lastTo-no}
+use Rattle.theory.specs.Sound.{AcceptedFacts}
+use Rattle.theory.specs.Links.{next-le, prevAt-less}
+use Rattle.theory.specs.JudgePages.{stepBack, back-less, pageOf-none, pageOf-le, pageOf-step, parentAt-step, sumTo-most}
+use Rattle.theory.specs.Judged.{pageCount-le}
+use Rattle.judge.specs.declared.pages.Layout.{Layout}
+use Rattle.judge.specs.Rows.{slots, Row, goodCase, Laid}
 
 -- one more node
 row-add : (f : ℕ → ℕ) (l : List ℕ) (v x : ℕ) → Row v f l → v + 1 < length l → x ≡ f (v + 1) → Row (v + 1) f (set l (v + 1) x)
@@ -36,13 +37,13 @@ row-add f l v x row fits e u low high = go (eqb u (v + 1)) refl
 -- ---- The sibling just before each node
 
 -- at w, the last of the nodes 1 to v with w just after it
-abbrev pub Before : List ℕ → ℕ → List ℕ → Type 0
+abbrev Before : List ℕ → ℕ → List ℕ → Type 0
 Before t v l = (w : ℕ) → w < slots → getD l w 0 ≡ lastTo v (λ u. eqb (nextAt t u) w)
 
-pub before-start : (t l : List ℕ) → ((w : ℕ) → w < slots → getD l w 0 ≡ 0) → Before t 0 l
+before-start : (t l : List ℕ) → ((w : ℕ) → w < slots → getD l w 0 ≡ 0) → Before t 0 l
 before-start t l h w fits = h w fits ∙ sym (lastTo-zero (λ u. eqb (nextAt t u) w))
 
-pub before-turn : (t l : List ℕ) (v x : ℕ) → Before t v l → length l ≡ slots → x ≡ nextAt t (v + 1) → x < slots
+before-turn : (t l : List ℕ) (v x : ℕ) → Before t v l → length l ≡ slots → x ≡ nextAt t (v + 1) → x < slots
     → Before t (v + 1) (set l x (v + 1))
 before-turn t l v x h long e fits w within = rw (add-one v) (go (eqb w x) refl)
   where
@@ -61,47 +62,25 @@ before-turn t l v x h long e fits w within = rw (add-one v) (go (eqb w x) refl)
         ∙ h w within
         ∙ sym (lastTo-no v (λ u. eqb (nextAt t u) w) (at-next false (ne-eqb x w (λ s. other (sym s)))))
 
--- nothing passes after m
-lastTo-until : (n m : ℕ) (p : ℕ → Bool) → m ≤ n → ((u : ℕ) → m < u → u ≤ n → p u ≡ false) → lastTo n p ≡ lastTo m p
-lastTo-until zero m p a h = let z : m ≡ 0 = omega arith in rw z refl
-lastTo-until (suc n) m p a h = go (upto-suc n m a) (lastTo-until n m p)
+prior-is : (t l : List ℕ) (v : ℕ) → Before t v l → v + 1 < slots → getD l (v + 1) 0 ≡ prevAt t (v + 1)
+unfolding prevAt
+prior-is t l v h fits =
+    let same : v ≡ v + 1 - 1 = omega arith in
+    h (v + 1) fits ∙ ap (λ (k : ℕ). lastTo k (λ u. eqb (nextAt t u) (v + 1))) same
+
+-- ---- Parents
+
+parent-is : {t : List ℕ} → AcceptedFacts t → (l : List ℕ) (v u x : ℕ) → Row v (parentAt t) l → v < nodeCount t → u ≡ prevAt t (v + 1)
+    → x ≡ pick (eqb u 0) (v + 1 - 1) (getD l u 0) → x ≡ parentAt t (v + 1)
+parent-is {t} a l v u x row less e q =
+    q ∙ go (eqb u 0) refl ∙ ap (λ (k : ℕ). pick (eqb k 0) (v + 1 - 1) (parentAt t k)) e
+    ∙ sym (parentAt-step (a .sound) (v + 1) (omega arith) (omega arith))
   where
-    go : (m ≤ n) ⊎ (m ≡ suc n) → (m ≤ n → ((u : ℕ) → m < u → u ≤ n → p u ≡ false) → lastTo n p ≡ lastTo m p)
-        → lastTo (suc n) p ≡ lastTo m p
-    go (inl l) ih = lastTo-no n p (h (suc n) (omega arith) (omega arith)) ∙ ih l (λ u c d. h u c (omega arith))
-    go (inr e) ih = rw e refl
-
-module _ {t : List ℕ} (a : AcceptedFacts t) where
-  pub next-fits : (v : ℕ) → 1 ≤ v → v ≤ nodeCount t → nextAt t v < slots
-  next-fits v low high = omega (arith, next-le (a .sound) v low high, a .sound .count-high)
-
-  pub before-end : (l : List ℕ) (v : ℕ) → Before t v l → v ≤ nodeCount t → nodeCount t ≤ v → Row (nodeCount t) (prevAt t) l
-  unfolding prevAt
-  before-end l v h le ge w low high =
-      let same : v ≡ nodeCount t = omega arith in
-      h w (omega (arith, a .sound .count-high))
-      ∙ ap (λ (k : ℕ). lastTo k (λ u. eqb (nextAt t u) w)) same
-      ∙ lastTo-until (nodeCount t) (w - 1) (λ u. eqb (nextAt t u) w) (omega arith)
-      (λ u c d. ne-eqb (nextAt t u) w (λ e. omega (arith, next-later (a .sound) u (omega arith) d (omega arith))))
-
-  -- ---- Parents
-
-  pub before-fits : (l : List ℕ) (v : ℕ) → Row (nodeCount t) (prevAt t) l → v < nodeCount t → getD l (v + 1) 0 < slots
-  before-fits l v row less =
-      omega (arith, row (v + 1) (omega arith) (omega arith), prevAt-less t (v + 1) (omega arith), a .sound .count-high)
-
-  pub parents-turn : (l : List ℕ) (v u x : ℕ) → Row v (parentAt t) l → length l ≡ slots → v < nodeCount t → u ≡ prevAt t (v + 1)
-      → x ≡ pick (eqb u 0) (v + 1 - 1) (getD l u 0) → Row (v + 1) (parentAt t) (set l (v + 1) x)
-  parents-turn l v u x row long less e q =
-      row-add (parentAt t) l v x row (omega (arith, a .sound .count-high))
-      (q ∙ go (eqb u 0) refl ∙ ap (λ (k : ℕ). pick (eqb k 0) (v + 1 - 1) (parentAt t k)) e
-      ∙ sym (parentAt-step (a .sound) (v + 1) (omega arith) (omega arith)))
-    where
-      go : (b : Bool) → eqb u 0 ≡ b → pick (eqb u 0) (v + 1 - 1) (getD l u 0) ≡ pick (eqb u 0) (v + 1 - 1) (parentAt t u)
-      go true p = pick-true (eqb u 0) (v + 1 - 1) (getD l u 0) p ∙ sym (pick-true (eqb u 0) (v + 1 - 1) (parentAt t u) p)
-      go false p =
-          let other : u ≡ 0 → ⊥ = eqb-false u 0 p in
-          ap (pick (eqb u 0) (v + 1 - 1)) (row u (omega arith) (omega (arith, prevAt-less t (v + 1) (omega arith))))
+    go : (b : Bool) → eqb u 0 ≡ b → pick (eqb u 0) (v + 1 - 1) (getD l u 0) ≡ pick (eqb u 0) (v + 1 - 1) (parentAt t u)
+    go true p = pick-true (eqb u 0) (v + 1 - 1) (getD l u 0) p ∙ sym (pick-true (eqb u 0) (v + 1 - 1) (parentAt t u) p)
+    go false p =
+        let other : u ≡ 0 → ⊥ = eqb-false u 0 p in
+        ap (pick (eqb u 0) (v + 1 - 1)) (row u (omega arith) (omega (arith, prevAt-less t (v + 1) (omega arith))))
 
 -- ---- Pages
 
@@ -111,7 +90,7 @@ pick-more true n = refl
 pick-more false n = omega arith
 
 -- one more page where a run begins
-pub count-turn : (m : List ℕ) (v mark pages next : ℕ) → pages ≡ countTo v (hasMark m begins) → mark ≡ markAt m (v + 1)
+count-turn : (m : List ℕ) (v mark pages next : ℕ) → pages ≡ countTo v (hasMark m begins) → mark ≡ markAt m (v + 1)
     → next ≡ pick (eqb mark 1) (pages + 1) pages → next ≡ countTo (v + 1) (hasMark m begins)
 count-turn m v mark pages next h e q =
     q ∙ ap₂ (λ (k n : ℕ). pick (eqb k 1) (n + 1) n) e h
@@ -124,65 +103,62 @@ module _ (t m : List ℕ) where
   home-is l v zero row root high = root ∙ sym (pageOf-none t m)
   home-is l v (suc u) row root high = row (suc u) (omega arith) high
 
-  pub page-turn : (l : List ℕ) (v mark next home x : ℕ) → Row v (pageOf t m) l → getD l 0 0 ≡ 0 → v + 1 < length l
-      → mark ≡ markAt m (v + 1) → next ≡ countTo (v + 1) (hasMark m begins) → home ≡ stepBack t m (v + 1)
-      → x ≡ pick (eqb mark 1) next (getD l home 0) → Row (v + 1) (pageOf t m) (set l (v + 1) x)
-  page-turn l v mark next home x row root fits e q back r =
-      row-add (pageOf t m) l v x row fits
-      (r
-      ∙ ap (λ (k : ℕ). pick (eqb mark 1) next k) there
-      ∙ ap₂ (λ (k j : ℕ). pick (eqb k 1) j (pageOf t m (stepBack t m (v + 1)))) e q
-      ∙ sym (pageOf-step t m (v + 1) (omega arith)))
-    where
-      there : getD l home 0 ≡ pageOf t m (stepBack t m (v + 1))
-      there =
-          home-is l v home row root (omega (arith, back-less t m (v + 1) (omega arith), back)) ∙ ap (pageOf t m) back
+  -- the node one step back
+  back-is : (v mark u parent home : ℕ) → mark ≡ markAt m v → u ≡ prevAt t v → parent ≡ parentAt t v → home ≡ pick (eqb mark 2) u parent
+      → home ≡ stepBack t m v
+  back-is v mark u parent home e a b h =
+      h ∙ ap₂ (λ (i j : ℕ). pick (eqb mark 2) i j) a b ∙ ap (λ (k : ℕ). pick (eqb k 2) (prevAt t v) (parentAt t v)) e
 
-  -- the node one step back, by the rows of siblings and of parents
-  pub home-back : (before parents : List ℕ) (n v mark home : ℕ) → Row n (prevAt t) before → Row n (parentAt t) parents → v < n
-      → mark ≡ markAt m (v + 1) → home ≡ pick (eqb mark 2) (getD before (v + 1) 0) (getD parents (v + 1) 0)
-      → home ≡ stepBack t m (v + 1)
-  home-back before parents n v mark home rb rp less e g =
-      g
-      ∙ ap₂ (λ (i j : ℕ). pick (eqb mark 2) i j) (rb (v + 1) (omega arith) (omega arith)) (rp (v + 1) (omega arith) (omega arith))
-      ∙ ap (λ (k : ℕ). pick (eqb k 2) (prevAt t (v + 1)) (parentAt t (v + 1))) e
+  page-is : (l : List ℕ) (v mark next home x : ℕ) → Row v (pageOf t m) l → getD l 0 0 ≡ 0 → mark ≡ markAt m (v + 1)
+      → next ≡ countTo (v + 1) (hasMark m begins) → home ≡ stepBack t m (v + 1) → x ≡ pick (eqb mark 1) next (getD l home 0)
+      → x ≡ pageOf t m (v + 1)
+  page-is l v mark next home x row root e q back r =
+      r
+      ∙ ap (λ (k : ℕ). pick (eqb mark 1) next k)
+      (home-is l v home row root (omega (arith, back-less t m (v + 1) (omega arith), back)) ∙ ap (pageOf t m) back)
+      ∙ ap₂ (λ (k j : ℕ). pick (eqb k 1) j (pageOf t m (stepBack t m (v + 1)))) e q
+      ∙ sym (pageOf-step t m (v + 1) (omega arith))
 
 -- ---- Weights
 
-abbrev pub Weighed : List ℕ → List ℕ → ℕ → List ℕ → Type 0
-Weighed t page v l = (p : ℕ) → p < slots → getD l p 0 ≡ weightOn v t page p
+-- the weight of those of the nodes 1 to v that the plan has on page p
+unfoldable pub weightTo : ℕ → List ℕ → List ℕ → ℕ → ℕ
+weightTo v t m p = sumTo v (λ u. pick (eqb (pageOf t m u) p) (weightAt t u) 0)
 
-pub weights-start : (t page l : List ℕ) → ((w : ℕ) → w < slots → getD l w 0 ≡ 0) → Weighed t page 0 l
-unfolding weightOn
-weights-start t page l h p fits = h p fits ∙ sym (sumTo-zero (λ v. pick (eqb (getD page v 0) p) (weightAt t v) 0))
+abbrev Weighed : List ℕ → List ℕ → ℕ → List ℕ → Type 0
+Weighed t m v l = (p : ℕ) → p < slots → getD l p 0 ≡ weightTo v t m p
 
-weightOn-suc : (v : ℕ) (t page : List ℕ) (p : ℕ)
-    → weightOn (suc v) t page p ≡ weightOn v t page p + pick (eqb (getD page (suc v) 0) p) (weightAt t (suc v)) 0
-unfolding weightOn
-weightOn-suc v t page p = sumTo-suc v (λ u. pick (eqb (getD page u 0) p) (weightAt t u) 0)
+weights-start : (t m l : List ℕ) → ((w : ℕ) → w < slots → getD l w 0 ≡ 0) → Weighed t m 0 l
+unfolding weightTo
+weights-start t m l h p fits = h p fits ∙ sym (sumTo-zero (λ v. pick (eqb (pageOf t m v) p) (weightAt t v) 0))
 
-pub weights-turn : (t page l : List ℕ) (v q w : ℕ) → Weighed t page v l → length l ≡ slots → q ≡ getD page (v + 1) 0 → q < slots
-    → w ≡ weightAt t (v + 1) → Weighed t page (v + 1) (set l q (getD l q 0 + w))
-weights-turn t page l v q w h long e fits g p within = rw (add-one v) (go (eqb p q) refl ∙ sym (weightOn-suc v t page p))
+weightTo-suc : (v : ℕ) (t m : List ℕ) (p : ℕ)
+    → weightTo (suc v) t m p ≡ weightTo v t m p + pick (eqb (pageOf t m (suc v)) p) (weightAt t (suc v)) 0
+unfolding weightTo
+weightTo-suc v t m p = sumTo-suc v (λ u. pick (eqb (pageOf t m u) p) (weightAt t u) 0)
+
+weights-turn : (t m l : List ℕ) (v q w : ℕ) → Weighed t m v l → length l ≡ slots → q ≡ pageOf t m (v + 1) → q < slots
+    → w ≡ weightAt t (v + 1) → Weighed t m (v + 1) (set l q (getD l q 0 + w))
+weights-turn t m l v q w h long e fits g p within = rw (add-one v) (go (eqb p q) refl ∙ sym (weightTo-suc v t m p))
   where
-    here : q ≡ getD page (suc v) 0
-    here = e ∙ ap (λ (k : ℕ). getD page k 0) (add-one v)
+    here : q ≡ pageOf t m (suc v)
+    here = e ∙ ap (pageOf t m) (add-one v)
 
     go : (b : Bool) → eqb p q ≡ b
-        → getD (set l q (getD l q 0 + w)) p 0 ≡ weightOn v t page p + pick (eqb (getD page (suc v) 0) p) (weightAt t (suc v)) 0
+        → getD (set l q (getD l q 0 + w)) p 0 ≡ weightTo v t m p + pick (eqb (pageOf t m (suc v)) p) (weightAt t (suc v)) 0
     go true s =
         let same : p ≡ q = eqb-true p q s in
-        let test : eqb (getD page (suc v) 0) p ≡ true = eq-eqb (getD page (suc v) 0) p (sym here ∙ sym same) in
+        let test : eqb (pageOf t m (suc v)) p ≡ true = eq-eqb (pageOf t m (suc v)) p (sym here ∙ sym same) in
         ap (λ (k : ℕ). getD (set l q (getD l q 0 + w)) k 0) same
         ∙ getD-set-same l q (getD l q 0 + w) 0 (omega arith)
         ∙ ap₂ (λ (i j : ℕ). i + j) (ap (λ (k : ℕ). getD l k 0) (sym same) ∙ h p within)
-        (g ∙ ap (weightAt t) (add-one v) ∙ sym (pick-true (eqb (getD page (suc v) 0) p) (weightAt t (suc v)) 0 test))
+        (g ∙ ap (weightAt t) (add-one v) ∙ sym (pick-true (eqb (pageOf t m (suc v)) p) (weightAt t (suc v)) 0 test))
     go false s =
         let other : p ≡ q → ⊥ = eqb-false p q s in
-        let test : eqb (getD page (suc v) 0) p ≡ false = ne-eqb (getD page (suc v) 0) p (λ z. other (sym z ∙ sym here)) in
+        let test : eqb (pageOf t m (suc v)) p ≡ false = ne-eqb (pageOf t m (suc v)) p (λ z. other (sym z ∙ sym here)) in
         getD-set-other l q p (getD l q 0 + w) 0 other
         ∙ h p within
-        ∙ omega (arith, pick-false (eqb (getD page (suc v) 0) p) (weightAt t (suc v)) 0 test)
+        ∙ omega (arith, pick-false (eqb (pageOf t m (suc v)) p) (weightAt t (suc v)) 0 test)
 
 module _ {t : List ℕ} (a : AcceptedFacts t) where
   pick-most : (b : Bool) (x k : ℕ) → x ≤ k → pick b x 0 ≤ k
@@ -190,44 +166,141 @@ module _ {t : List ℕ} (a : AcceptedFacts t) where
   pick-most true x k h = h
   pick-most false x k h = omega arith
 
-  -- a page weighs less than the limit for each node
-  pub weight-most : (page : List ℕ) (v p : ℕ) → v ≤ nodeCount t → weightOn v t page p ≤ v * 1024
-  unfolding weightOn
-  weight-most page v p high =
-      sumTo-most v 1024 (λ u. pick (eqb (getD page u 0) p) (weightAt t u) 0)
-      (λ u c d. pick-most (eqb (getD page u 0) p) (weightAt t u) 1024 (omega (arith, a .light u c (omega arith), a .sound .limit-high)))
-
--- ---- The end
-
-pub row-end : (f : ℕ → ℕ) (l : List ℕ) (n v : ℕ) → Row v f l → v ≤ n → n ≤ v → Row n f l
-row-end f l n v row le ge u low high = row u low (omega arith)
-
-pub weights-end : (t page l : List ℕ) (n v : ℕ) → Weighed t page v l → v ≤ n → n ≤ v → Weighed t page n l
-weights-end t page l n v h le ge = let same : v ≡ n = omega arith in rw same at h
+  -- a page weighs no more than the limit for each node
+  weight-most : (m : List ℕ) (v p : ℕ) → v ≤ nodeCount t → weightTo v t m p ≤ v * 1024
+  unfolding weightTo
+  weight-most m v p high =
+      sumTo-most v 1024 (λ u. pick (eqb (pageOf t m u) p) (weightAt t u) 0)
+      (λ u c d. pick-most (eqb (pageOf t m u) p) (weightAt t u) 1024 (omega (arith, a .light u c (omega arith), a .sound .limit-high)))
 
 -- ---- Marks
 
-pub good-case : (t m : List ℕ) (v : ℕ) → goodCase v (markAt m v) (prevAt t v) (markAt m (prevAt t v)) ≡ goodMark t m v
+good-case : (t m : List ℕ) (v : ℕ) → goodCase v (markAt m v) (prevAt t v) (markAt m (prevAt t v)) ≡ goodMark t m v
 unfolding goodCase goodMark inRun
 good-case t m v = refl
 
-pub good-is : (t m : List ℕ) (v mark u prior : ℕ) (g : Bool) → g ≡ goodCase v mark u prior → mark ≡ markAt m v → u ≡ prevAt t v → prior ≡ markAt m u
-    → g ≡ goodMark t m v
+good-is : (t m : List ℕ) (v mark u prior : ℕ) (g : Bool) → g ≡ goodCase v mark u prior → mark ≡ markAt m v → u ≡ prevAt t v
+    → prior ≡ markAt m u → g ≡ goodMark t m v
 good-is t m v mark u prior g e a b d =
     e ∙ ap₂ (λ (i j : ℕ). goodCase v i u j) a d
     ∙ ap (λ (k : ℕ). goodCase v (markAt m v) k (markAt m k)) b
     ∙ good-case t m v
 
+-- the first bad mark so far, or else that of the turn
+bad-turn : (t m : List ℕ) (v : ℕ) (bad next : Place) (good : Bool) → bad ≡ firstTo v (λ u. not (goodMark t m u)) → good ≡ goodMark t m (v + 1)
+    → next ≡ atPlace bad At (when (not good) (v + 1)) → next ≡ firstTo (v + 1) (λ u. not (goodMark t m u))
+bad-turn t m v bad next good h e q =
+    q ∙ ap₂ (λ (o : Place) (b : Bool). atPlace o At (when (not b) (v + 1))) h e
+    ∙ rw (add-one v) (sym (firstTo-suc v (λ u. not (goodMark t m u))))
+
+-- ---- The pass
+
+-- what stands in the arrays after the nodes 1 to v
+pub record Pass (t m : List ℕ) (v : ℕ) (before parents page weights : List ℕ) (pages : ℕ) (bad : Place) : Type 0 where
+  pub befores : Before t v before
+  pub fathers : Row v (parentAt t) parents
+  pub laid : Row v (pageOf t m) page
+  pub none : getD page 0 0 ≡ 0
+  pub weighed : Weighed t m v weights
+  pub counted : pages ≡ countTo v (hasMark m begins)
+  pub first-bad : bad ≡ firstTo v (λ u. not (goodMark t m u))
+
+pub pass-start : (t m : List ℕ) → Pass t m 0 (replicate slots 0) (replicate slots 0) (replicate slots 0) (replicate slots 0) 0 Nowhere
+pass-start t m =
+    let zeros : (w : ℕ) → w < slots → _≡_ {A = ℕ} (getD (replicate slots 0) w 0) 0 = λ w fits. getD-replicate slots w 0 0 fits in
+    record {
+      befores = before-start t (replicate slots 0) zeros;
+      fathers = λ u low high. absurd (omega arith);
+      laid = λ u low high. absurd (omega arith);
+      none = zeros 0 (omega arith);
+      weighed = weights-start t m (replicate slots 0) zeros;
+      counted = sym (countTo-zero (hasMark m begins));
+      first-bad = sym (firstTo-zero (λ u. not (goodMark t m u)));
+    }
+
+-- the turn of node v + 1: what its locals are, and that they have places in the arrays
+module _ {t m : List ℕ} {v : ℕ} {before parents page weights : List ℕ} {pages : ℕ} {bad : Place} (a : AcceptedFacts t)
+    (h : Pass t m v before parents page weights pages bad) (less : v < nodeCount t) where
+  u-is : getD before (v + 1) 0 ≡ prevAt t (v + 1)
+  u-is = prior-is t before v (h .befores) (omega (arith, a .sound .count-high))
+
+  pub u-fits : getD before (v + 1) 0 < slots
+  u-fits = omega (arith, u-is, prevAt-less t (v + 1) (omega arith), a .sound .count-high)
+
+  pub next-fits : nextAt t (v + 1) < slots
+  next-fits = omega (arith, next-le (a .sound) (v + 1) (omega arith) (omega arith), a .sound .count-high)
+
+  pub count-fits : pages ≤ v
+  count-fits = omega (arith, h .counted, countTo-le v (hasMark m begins))
+
+  -- the node one step back of it
+  module _ (mark parent home : ℕ) (mark-is : mark ≡ markAt m (v + 1))
+      (parent-as : parent ≡ pick (eqb (getD before (v + 1) 0) 0) (v + 1 - 1) (getD parents (getD before (v + 1) 0) 0))
+      (home-as : home ≡ pick (eqb mark 2) (getD before (v + 1) 0) parent) where
+    back-here : home ≡ stepBack t m (v + 1)
+    back-here =
+        back-is t m (v + 1) mark (getD before (v + 1) 0) parent home mark-is u-is
+        (parent-is a parents v (getD before (v + 1) 0) parent (h .fathers) less u-is parent-as) home-as
+
+    pub home-fits : home < slots
+    home-fits = omega (arith, back-here, back-less t m (v + 1) (omega arith), a .sound .count-high)
+
+    pub page-here : (next p : ℕ) → next ≡ pick (eqb mark 1) (pages + 1) pages → p ≡ pick (eqb mark 1) next (getD page home 0)
+        → p ≡ pageOf t m (v + 1)
+    page-here next p next-as p-as =
+        page-is t m page v mark next home p (h .laid) (h .none) mark-is (count-turn m v mark pages next (h .counted) mark-is next-as)
+        back-here p-as
+
+  pub page-fits : (p : ℕ) → p ≡ pageOf t m (v + 1) → p < slots
+  page-fits p e = omega (arith, e, pageOf-le t m (v + 1), a .sound .count-high)
+
+  pub sum-fits : (p : ℕ) → p ≡ pageOf t m (v + 1) → getD weights p 0 ≤ 1048576
+  sum-fits p e = omega (arith, h .weighed p (page-fits p e), weight-most a m v p (omega arith), a .sound .count-high)
+
+  pub pass-turn : (mark parent next p w x : ℕ) (good : Bool) (prior : ℕ) (bad′ : Place) → length before ≡ slots → length parents ≡ slots
+      → length page ≡ slots → length weights ≡ slots → mark ≡ markAt m (v + 1) → prior ≡ markAt m (getD before (v + 1) 0)
+      → good ≡ goodCase (v + 1) mark (getD before (v + 1) 0) prior → bad′ ≡ atPlace bad At (when (not good) (v + 1))
+      → parent ≡ pick (eqb (getD before (v + 1) 0) 0) (v + 1 - 1) (getD parents (getD before (v + 1) 0) 0)
+      → next ≡ pick (eqb mark 1) (pages + 1) pages → p ≡ pageOf t m (v + 1) → w ≡ weightAt t (v + 1) → x ≡ nextAt t (v + 1)
+      → Pass t m (v + 1) (set before x (v + 1)) (set parents (v + 1) parent) (set page (v + 1) p) (set weights p (getD weights p 0 + w)) next bad′
+  pass-turn mark parent next p w x good prior bad′ lb lp lg lw mark-is prior-as good-as bad-as parent-as next-as p-is w-is x-is =
+      let small = a .sound .count-high in
+      let other : 0 ≡ v + 1 → ⊥ = omega arith in
+      record {
+        befores = before-turn t before v x (h .befores) lb x-is (omega (arith, x-is, next-fits));
+        fathers =
+            row-add (parentAt t) parents v parent (h .fathers) (omega arith)
+            (parent-is a parents v (getD before (v + 1) 0) parent (h .fathers) less u-is parent-as);
+        laid = row-add (pageOf t m) page v p (h .laid) (omega arith) p-is;
+        none = getD-set-other page (v + 1) 0 p 0 other ∙ h .none;
+        weighed = weights-turn t m weights v p w (h .weighed) lw p-is (page-fits p p-is) w-is;
+        counted = count-turn m v mark pages next (h .counted) mark-is next-as;
+        first-bad =
+            bad-turn t m v bad bad′ good (h .first-bad)
+            (good-is t m (v + 1) mark (getD before (v + 1) 0) prior good good-as mark-is u-is prior-as) bad-as;
+      }
+
+pub pass-end : {t m : List ℕ} {v : ℕ} {before : List ℕ} → (r : Layout) → Pass t m v before (r .parents) (r .page) (r .weights) (r .pages) (r .bad)
+    → v ≤ nodeCount t → nodeCount t ≤ v → Laid t m r
+unfolding weightTo pageWeight pageCount badMark
+pass-end {t} {m} {v} {before} r h le ge =
+    let same : v ≡ nodeCount t = omega arith in
+    let all = rw same at h in
+    record {
+      parents-are = all .fathers;
+      page-is = all .laid;
+      weights-are = all .weighed;
+      pages-are = all .counted;
+      bad-is = all .first-bad;
+    }
+
 -- ---- Heavy pages
 
-pub heavy-is : {t : List ℕ} → AcceptedFacts t → (m page weights : List ℕ) (pages limit : ℕ) (o : Place)
-    → o ≡ firstTo pages (λ p. ltb limit (getD weights p 0)) → pages ≡ pageCount t m → limit ≡ limitOf t
-    → Weighed t page (nodeCount t) weights → Row (nodeCount t) (pageOf t m) page → o ≡ heavyPage t m
+pub heavy-is : {t : List ℕ} → AcceptedFacts t → (m : List ℕ) (r : Layout) (limit : ℕ) (o : Place) → Laid t m r
+    → o ≡ firstTo (r .pages) (λ p. ltb limit (getD (r .weights) p 0)) → limit ≡ limitOf t → o ≡ heavyPage t m
 unfolding heavyPage
-heavy-is {t} a m page weights pages limit o e b d h row =
+heavy-is {t} a m r limit o laid e d =
     e
-    ∙ ap₂ (λ (n k : ℕ). firstTo n (λ p. ltb k (getD weights p 0))) b d
-    ∙ firstTo-cong (pageCount t m) (λ p. ltb (limitOf t) (getD weights p 0)) (λ p. ltb (limitOf t) (pageWeight t m p))
-    (λ p low high.
-    ap (ltb (limitOf t))
-    (h p (omega (arith, pageCount-le t m, a .sound .count-high)) ∙ weights-page t m page p row))
+    ∙ ap₂ (λ (n k : ℕ). firstTo n (λ p. ltb k (getD (r .weights) p 0))) (laid .pages-are) d
+    ∙ firstTo-cong (pageCount t m) (λ p. ltb (limitOf t) (getD (r .weights) p 0)) (λ p. ltb (limitOf t) (pageWeight t m p))
+    (λ p low high. ap (ltb (limitOf t)) (laid .weights-are p (omega (arith, pageCount-le t m, a .sound .count-high))))

@@ -1,15 +1,15 @@
--- Defines what the arrays of the judge hold, and the test of a mark by numbers. The weights of a plan's pages are those that the row
--- of its pages gives. Assumes nothing.
-use Prim.Native.Nat.{ℕ, _+_}
-use mathlib.Core.Path.{_≡_, ap}
+-- Defines what the arrays of the judge hold, what its pass over a plan finds, and the test of a mark by numbers. Assumes nothing.
+use Prim.Native.Nat.{ℕ, _+_, _<_}
+use mathlib.Core.Path.{_≡_}
 use mathlib.Core.Bool.{Bool, not, _&&_, _||_}
 use mathlib.Core.List.{List}
 use lib.ListN.{getD}
 use lib.Dec.{eqb}
-use Rattle.model.specs.Basics.{pick, sumTo}
-use Rattle.model.specs.Table.{maxNodes, nodeCount, weightAt}
-use Rattle.model.specs.Plan.{pageOf, pageWeight}
-use Rattle.theory.specs.Ranges.{Upto, sumTo-cong}
+use Rattle.model.specs.Basics.{pick}
+use Rattle.model.specs.Table.{maxNodes, nodeCount}
+use Rattle.model.specs.Plan.{parentAt, pageOf, pageWeight, pageCount, badMark}
+use Rattle.theory.specs.Ranges.{Upto}
+use Rattle.judge.specs.declared.pages.Layout.{Layout}
 
 -- a place for each node and for each page, by number, and one for 0
 abbrev pub slots : ℕ
@@ -25,13 +25,10 @@ goodCase v mark before prior =
     pick (eqb v 1) (eqb mark 1)
     (pick (eqb mark 2) (not (eqb before 0) && (eqb prior 1 || eqb prior 2)) (eqb mark 0 || eqb mark 1))
 
--- the weight of those of the nodes 1 to n that a list of pages has on page p
-unfoldable pub weightOn : ℕ → List ℕ → List ℕ → ℕ → ℕ
-weightOn n t page p = sumTo n (λ v. pick (eqb (getD page v 0) p) (weightAt t v) 0)
-
--- the weights of a row of pages are those of the plan
-pub weights-page : (t m page : List ℕ) (p : ℕ) → Row (nodeCount t) (pageOf t m) page → weightOn (nodeCount t) t page p ≡ pageWeight t m p
-unfolding weightOn pageWeight
-weights-page t m page p row =
-    sumTo-cong (nodeCount t) (λ v. pick (eqb (getD page v 0) p) (weightAt t v) 0) (λ v. pick (eqb (pageOf t m v) p) (weightAt t v) 0)
-    (λ v low high. ap (λ (k : ℕ). pick (eqb k p) (weightAt t v) 0) (row v low high))
+-- what the plan m makes of the tree t
+pub record Laid (t m : List ℕ) (r : Layout) : Type 0 where
+  pub parents-are : Row (nodeCount t) (parentAt t) (r .parents)
+  pub page-is : Row (nodeCount t) (pageOf t m) (r .page)
+  pub weights-are : (p : ℕ) → p < slots → getD (r .weights) p 0 ≡ pageWeight t m p
+  pub pages-are : r .pages ≡ pageCount t m
+  pub bad-is : r .bad ≡ badMark t m

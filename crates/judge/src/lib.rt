@@ -2,15 +2,10 @@
 pub mod marks;
 pub mod pages;
 
-use marks::first_bad_mark;
 use model::Answer;
 use model::Verdict;
-use pages::count_pages;
-use pages::find_before;
-use pages::find_parents;
 use pages::first_heavy;
-use pages::lay_pages;
-use pages::weigh_pages;
+use pages::lay_plan;
 use table::earlier;
 use table::read_tree;
 use table::refuse;
@@ -40,14 +35,10 @@ fn judge_marks(table: &[u8], marks: &[u8]) -> Answer
     requires { ⌜ AcceptedFacts (now table) ⌝ }
     ensures { λ r. ⌜ r ≡ planAnswer (now (table .entry)) (now (marks .entry)) ⌝ }
 {
-    let before = find_before(table);
-    let bad = first_bad_mark(table, marks, &before);
-    let parents = find_parents(table, &before);
-    let page = lay_pages(table, marks, &before, &parents);
-    let weights = weigh_pages(table, &page);
-    let pages = count_pages(table, marks);
-    let heavy = first_heavy(&weights, pages, limit_of(table));
-    earlier(10, bad, earlier(11, heavy, accept_plan(pages, weights[1])))
+    let plan = lay_plan(table, marks);
+    let heavy = first_heavy(&plan.weights, plan.pages, limit_of(table));
+    let verdict = accept_plan(plan.pages, plan.weights[1]);
+    earlier(10, plan.bad, earlier(11, heavy, verdict))
 }
 
 // Entry: the judge of plans.
