@@ -1,8 +1,8 @@
 -- Parts of the reader's own arrays, and its answers. Assumes nothing.
-use Prim.Native.Nat.{ℕ, _+_, _*_, _≤_, _<_}
+use Prim.Native.Nat.{ℕ, _+_, _≤_}
 use native.Mathlib.Omega.{arith}
 use mathlib.Core.Bool.{true}
-use mathlib.Core.Path.{_≡_, refl, sym, _∙_, ap, ap₂}
+use mathlib.Core.Path.{_≡_, sym, _∙_, ap, ap₂}
 use mathlib.Core.List.{List, _++_}
 use lib.ListN.{length, take, replicate, length-append, length-replicate}
 use lib.Seq.{length-take-le, take-at}
@@ -10,7 +10,7 @@ use Rattle.model.specs.Basics.{sameList}
 use Rattle.model.specs.Table.{nodeCount, tableBytes}
 use Rattle.model.specs.Plan.{verdictOf}
 use Rattle.model.specs.Archive.{tableIn, marksIn}
-use Rattle.model.specs.Refusals.{refused, accepted, isArchive, readArchive}
+use Rattle.model.specs.Refusals.{accepted, isArchive, readArchive}
 use Rattle.model.specs.declared.Answer.{Answer}
 use Rattle.theory.specs.ArchiveAnswers.{read-none, read-done}
 use Rattle.archive.specs.Answers.{restored, CopyJudged, not-archive}

@@ -1,25 +1,23 @@
 -- One turn of each pass of the writer and the reader, and what a pass has at its end. Assumes nothing.
-use Prim.Native.Nat.{ℕ, zero, suc, _+_, _-_, _*_, _≤_, _<_}
+use Prim.Native.Nat.{ℕ, suc, _+_, _-_, _*_, _≤_, _<_}
 use native.Mathlib.Omega.{arith}
-use mathlib.Core.Bool.{Bool, true, false, not, _&&_, true≢false}
+use mathlib.Core.Bool.{true, false, not, _&&_, true≢false}
 use mathlib.Core.Path.{_≡_, refl, sym, _∙_, ap}
-use mathlib.Core.List.{List, [], _∷_, _++_}
+use mathlib.Core.List.{List, [], _∷_}
 use lib.ListN.{length, getD}
 use lib.Dec.{eqb}
 use borrow.Author.Tests.{eqb-true, eqb-false, eq-eqb, ne-eqb, not-true}
-use Rattle.model.specs.Basics.{pick, countTo}
+use Rattle.model.specs.Basics.{countTo}
 use Rattle.model.specs.Table.{nodeCount, limitOf, weightAt, labelAt, nextAt}
 use Rattle.model.specs.Plan.{begins, continues, markAt, hasMark, runLast, pageOf, pageCount, pageWeight}
 use Rattle.model.specs.Archive.{nextPage, nextOnPage, archiveBytes}
 use Rattle.theory.specs.Sound.{SoundFacts, AcceptedFacts, both-true}
 use Rattle.theory.specs.JudgePages.{pageOf-le}
-use Rattle.judge.specs.Rows.{weightOn}
 use Rattle.theory.specs.Links.{next-later, next-le}
 use Rattle.theory.specs.Siblings.{and-true}
 use Rattle.theory.specs.RunMarks.{runLast-on, runLast-stop}
-use Rattle.theory.specs.Ranges.{Upto, sumTo-cong, countTo-yes, countTo-no, countTo-le}
+use Rattle.theory.specs.Ranges.{Upto, countTo-yes, countTo-no, countTo-le}
 use Rattle.theory.specs.Chosen.{countTo-mono}
-use Rattle.theory.specs.ArchiveBack.{Planned, planned-light}
 use native.Mathlib.Numerals.{add-one}
 use Rattle.archive.specs.Put.{putWord, length-putWord, putRecord, length-putRecord, Starts, starts-none, starts-word, starts-record}
 use Rattle.archive.specs.Onward.{nextWith, nextWith-cong}
@@ -62,10 +60,6 @@ pub record-length : (out out′ : List ℕ) (i a b c d : ℕ) → out′ ≡ put
 record-length out out′ i a b c d e = ap length e ∙ length-putRecord out i a b c d
 
 -- ---- Page records
-
-pub pageCount-le : (t m : List ℕ) → pageCount t m ≤ nodeCount t
-unfolding pageCount
-pageCount-le t m = countTo-le (nodeCount t) (hasMark m begins)
 
 module _ (t m : List ℕ) (v page : ℕ) (here : page ≡ countTo v (hasMark m begins)) where
   pub page-no : (markAt m (v + 1) ≡ 1 → ⊥) → page ≡ countTo (v + 1) (hasMark m begins)
@@ -127,13 +121,6 @@ head-start t m o o′ n k p e n-is k-is p-is room =
 pub all-pages-length : (t m : List ℕ) → length (pagesUpto t m (nodeCount t)) ≡ 3 + 4 * pageCount t m
 unfolding pageCount
 all-pages-length t m = length-pagesUpto t m (nodeCount t)
-
-pub weights-page : (t m page : List ℕ) (p : ℕ) → Upto (nodeCount t) (λ v. getD page v 0 ≡ pageOf t m v)
-    → weightOn (nodeCount t) t page p ≡ pageWeight t m p
-unfolding weightOn pageWeight
-weights-page t m page p row =
-    sumTo-cong (nodeCount t) (λ v. pick (eqb (getD page v 0) p) (weightAt t v) 0) (λ v. pick (eqb (pageOf t m v) p) (weightAt t v) 0)
-    (λ v low high. ap (λ k. pick (eqb k p) (weightAt t v) 0) (row v low high))
 
 -- the next node of the same page, from the pages of the nodes
 pub onward-is : (t m page onward : List ℕ) (n : ℕ) → n ≡ nodeCount t → Upto (nodeCount t) (λ v. getD page v 0 ≡ pageOf t m v)

@@ -1,6 +1,6 @@
 -- What the archive's entries promise: an answer with what is left in the lent buffers; and what the reader learns of a candidate.
 -- Defines written, restored, CopyJudged. Assumes nothing.
-use Prim.Native.Nat.{ℕ, _≤_, _<_}
+use Prim.Native.Nat.{ℕ, _<_}
 use native.Mathlib.Omega.{arith}
 use mathlib.Core.Bool.{true, false, _&&_, true≢false}
 use mathlib.Core.Path.{_≡_, refl, sym, _∙_, ap, ap₂}

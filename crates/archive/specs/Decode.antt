@@ -1,29 +1,24 @@
--- What the reader decodes: parents, links, the rows of the tree's table, the run ends and the marks. What it decodes of an archive is the
--- tree and the plan that the archive tells.
--- Defines Told, treeRow, endOf, dueAt, lastUpto. Assumes nothing.
-use Prim.Native.Nat.{ℕ, zero, suc, _+_, _-_, _*_, _≤_, _<_}
+-- What the reader decodes: parents, links and the rows of the tree's table. What it decodes of an archive is the tree that the archive
+-- tells.
+-- Defines Told, Loaded, fitted, treeRow, treeUpto. Assumes nothing.
+use Prim.Native.Nat.{ℕ, _+_, _-_, _*_, _≤_, _<_}
 use native.Mathlib.Omega.{arith}
 use native.Mathlib.Numerals.{add-one}
-use mathlib.Core.Bool.{Bool, true, false, not, _&&_, _||_, true≢false, false≢true}
-use mathlib.Core.Path.{_≡_, refl, sym, _∙_, ap, ap₂}
-use mathlib.Core.Logic.{_⊎_, inl, inr}
+use mathlib.Core.Bool.{Bool, true, false}
+use mathlib.Core.Path.{_≡_, refl, sym, _∙_, ap}
 use mathlib.Core.List.{List, [], _∷_, _++_}
 use lib.ListN.{length, getD, set}
 use lib.Seq.{getD-set-same, getD-set-other}
-use lib.Dec.{eqb, ltb, leb}
-use borrow.Author.Tests.{eqb-true, eqb-false, eq-eqb, ne-eqb, ltb-true, ltb-false, lt-ltb, le-ltb, leb-true, leb-false, le-leb, lt-leb}
-use Rattle.model.specs.Basics.{pick, countTo, listTo}
-use Rattle.model.specs.Table.{bytesOf, nodeCount, limitOf, nextAt, tableBytes}
-use Rattle.model.specs.Plan.{prevAt, parentAt, begins, continues, stays, markAt, hasMark, pageCount, runLast}
-use Rattle.model.specs.Archive.{archiveOf, pagesIn, pageFieldIn, nodeFieldIn, parentIn, firstIn, nextIn, tableIn, markIn, marksIn}
+use lib.Dec.{eqb, ltb}
+use borrow.Author.Tests.{eqb-true, eqb-false, ltb-true, lt-ltb}
+use Rattle.model.specs.Basics.{pick, listTo}
+use Rattle.model.specs.Table.{bytesOf, nodeCount, limitOf, nextAt}
+use Rattle.model.specs.Plan.{parentAt, pageCount, runLast}
+use Rattle.model.specs.Archive.{archiveOf, pagesIn, pageFieldIn, nodeFieldIn, parentIn, firstIn, nextIn, tableIn, marksIn}
 use Rattle.model.specs.Refusals.{isArchive}
-use Rattle.theory.specs.Ranges.{Upto, pick-true, pick-false, listTo-zero, listTo-suc, listTo-cong, append-nil, countTo-zero, countTo-le}
-use Rattle.theory.specs.Sound.{SoundFacts, AcceptedFacts}
-use Rattle.theory.specs.Links.{next-later, next-le, prevAt-less, prevAt-next, next-prev, parentAt-less}
-use Rattle.theory.specs.Siblings.{order-cases, and-true, and-false-left, and-false-right}
-use Rattle.theory.specs.Chosen.{Ranked, ranked-one, countTo-mono, countTo-pass}
-use Rattle.theory.specs.RunMarks.{GoodMarks, good-marks, runLast-on, runLast-stop, runLast-low, runLast-high}
-use Rattle.theory.specs.ArchiveWords.{Page, page-first, length-fours, archive-nodes, archive-pages, archive-page, archive-parent}
+use Rattle.theory.specs.Ranges.{Upto, pick-true, pick-false, listTo-zero, listTo-suc, listTo-cong}
+use Rattle.theory.specs.Links.{parentAt-less}
+use Rattle.theory.specs.ArchiveWords.{Page, length-fours, archive-nodes, archive-pages, archive-page, archive-parent}
 use Rattle.theory.specs.ArchiveBack.{Planned, feasible-planned, read-write, archive-next}
 use Rattle.archive.specs.Put.{putRecord, Starts, starts-record}
 use Rattle.archive.specs.Onward.{nextWith, nextWith-cong}

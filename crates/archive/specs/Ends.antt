@@ -3,14 +3,14 @@
 -- Defines endOf, dueAt, lastAt, runEnd, markFor. Assumes nothing.
 use Prim.Native.Nat.{ℕ, zero, suc, _+_, _-_, _≤_, _<_}
 use native.Mathlib.Omega.{arith}
-use mathlib.Core.Bool.{Bool, true, false, _&&_, _||_, true≢false, false≢true}
+use mathlib.Core.Bool.{Bool, true, false, _&&_, _||_}
 use mathlib.Core.Path.{_≡_, refl, sym, _∙_, ap, ap₂}
 use mathlib.Core.Logic.{_⊎_, inl, inr}
 use mathlib.Core.List.{List}
-use lib.ListN.{length, getD, take, set, length-take}
+use lib.ListN.{length, getD, take, set}
 use lib.Seq.{getD-set-same, getD-set-other, getD-take, length-take-le, ext-getD}
 use lib.Dec.{eqb, leb}
-use borrow.Author.Tests.{eqb-true, eqb-false, eq-eqb, ne-eqb, leb-true, leb-false, le-leb, lt-leb}
+use borrow.Author.Tests.{eqb-true, eqb-false, eq-eqb, ne-eqb, leb-true, le-leb, lt-leb}
 use Rattle.model.specs.Basics.{pick, countTo}
 use Rattle.model.specs.Table.{nodeCount, nextAt}
 use Rattle.model.specs.Plan.{prevAt, begins, stays, markAt, hasMark, pageCount, runLast}
@@ -19,8 +19,8 @@ use Rattle.theory.specs.Ranges.{Upto, pick-true, pick-false}
 use Rattle.theory.specs.Sound.{SoundFacts}
 use Rattle.theory.specs.Links.{prevAt-less, prevAt-next, next-prev}
 use Rattle.theory.specs.Siblings.{order-cases, and-true, and-false-left, and-false-right}
-use Rattle.theory.specs.Chosen.{Ranked, ranked-one, countTo-mono, countTo-pass}
-use Rattle.theory.specs.RunMarks.{GoodMarks, good-marks, runLast-on, runLast-stop, runLast-low}
+use Rattle.theory.specs.Chosen.{ranked-one, countTo-mono, countTo-pass}
+use Rattle.theory.specs.RunMarks.{good-marks, runLast-on, runLast-stop, runLast-low}
 use Rattle.theory.specs.ArchiveWords.{Page, page-first}
 use Rattle.theory.specs.ArchiveBack.{Planned}
 use Rattle.theory.specs.Judged.{pageCount-le}

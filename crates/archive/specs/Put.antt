@@ -1,12 +1,11 @@
 -- Words put one after the other into a string of bytes. Defines putWord, putRecord, Starts. Assumes nothing.
-use Prim.Native.Nat.{ℕ, zero, suc, _+_, _*_, _/_, _%_, _≤_}
+use Prim.Native.Nat.{ℕ, suc, _+_, _*_, _/_, _%_, _≤_}
 use native.Mathlib.Omega.{arith}
 use mathlib.Core.Path.{_≡_, refl, sym, _∙_, ap}
 use mathlib.Core.List.{List, [], _∷_, _++_, append-assoc}
 use lib.ListN.{length, take, set, length-append, length-set}
 use lib.Seq.{take-suc-set, take-all}
 use Rattle.model.specs.Table.{bytesOf}
-use Rattle.theory.specs.Encode.{length-bytesOf}
 
 -- word i of the string becomes w
 unfoldable pub putWord : List ℕ → ℕ → ℕ → List ℕ

@@ -1,6 +1,6 @@
 -- The words of an archive as the writer puts them: the head, the page records of the runs begun up to a node, and the node records.
 -- Defines headWords, runsUpto, pagesUpto, nodeRow, Room. Assumes nothing.
-use Prim.Native.Nat.{ℕ, zero, suc, _+_, _-_, _*_, _≤_, _<_}
+use Prim.Native.Nat.{ℕ, suc, _+_, _-_, _*_, _≤_}
 use native.Mathlib.Omega.{arith}
 use native.Mathlib.Numerals.{add-one}
 use mathlib.Core.Bool.{true, false}
@@ -8,13 +8,13 @@ use mathlib.Core.Path.{_≡_, refl, sym, _∙_, ap}
 use mathlib.Core.List.{List, [], _∷_, _++_, append-assoc}
 use lib.ListN.{length, getD, length-append}
 use Rattle.model.specs.Basics.{pick, countTo, listTo}
-use Rattle.model.specs.Table.{bytesOf, nodeCount, limitOf, weightAt, labelAt}
+use Rattle.model.specs.Table.{nodeCount, limitOf, weightAt, labelAt}
 use Rattle.model.specs.Plan.{begins, hasMark, parentAt, pageCount, pageWeight, runLast}
 use Rattle.model.specs.Runs.{Run, runsOf}
 use Rattle.model.specs.Archive.{nextPage, pageRecords, nextOnPage, nodeRecord, archiveOf, archiveBytes}
 use Rattle.theory.specs.Ranges.{Upto, listTo-zero, listTo-suc, listTo-cong, append-nil}
-use Rattle.theory.specs.Chosen.{chosen, chosen-yes, chosen-no, length-chosen, countTo-mono}
-use Rattle.theory.specs.ArchiveWords.{pageRow, length-pageRecords, pageRecords-snoc, length-fours, archiveWords}
+use Rattle.theory.specs.Chosen.{chosen, chosen-yes, chosen-no, length-chosen}
+use Rattle.theory.specs.ArchiveWords.{pageRow, length-pageRecords, pageRecords-snoc, length-fours}
 use Rattle.archive.specs.Put.{putRecord, Starts, starts-record, starts-all}
 
 unfoldable pub headWords : List ℕ → List ℕ → List ℕ

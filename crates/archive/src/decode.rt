@@ -3,6 +3,7 @@
 use crate::onward::link_next;
 use crate::put::put_record;
 use crate::put::put_word;
+use judge::pages::SLOTS;
 use table::words::limit_of;
 use table::words::node_count;
 use table::words::word_at;
@@ -18,6 +19,7 @@ ghost use Rattle.model.specs.Plan.{begins, hasMark, runLast};
 ghost use Rattle.model.specs.Archive.{pagesIn, pageFieldIn, nodeFieldIn, parentIn, firstIn, tableIn, marksIn};
 ghost use Rattle.model.specs.Refusals.{isArchive};
 ghost use Rattle.theory.specs.Ranges.{Upto};
+ghost use Rattle.judge.specs.Rows.{slots};
 ghost use Rattle.archive.specs.Put.{Starts};
 ghost use Rattle.archive.specs.Decode.{Told, Loaded, fitted, treeUpto};
 ghost use Rattle.archive.specs.Ends.{runEnd, markFor, Guides, MarksRow};
@@ -72,7 +74,7 @@ fn first_in(archive: &[u8], v: u16) -> u16
 fn fit(x: u16) -> u16
     ensures { λ r. ⌜ r ≡ fitted x ⌝ }
 {
-    if x < 1025 { x } else { 0 }
+    if (x as usize) < SLOTS { x } else { 0 }
 }
 
 // A link to the next sibling; node 1 has none.
@@ -83,11 +85,11 @@ fn sibling_of(v: u16, link: u16) -> u16
 }
 
 // The parents of the nodes.
-fn load_parents(archive: &[u8], nodes: u16) -> [u16; 1025]
+fn load_parents(archive: &[u8], nodes: u16) -> [u16; SLOTS]
     requires { ⌜ nodes ≤ 1024 ⌝ }
     ensures { λ r. ⌜ Loaded (now (archive .entry)) nodes r ⌝ }
 {
-    let mut parents = [0u16; 1025];
+    let mut parents = [0u16; SLOTS];
     let mut v: u16 = 0;
     while v < nodes {
         v += 1;
@@ -98,11 +100,11 @@ fn load_parents(archive: &[u8], nodes: u16) -> [u16; 1025]
 }
 
 // For each node that begins a run, the last of the run, and 0 for the others.
-fn load_lasts(archive: &[u8]) -> [u16; 1025]
+fn load_lasts(archive: &[u8]) -> [u16; SLOTS]
     ensures { λ r. ⌜ ((t m : List ℕ) → Told (now (archive .entry)) t m → Upto (nodeCount t) (λ v. getD r v 0 ≡ pick (hasMark m begins v) (runLast t m v) 0)) ⌝ }
 {
     let pages = fit(pages_in(archive));
-    let mut lasts = [0u16; 1025];
+    let mut lasts = [0u16; SLOTS];
     let mut q: u16 = 0;
     while q < pages {
         q += 1;
@@ -114,7 +116,7 @@ fn load_lasts(archive: &[u8]) -> [u16; 1025]
 }
 
 // The table of the tree.
-fn fill_tree(archive: &[u8], links: &[u16; 1025], tree: &mut [u8])
+fn fill_tree(archive: &[u8], links: &[u16; SLOTS], tree: &mut [u8])
     requires { ⌜ (nodeCount (now archive) ≤ 1024) × (length (now tree) ≡ 8196) ⌝ }
     ensures { λ r. ⌜ Starts (now (tree .exit)) (treeUpto (now (archive .entry)) (now (links .entry)) (nodeCount (now (archive .entry)))) ⌝ }
 {
@@ -153,11 +155,11 @@ fn mark_for(last: u16, end: u16) -> u8
 }
 
 // The marks of the plan.
-fn fill_marks(nodes: u16, lasts: &[u16; 1025], links: &[u16; 1025], plan: &mut [u8])
-    requires { ⌜ (nodes ≤ 1024) × Upto nodes (λ v. getD (now links) v 0 < 1025) × (length (now plan) ≡ 1024) ⌝ }
+fn fill_marks(nodes: u16, lasts: &[u16; SLOTS], links: &[u16; SLOTS], plan: &mut [u8])
+    requires { ⌜ (nodes ≤ 1024) × Upto nodes (λ v. getD (now links) v 0 < slots) × (length (now plan) ≡ 1024) ⌝ }
     ensures { λ r. ⌜ ((t m : List ℕ) → Guides t m (now (lasts .entry)) (now (links .entry)) nodes → MarksRow m nodes (now (plan .exit))) ⌝ }
 {
-    let mut due = [0u16; 1025];
+    let mut due = [0u16; SLOTS];
     let mut v: u16 = 0;
     while v < nodes {
         let i = v as usize;

@@ -1,31 +1,24 @@
 // The page records and the node records, put one after the other.
 use crate::put::put_record;
+use judge::marks::mark_at;
+use judge::pages::SLOTS;
 use table::words::label_at;
 use table::words::next_at;
 use table::words::node_count;
 use table::words::weight_at;
 ghost use mathlib.Core.Path.{_≡_};
 ghost use mathlib.Core.Bool.{_&&_, not};
-ghost use Prim.Native.Nat.{ℕ, _≤_};
+ghost use Prim.Native.Nat.{_≤_};
 ghost use lib.Dec.{eqb};
 ghost use lib.ListN.{length, getD};
 ghost use Rattle.model.specs.Table.{nodeCount};
-ghost use Rattle.model.specs.Plan.{markAt, hasMark, continues, runLast, pageCount, pageWeight};
+ghost use Rattle.model.specs.Plan.{hasMark, continues, runLast, pageCount, pageWeight};
 ghost use Rattle.model.specs.Archive.{nextPage, archiveBytes};
 ghost use Rattle.theory.specs.Ranges.{Upto};
 ghost use Rattle.theory.specs.Sound.{SoundFacts};
 ghost use Rattle.theory.specs.ArchiveBack.{Planned};
 ghost use Rattle.archive.specs.Put.{Starts};
 ghost use Rattle.archive.specs.Sheets.{headWords, pagesUpto, NodesPut};
-
-// The mark of node v; what lies past the end reads as 0.
-fn mark_at(marks: &[u8], v: u16) -> u8
-    ensures { λ r. ⌜ r ≡ markAt (now (marks .entry)) v ⌝ }
-{
-    let before = if v == 0 { 0 } else { v - 1 };
-    let i = before as usize;
-    if i < marks.len() { marks[i] } else { 0 }
-}
 
 // Whether a link leads on along a run.
 fn leads_on(marks: &[u8], next: u16) -> bool
@@ -57,7 +50,7 @@ fn page_after(p: u16, pages: u16) -> u16
 }
 
 // The page records, after the head.
-pub fn put_pages(table: &[u8], marks: &[u8], weights: &[u32; 1025], pages: u16, out: &mut [u8])
+pub fn put_pages(table: &[u8], marks: &[u8], weights: &[u32; SLOTS], pages: u16, out: &mut [u8])
     requires { ⌜ Planned (now table) (now marks) × (pages ≡ pageCount (now table) (now marks))
         × Upto pages (λ q. getD (now weights) q 0 ≡ pageWeight (now table) (now marks) q)
         × (length (now out) ≡ archiveBytes pages (nodeCount (now table)))
@@ -82,8 +75,8 @@ pub fn put_pages(table: &[u8], marks: &[u8], weights: &[u32; 1025], pages: u16, 
 // The node records, after the page records.
 pub fn put_nodes(
     table: &[u8],
-    parents: &[u16; 1025],
-    onward: &[u16; 1025],
+    parents: &[u16; SLOTS],
+    onward: &[u16; SLOTS],
     pages: u16,
     out: &mut [u8],
 )

@@ -1,8 +1,8 @@
 -- `archive::decode::fill_tree` meets its contract. Assumes nothing.
-use mathlib.Core.Path.{_≡_, refl, sym, ap, _∙_, subst}
-use Prim.Native.Nat.{ℕ, _+_, _-_, _*_, _≤_, _<_}
+use mathlib.Core.Path.{_≡_, sym, _∙_, subst}
+use Prim.Native.Nat.{_+_, _-_, _*_, _≤_}
 use native.Mathlib.Omega.{arith}
-use lib.ListN.{length, getD, length-set, replicate, getD-replicate}
+use lib.ListN.{length}
 use Rattle.model.specs.Table.{nodeCount}
 use Rattle.archive.specs.Put.{Starts}
 use Rattle.archive.specs.Decode.{treeUpto, tree-turn}

@@ -1,8 +1,8 @@
 -- `archive::decode::load_lasts` meets its contract. Assumes nothing.
-use mathlib.Core.Path.{_≡_, refl, sym, ap, _∙_, subst}
-use Prim.Native.Nat.{ℕ, _+_, _-_, _*_, _≤_, _<_}
+use mathlib.Core.Path.{_≡_, refl, ap, _∙_}
+use Prim.Native.Nat.{_-_, _≤_, _<_}
 use native.Mathlib.Omega.{arith}
-use lib.ListN.{length, getD, length-set, replicate, getD-replicate}
+use lib.ListN.{length, length-set, replicate, getD-replicate}
 use Rattle.archive.specs.Decode.{fitted, fitted-small}
 use Rattle.archive.specs.Ends.{LastsPass, last-start, lasts-turn, lasts-end}
 use borrow.Author.Needs.{needs}

@@ -1,8 +1,8 @@
 -- `archive::decode::load_parents` meets its contract. Assumes nothing.
-use mathlib.Core.Path.{_≡_, refl, sym, ap, _∙_, subst}
-use Prim.Native.Nat.{ℕ, _+_, _-_, _*_, _≤_, _<_}
+use mathlib.Core.Path.{_≡_, refl, ap, _∙_}
+use Prim.Native.Nat.{_-_, _≤_}
 use native.Mathlib.Omega.{arith}
-use lib.ListN.{length, getD, length-set, replicate, getD-replicate}
+use lib.ListN.{length, length-set}
 use Rattle.archive.specs.Decode.{Loaded, fitted, loaded-turn}
 use borrow.Author.Needs.{needs}
 use Rattle.archive.proofs.decode.load_parents.Statement.{statement}

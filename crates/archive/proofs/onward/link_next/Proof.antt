@@ -1,7 +1,7 @@
 -- `archive::onward::link_next` meets its contract: what was seen of each key so far, and the links of the nodes passed.
 -- Assumes nothing.
 use mathlib.Core.Path.{_≡_}
-use Prim.Native.Nat.{ℕ, _≤_, _<_}
+use Prim.Native.Nat.{_≤_, _<_}
 use lib.ListN.{length, getD}
 use lib.ListN.{length-set, replicate, getD-replicate}
 use mathlib.Core.Path.{refl}

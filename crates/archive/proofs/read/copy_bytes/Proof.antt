@@ -1,8 +1,8 @@
 -- `archive::read::copy_bytes` meets its contract: the bytes passed so far are copied. Assumes nothing.
-use mathlib.Core.Path.{_≡_, refl, sym, ap, _∙_}
-use Prim.Native.Nat.{ℕ, _-_, _≤_, _<_}
+use mathlib.Core.Path.{_≡_, sym, _∙_}
+use Prim.Native.Nat.{_-_, _≤_}
 use native.Mathlib.Omega.{arith}
-use lib.ListN.{length, getD, length-set}
+use lib.ListN.{length, length-set}
 use Rattle.archive.proofs.Decoded.{SameUpto, same-start, same-all, copy-turn}
 use borrow.Author.Needs.{needs}
 use Rattle.archive.proofs.read.copy_bytes.Statement.{statement}

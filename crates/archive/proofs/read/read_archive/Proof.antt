@@ -1,7 +1,7 @@
 -- `archive::read::read_archive` meets its contract. Assumes nothing.
 use mathlib.Core.Path.{sym, ap, _∙_}
 use native.Mathlib.Omega.{arith}
-use lib.ListN.{length, take}
+use lib.ListN.{take}
 use Rattle.model.specs.Table.{tableBytes}
 use Rattle.model.specs.Refusals.{refused}
 use Rattle.model.specs.declared.Answer.{Answer}

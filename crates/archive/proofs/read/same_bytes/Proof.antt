@@ -1,8 +1,8 @@
 -- `archive::read::same_bytes` meets its contract: the bytes passed so far agree. Assumes nothing.
-use mathlib.Core.Path.{_≡_, refl, sym, ap, _∙_}
-use Prim.Native.Nat.{ℕ, _-_, _≤_, _<_}
+use mathlib.Core.Path.{_≡_}
+use Prim.Native.Nat.{_-_, _≤_}
 use native.Mathlib.Omega.{arith}
-use lib.ListN.{length, getD, length-set}
+use lib.ListN.{length}
 use Rattle.archive.proofs.Decoded.{SameUpto, same-start, same-turn, bytes-yes, bytes-long, bytes-differ}
 use borrow.Author.Needs.{needs}
 use Rattle.archive.proofs.read.same_bytes.Statement.{statement}

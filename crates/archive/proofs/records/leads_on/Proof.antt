@@ -1,5 +1,4 @@
 -- `archive::records::leads_on` meets its contract. Assumes nothing.
-use Rattle.model.specs.Plan.{hasMark}
 use borrow.Author.Needs.{needs}
 use Rattle.archive.proofs.records.leads_on.Statement.{statement}
 use Rattle.archive.proofs.records.leads_on.Tie as tie

@@ -11,7 +11,8 @@ use Rattle.model.specs.Basics.{countTo}
 use Rattle.model.specs.Plan.{begins, markAt, hasMark}
 use Rattle.archive.specs.Put.{Starts}
 use Rattle.archive.specs.Sheets.{pagesUpto, pages-start}
-use Rattle.archive.proofs.Turns.{record-length, pageCount-le, page-no, page-yes, page-within, page-small, pages-pass, pages-next}
+use Rattle.theory.specs.Judged.{pageCount-le}
+use Rattle.archive.proofs.Turns.{record-length, page-no, page-yes, page-within, page-small, pages-pass, pages-next}
 use borrow.Author.Needs.{needs}
 use Rattle.archive.proofs.records.put_pages.Statement.{statement}
 use Rattle.archive.proofs.records.put_pages.Tie as tie

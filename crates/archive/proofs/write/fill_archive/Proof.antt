@@ -3,8 +3,9 @@ use mathlib.Core.Path.{ap, _∙_}
 use Rattle.model.specs.Archive.{archiveBytes}
 use native.Mathlib.Omega.{arith}
 use Rattle.model.specs.Table.{nodeCount}
+use Rattle.theory.specs.Judged.{pageCount-le}
 use Rattle.archive.specs.Sheets.{pagesUpto, all-put}
-use Rattle.archive.proofs.Turns.{pageCount-le, page-fits, head-start, weights-page, onward-is, all-pages-length}
+use Rattle.archive.proofs.Turns.{page-fits, head-start, onward-is, all-pages-length}
 use borrow.Author.Needs.{needs}
 use Rattle.archive.proofs.write.fill_archive.Statement.{statement}
 use Rattle.archive.proofs.write.fill_archive.Tie as tie
@@ -15,31 +16,13 @@ node-count-requires c κs = search needs
 limit-of-requires : tie.Need-limit-of-requires
 limit-of-requires c κs = search needs
 
-find-before-requires : tie.Need-find-before-requires
-find-before-requires c κs = search needs
-
-find-parents-requires : tie.Need-find-parents-requires
-find-parents-requires c κs = search needs
-
-lay-pages-requires : tie.Need-lay-pages-requires
-lay-pages-requires c κs = search needs
-
-weigh-pages-requires : tie.Need-weigh-pages-requires
-weigh-pages-requires c κs =
-    let start = c .before .before .before .before .before .before .before .before .before .before .before .before in
-    let a = start .args in
-    let count = c .before .before .before .before .before .before .before .before .node-count .ensures in
-    let page = c .before .lay-pages in
-    (start .pre .0 .tree, page-fits (start .pre .0 .tree) (a .marks .now) (page .result) (page .ensures))
-
 link-next-requires : tie.Need-link-next-requires
 link-next-requires c κs =
-    let start = c .before .before .before .before .before .before .before .before .before .before .before .before .before .before in
+    let start = c .before .before .before .before .before .before .before in
     let a = start .args in
-    let count = c .before .before .before .before .before .before .before .before .before .before .node-count .ensures in
-    let page = c .before .before .before .lay-pages in (
+    let count = c .before .before .before .node-count .ensures in (
       omega (arith, start .pre .0 .tree .sound .count-high),
-      λ v low high. page-fits (start .pre .0 .tree) (a .marks .now) (page .result) (page .ensures) v low (omega arith),
+      λ v low high. page-fits (start .pre .0 .tree) (a .marks .now) (a .t3 .page) (start .pre .1 .page-is) v low (omega arith),
     )
 
 put-head-requires : tie.Need-put-head-requires
@@ -47,34 +30,31 @@ put-head-requires c κs = search needs
 
 put-pages-requires : tie.Need-put-pages-requires
 put-pages-requires c κs =
-    let start = c .before .before .before .before .before .before .before .before .before .before .before .before .before .before .before .before .before .before .before .before .before in
+    let start = c .before .before .before .before .before .before .before .before .before .before .before .before .before .before .before in
     let a = start .args in
-    let count = c .before .before .before .before .before .before .before .before .before .before .before .before .before .before .before .before .before .node-count .ensures in
-    let limit = c .before .before .before .before .before .before .before .before .before .before .before .before .before .before .before .before .limit-of .ensures in
-    let page = c .before .before .before .before .before .before .before .before .before .before .lay-pages in
-    let weights = c .before .before .before .before .before .before .before .before .weigh-pages in
-    let head = c .before .before .before .before .put-head in
+    let count = c .before .before .before .before .before .before .before .before .before .before .before .node-count .ensures in
+    let limit = c .before .before .before .before .before .before .before .before .before .before .limit-of .ensures in
+    let head = c .before .before .before .before .before .put-head in
     let begun =
-    head-start (a .table .now) (a .marks .now) (a .out .now) (head .last .0) _ _ _ (head .ensures) count limit (start .pre .1)
+    head-start (a .table .now) (a .marks .now) (a .out .now) (head .last .0) _ _ _ (head .ensures) count limit (start .pre .1 .pages-are)
     (omega (arith, start .pre .2)) in (
       start .pre .0,
-      start .pre .1,
+      start .pre .1 .pages-are,
       λ q low high.
-          weights .ensures q
-          (omega (arith, start .pre .1, pageCount-le (a .table .now) (a .marks .now), start .pre .0 .tree .sound .count-high))
-          ∙ weights-page (a .table .now) (a .marks .now) (page .result) q (page .ensures),
+          start .pre .1 .weights-are q
+          (omega (arith, start .pre .1 .pages-are, pageCount-le (a .table .now) (a .marks .now), start .pre .0 .tree .sound .count-high)),
       begun .0 ∙ start .pre .2,
       begun .1,
     )
 
 put-nodes-requires : tie.Need-put-nodes-requires
 put-nodes-requires c κs =
-    let start = c .before .before .before .before .before .before .before .before .before .before .before .before .before .before .before .before .before .before .before .before .before .before .before .before .before .before .before in
+    let start = c .before .before .before .before .before .before .before .before .before .before .before .before .before .before .before .before .before .before .before .before .before .before in
     let a = start .args in
-    let head = c .before .before .before .before .before .before .before .before .before .before .put-head in
-    let pages = c .before .before .before .before .before .put-pages in (
+    let head = c .before .before .before .before .before .before .before .before .before .before .before .before .put-head in
+    let pages = c .before .before .before .before .before .before .put-pages in (
       start .pre .0 .tree .sound .count-high,
-      omega (arith, start .pre .1, pageCount-le (a .table .now) (a .marks .now), start .pre .0 .tree .sound .count-high),
+      omega (arith, start .pre .1 .pages-are, pageCount-le (a .table .now) (a .marks .now), start .pre .0 .tree .sound .count-high),
       pages .kept .1 .1 .1 .1 .0 ∙ head .kept .0 ∙ start .pre .2,
     )
 
@@ -83,21 +63,19 @@ same-length c = search needs
 
 returns : tie.Need-returns
 returns c =
-    let start = c .before .before .before .before .before .before .before .before .before .before .before .before .before .before .before .before .before .before .before .before .before .before .before .before .before .before .before .before .before .before in
+    let start = c .before .before .before .before .before .before .before .before .before .before .before .before .before .before .before .before .before .before .before .before .before .before .before .before .before in
     let a = start .args in
-    let count = c .before .before .before .before .before .before .before .before .before .before .before .before .before .before .before .before .before .before .before .before .before .before .before .before .before .before .node-count .ensures in
-    let parents = c .before .before .before .before .before .before .before .before .before .before .before .before .before .before .before .before .before .before .before .before .before .before .find-parents in
-    let page = c .before .before .before .before .before .before .before .before .before .before .before .before .before .before .before .before .before .before .before .lay-pages in
-    let onward = c .before .before .before .before .before .before .before .before .before .before .before .before .before .before .before .link-next in
-    let head = c .before .before .before .before .before .before .before .before .before .before .before .before .before .put-head in
-    let pages = c .before .before .before .before .before .before .before .before .put-pages in
+    let count = c .before .before .before .before .before .before .before .before .before .before .before .before .before .before .before .before .before .before .before .before .before .node-count .ensures in
+    let onward = c .before .before .before .before .before .before .before .before .before .before .before .before .before .before .before .before .before .link-next in
+    let head = c .before .before .before .before .before .before .before .before .before .before .before .before .before .before .before .put-head in
+    let pages = c .before .before .before .before .before .before .before .before .before .put-pages in
     let nodes = c .before .before .put-nodes in
-    all-put (a .table .now) (a .marks .now) (parents .result) (onward .result) (nodes .last .1 .1 .1 .1 .0) (parents .ensures)
-    (onward-is (a .table .now) (a .marks .now) (page .result) (onward .result) _ count (page .ensures) (onward .ensures))
+    all-put (a .table .now) (a .marks .now) (a .t3 .parents) (onward .result) (nodes .last .1 .1 .1 .1 .0) (start .pre .1 .parents-are)
+    (onward-is (a .table .now) (a .marks .now) (a .t3 .page) (onward .result) _ count (start .pre .1 .page-is) (onward .ensures))
     (nodes .kept .1 .1 .1 .1 .0 ∙ pages .kept .1 .1 .1 .1 .0 ∙ head .kept .0 ∙ start .pre .2
-    ∙ ap (λ k. archiveBytes k (nodeCount (a .table .now))) (start .pre .1))
+    ∙ ap (λ k. archiveBytes k (nodeCount (a .table .now))) (start .pre .1 .pages-are))
     (nodes .ensures (pagesUpto (a .table .now) (a .marks .now) (nodeCount (a .table .now)))
-    (omega (arith, all-pages-length (a .table .now) (a .marks .now), start .pre .1)) (pages .ensures))
+    (omega (arith, all-pages-length (a .table .now) (a .marks .now), start .pre .1 .pages-are)) (pages .ensures))
 
 pub fill-archive-spec : {M : Type 1} → statement M
 fill-archive-spec =
@@ -105,10 +83,6 @@ fill-archive-spec =
     (tie.spec
     node-count-requires
     limit-of-requires
-    find-before-requires
-    find-parents-requires
-    lay-pages-requires
-    weigh-pages-requires
     link-next-requires
     put-head-requires
     put-pages-requires

@@ -21,8 +21,11 @@ returns c =
     ap (λ (x : Answer). written x (a .out .now)) (judged .ensures)
     ∙ (write-refuses (a .table .now) (a .marks .now) (a .out .now) (λ z. c .if1 .taken (ap (λ (x : Answer). x .number) (judged .ensures) ∙ z)))
 
-count-pages-requires : tie.Need-count-pages-requires
-count-pages-requires c κs = search needs
+lay-plan-requires : tie.Need-lay-plan-requires
+lay-plan-requires c κs =
+    let a = c .before .before .before .before .before .before .args in
+    let accepts = sym (ap (λ (x : Answer). x .number) (c .before .before .judge-plan .ensures)) ∙ c .if1 .left in
+    feasible-planned (a .table .now) (a .marks .now) (judge-feasible (a .table .now) (a .marks .now) accepts) .tree
 
 node-count-requires : tie.Need-node-count-requires
 node-count-requires c κs = search needs
@@ -42,10 +45,10 @@ returns-2 c =
     let a = start .args in
     let judged = c .before .before .before .before .before .before .before .judge-plan in
     let accepts = sym (ap (λ (x : Answer). x .number) (judged .ensures)) ∙ c .before .before .before .before .before .if1 .left in
-    let pages = c .before .before .before .before .count-pages in
+    let laid = c .before .before .before .before .lay-plan .ensures in
     let count = c .before .before .before .node-count in
     let bytes = c .before .before .archive-bytes in
-    let size = bytes .ensures ∙ ap₂ archiveBytes (pages .ensures) (count .ensures) in
+    let size = bytes .ensures ∙ ap₂ archiveBytes (laid .pages-are) (count .ensures) in
     ap (λ (x : Answer). written x (a .out .now)) (c .refuse .ensures ∙ ap (refused 12) size)
     ∙ write-short (a .table .now) (a .marks .now) (a .out .now) accepts (λ e. c .before .if2 .taken (e ∙ sym size))
 
@@ -55,13 +58,13 @@ fill-archive-requires c κs =
     let a = start .args in
     let judged = c .before .before .before .before .before .before .before .judge-plan in
     let accepts = sym (ap (λ (x : Answer). x .number) (judged .ensures)) ∙ c .before .before .before .before .before .if1 .left in
-    let pages = c .before .before .before .before .count-pages in
+    let laid = c .before .before .before .before .lay-plan .ensures in
     let count = c .before .before .before .node-count in
     let bytes = c .before .before .archive-bytes in
-    let size = bytes .ensures ∙ ap₂ archiveBytes (pages .ensures) (count .ensures) in (
+    let size = bytes .ensures ∙ ap₂ archiveBytes (laid .pages-are) (count .ensures) in (
       feasible-planned (a .table .now) (a .marks .now) (judge-feasible (a .table .now) (a .marks .now) accepts),
-      pages .ensures,
-      c .before .if2 .left ∙ bytes .ensures ∙ ap (archiveBytes (pages .result)) (count .ensures),
+      laid,
+      c .before .if2 .left ∙ bytes .ensures ∙ ap (archiveBytes _) (count .ensures),
     )
 
 same-length : tie.Need-same-length
@@ -73,10 +76,10 @@ returns-3 c =
     let a = start .args in
     let judged = c .before .before .before .before .before .before .before .before .before .before .judge-plan in
     let accepts = sym (ap (λ (x : Answer). x .number) (judged .ensures)) ∙ c .before .before .before .before .before .before .before .before .if1 .left in
-    let pages = c .before .before .before .before .before .before .before .count-pages in
+    let laid = c .before .before .before .before .before .before .before .lay-plan .ensures in
     let count = c .before .before .before .before .before .before .node-count in
     let bytes = c .before .before .before .before .before .archive-bytes in
-    let size = bytes .ensures ∙ ap₂ archiveBytes (pages .ensures) (count .ensures) in
+    let size = bytes .ensures ∙ ap₂ archiveBytes (laid .pages-are) (count .ensures) in
     ap₂ written (judged .ensures) (c .before .before .fill-archive .ensures)
     ∙ write-done (a .table .now) (a .marks .now) (a .out .now) accepts (c .before .before .before .before .if2 .left ∙ size)
 
@@ -86,7 +89,7 @@ write-archive-spec =
     (tie.spec
     judge-plan-requires
     returns
-    count-pages-requires
+    lay-plan-requires
     node-count-requires
     archive-bytes-requires
     cast-if2
