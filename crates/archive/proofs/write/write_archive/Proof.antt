@@ -1,5 +1,6 @@
 -- `archive::write::write_archive` meets its contract. Assumes nothing.
 use mathlib.Core.Path.{sym, ap, ap₂, _∙_}
+use native.Mathlib.Omega.{arith}
 use Rattle.model.specs.Archive.{archiveBytes}
 use Rattle.model.specs.Refusals.{refused}
 use Rattle.archive.specs.Answers.{written}
@@ -50,7 +51,7 @@ returns-2 c =
     let bytes = c .before .before .archive-bytes in
     let size = bytes .ensures ∙ ap₂ archiveBytes (laid .pages-are) (count .ensures) in
     ap (λ (x : Answer). written x (a .out .now)) (c .refuse .ensures ∙ ap (refused 12) size)
-    ∙ write-short (a .table .now) (a .marks .now) (a .out .now) accepts (λ e. c .before .if2 .taken (e ∙ sym size))
+    ∙ write-short (a .table .now) (a .marks .now) (a .out .now) accepts (λ e. omega (arith, c .before .if2 .taken, size))
 
 fill-archive-requires : tie.Need-fill-archive-requires
 fill-archive-requires c κs =
