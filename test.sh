@@ -1,13 +1,12 @@
 #!/usr/bin/env bash
-# All tests: proves every crate, tries the must-fail edits, runs the programs, then the tests in Rust against the proved library.
+# All tests: proves every crate, tries the must-fail edits, runs the page program, then the tests in Rust and C against the proved library
+# and the page program, and those of the tools.
 # The last line is 'N passed, M failed', and the exit status is 0 only where M is 0.
 set -u -o pipefail
 cd "$(dirname "$0")" || exit 2
 
 passed=0
 failed=0
-# The entries that the library has so far; their tests are linked.
-export BALDUQEN_ENTRIES="read_tree judge single pair write_archive read_archive"
 
 # Adds the sums of a step. A step that ends badly without naming a failure, or that ran nothing, counts as one.
 # $1 name, $2 exit status, $3 passed, $4 failed
@@ -25,23 +24,34 @@ sum() {
   sed -nE "s/$2/\\1/p" "$1" | awk '{ total += $1 } END { print total + 0 }'
 }
 
+# The tests of a folder in Rust: $1 name and folder
+in_rust() {
+  (cd "$1" && CARGO_TARGET_DIR="../target/$1" cargo test --release --offline --no-fail-fast) 2>&1 | tee "$log"
+  add "$1" "$?" "$(sum "$log" '^test result: .* ([0-9]+) passed; .*')" "$(sum "$log" '^test result: .* ([0-9]+) failed; .*')"
+}
+
 log=$(mktemp)
-trap 'rm -f "$log"' EXIT
+trap 'rm -f "$log" "$log.last"' EXIT
 
 rt ci 2>&1 | tee "$log"
 status=$?
 tail -n 1 "$log" > "$log.last"
 add proofs "$status" "$(sum "$log.last" '^([0-9]+) passed, [0-9]+ failed$')" "$(sum "$log.last" '^[0-9]+ passed, ([0-9]+) failed$')"
-rm -f "$log.last"
 
 rt staticlib embed > "$log" 2>&1
 status=$?
 cat "$log"
 add library "$status" "$([ -s target/staticlib/libembed.a ] && echo 1 || echo 0)" 0
 
-(cd tests && BALDUQEN_LIB=../target/staticlib CARGO_TARGET_DIR=../target/tests cargo test --release --offline --no-fail-fast) 2>&1 | tee "$log"
+# The library as a program in C uses it.
+gcc -std=c11 -Wall -Wextra -Werror -Iinclude examples/case_e.c -o target/case_e target/staticlib/libembed.a &&
+  target/case_e | diff - examples/case_e.out
 status=$?
-add tests "$status" "$(sum "$log" '^test result: .* ([0-9]+) passed; .*')" "$(sum "$log" '^test result: .* ([0-9]+) failed; .*')"
+add example "$status" "$((status == 0))" 0
+
+export BALDUQEN_LIB=../target/staticlib
+in_rust tests
+in_rust tools
 
 echo "$passed passed, $failed failed"
 [ "$failed" -eq 0 ]
