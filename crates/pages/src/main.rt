@@ -1,0 +1,4 @@
+// The page program.
+mod text;
+
+fn main() {}
