@@ -1,2 +1,3 @@
 pub mod Putting
 pub mod Digits
+pub mod Listed

@@ -1,4 +1,4 @@
--- Text appended to a buffer at a position. Defines Appended, lineBytes, reportBytes. Proves that texts append one after the other, and
+-- Text appended to a buffer at a position. Defines Appended, Filled, lineBytes, reportBytes. Proves that texts append one after the other, and
 -- how long a number is. Assumes nothing.
 use Prim.Native.Nat.{ℕ, zero, suc, _+_, _/_, _%_, _≤_}
 use native.Mathlib.Omega.{arith}
@@ -27,6 +27,21 @@ pub appended-then : {o o₁ o₂ x y : List ℕ} {at a b : ℕ} → Appended o a
 appended-then {o} {o₁} {o₂} {x} {y} {at} {a} {b} h k =
     record {
       bytes = k .bytes ∙ ap (λ (l : List ℕ). l ++ y) (h .bytes) ∙ append-assoc (take at o) x y;
+      place = omega (arith, h .place, k .place, length-append x y);
+    }
+
+-- the buffer starts with the text, and the position is at its end
+pub record Filled (text left : List ℕ) (end : ℕ) : Type 0 where
+  pub bytes : take end left ≡ text
+  pub place : end ≡ length text
+
+pub filled-first : {o o₁ x : List ℕ} {a : ℕ} → Appended o 0 x o₁ a → Filled x o₁ a
+filled-first h = record { bytes = h .bytes; place = omega (arith, h .place) }
+
+pub filled-then : {o₁ o₂ x y : List ℕ} {a b : ℕ} → Filled x o₁ a → Appended o₁ a y o₂ b → Filled (x ++ y) o₂ b
+filled-then {x} {y} h k =
+    record {
+      bytes = k .bytes ∙ ap (λ (l : List ℕ). l ++ y) (h .bytes);
       place = omega (arith, h .place, k .place, length-append x y);
     }
 

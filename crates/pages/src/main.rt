@@ -1,4 +1,21 @@
-// The page program.
+// The page program: reads a table on standard input, and writes its best plan or why it is refused.
+mod report;
 mod text;
 
-fn main() {}
+use libc::STDIN_FILENO;
+use libc::STDOUT_FILENO;
+use report::report;
+
+// One byte more than the longest table, so that a longer one shows.
+const INPUT_BYTES: usize = 8197;
+
+// The longest report.
+const REPORT_BYTES: usize = 82000;
+
+fn main() {
+    let mut table = [0u8; INPUT_BYTES];
+    let got = io::read_full(STDIN_FILENO, &mut table);
+    let mut out = [0u8; REPORT_BYTES];
+    let length = report(&table[..got], &mut out);
+    io::write_all(STDOUT_FILENO, &out[..length]);
+}

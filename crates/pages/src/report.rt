@@ -1,0 +1,96 @@
+// The report of a table: the plan is made and written as an archive, whose page records give the lines.
+use archive::write::write_archive;
+use crate::text::head_line;
+use crate::text::page_line;
+use crate::text::refusal_line;
+use judge::pages::count_pages;
+use planner::plan_pair;
+use table::words::limit_of;
+use table::words::node_count;
+use table::words::word_at;
+ghost use mathlib.Core.Path.{_≡_};
+ghost use Prim.Native.Nat.{_≤_};
+ghost use lib.ListN.{length, take};
+ghost use Rattle.io.specs.Counts.{Counts};
+ghost use Rattle.model.specs.Archive.{pagesIn};
+ghost use Rattle.model.specs.Refusals.{planPair};
+ghost use Rattle.theory.specs.ArchiveBack.{Planned};
+ghost use Rattle.pages.specs.Text.{planLines, answerLines, reportOf};
+ghost use Rattle.pages.specs.Appended.{Filled, reportBytes};
+ghost use Rattle.pages.specs.Listing.{linesIn};
+
+// The longest archive: 1,024 pages and 1,024 nodes.
+const ARCHIVE_BYTES: usize = 16390;
+
+// As many marks as a word can ask for: N may be anything until it is checked.
+const MARKS: usize = 65535;
+
+const SCRATCH_WORDS: usize = 10240;
+
+// The lines of the plan that an archive tells.
+fn list_pages(archive: &[u8], out: &mut [u8]) -> usize
+    requires { ⌜ (pagesIn (now archive) ≤ 1024) × (reportBytes ≤ length (now out)) ⌝ }
+    ensures { λ r. ⌜ Filled (linesIn (now (archive .entry))) (now (out .exit)) r ⌝ }
+    ensures { λ r. ⌜ r ≤ reportBytes ⌝ }
+{
+    let pages = word_at(archive, 2);
+    let root = word_at(archive, 5);
+    let limit = limit_of(archive);
+    let mut at = head_line(out, 0, pages as u32, root as u32, limit as u32);
+    let mut p: u16 = 0;
+    while p < pages {
+        let record = 3 + 4 * (p as u32);
+        p += 1;
+        let first = word_at(archive, record);
+        let last = word_at(archive, record + 1);
+        let weight = word_at(archive, record + 2);
+        at = page_line(
+            out,
+            at,
+            p as u32,
+            first as u32,
+            last as u32,
+            weight as u32,
+        );
+    }
+    at
+}
+
+// The lines of a feasible plan.
+fn list_plan(table: &[u8], marks: &[u8], out: &mut [u8]) -> usize
+    requires { ⌜ Planned (now table) (now marks) × (reportBytes ≤ length (now out)) ⌝ }
+    ensures { λ r. ⌜ Filled (planLines (now (table .entry)) (now (marks .entry))) (now (out .exit)) r ⌝ }
+    ensures { λ r. ⌜ r ≤ reportBytes ⌝ }
+{
+    let pages = count_pages(table, marks) as usize;
+    let nodes = node_count(table) as usize;
+    let size = 6 + 8 * pages + 8 * nodes;
+    let mut archive = [0u8; ARCHIVE_BYTES];
+    write_archive(table, marks, &mut archive[..size]);
+    list_pages(&archive[..size], out)
+}
+
+// The planner's answer, and the plan that it made, with these marks and this scratch.
+fn report_plan(table: &[u8], marks: &mut [u8], scratch: &mut [u32], out: &mut [u8]) -> usize
+    requires { ⌜ reportBytes ≤ length (now out) ⌝ }
+    ensures { λ r. ⌜ Filled (answerLines (now (table .entry)) (planPair (now (table .entry)) (now (marks .entry)) (now (scratch .entry)))) (now (out .exit)) r ⌝ }
+    ensures { λ r. ⌜ r ≤ reportBytes ⌝ }
+{
+    let answer = plan_pair(table, marks, scratch);
+    if answer.number != 0 {
+        return refusal_line(out, 0, answer.number, answer.place);
+    }
+    list_plan(table, marks, out)
+}
+
+// All that the program writes for a table.
+pub fn report(table: &[u8], out: &mut [u8]) -> usize
+    requires { ⌜ reportBytes ≤ length (now out) ⌝ }
+    ensures { λ r. ⌜ Counts r (now (out .exit)) ⌝ }
+    ensures { λ r. ⌜ take r (now (out .exit)) ≡ reportOf (now (table .entry)) ⌝ }
+{
+    let nodes = node_count(table) as usize;
+    let mut marks = [0u8; MARKS];
+    let mut scratch = [0u32; SCRATCH_WORDS];
+    report_plan(table, &mut marks[..nodes], &mut scratch, out)
+}
