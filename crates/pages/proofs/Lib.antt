@@ -1,3 +1,5 @@
 pub mod Putting
 pub mod Digits
 pub mod Listed
+pub mod Archived
+pub mod Lent

@@ -2,13 +2,13 @@
 use Prim.Native.Nat.{ℕ, _+_, _*_, _≤_, _<_}
 use native.Mathlib.Omega.{arith}
 use mathlib.Core.Path.{_≡_, refl, _∙_, ap}
-use mathlib.Core.List.{List, _++_}
+use mathlib.Core.List.{List}
 use lib.ListN.{length}
 use Rattle.model.specs.Table.{wordAt, limitOf}
 use Rattle.model.specs.Archive.{pagesIn}
 use Rattle.pages.specs.Text.{headLine, pageLine}
-use Rattle.pages.specs.Appended.{Appended, Filled, filled-first, filled-then, lineBytes, reportBytes}
-use Rattle.pages.specs.Listing.{linesUpto, linesIn, lineIn, lines-more, line-is, head-is}
+use Rattle.pages.specs.Appended.{Appended, Filled, filled-first, filled-then, lineBytes}
+use Rattle.pages.specs.Listing.{linesUpto, linesIn, lines-more, line-is, head-is}
 
 -- p pages are listed, up to the position at
 pub record Listed (a out₀ : List ℕ) (p at : ℕ) (out : List ℕ) : Type 0 where

@@ -4,10 +4,9 @@ use Prim.Native.Nat.{ℕ, suc, _+_, _-_, _*_, _≤_}
 use native.Mathlib.Omega.{arith}
 use native.Mathlib.Numerals.{add-one}
 use mathlib.Core.Bool.{true, false, true≢false}
-use mathlib.Core.Path.{_≡_, refl, sym, _∙_, ap, ap₂}
+use mathlib.Core.Path.{_≡_, sym, _∙_, ap, ap₂}
 use mathlib.Core.Logic.{_⊎_, inl, inr}
 use mathlib.Core.List.{List, _++_, append-assoc}
-use lib.ListN.{length}
 use lib.Dec.{eqb}
 use borrow.Author.Tests.{eq-eqb, ne-eqb}
 use Rattle.model.specs.Basics.{listTo}
@@ -139,11 +138,15 @@ module _ (steps : ℕ → Chain → List ℕ) (t m s : List ℕ) (r : Answer) (m
           ∙ e))
 
 -- the lines of an answer, by its number
-module _ (t : List ℕ) (r : Answer) (m s : List ℕ) where
-  pub lines-refused : (r .number ≡ 0 → ⊥) → refusalLine (r .number) (r .place) ≡ answerLines t (outcome r m s)
+module _ (t : List ℕ) (r : Answer) (m s : List ℕ) {made : Left} (is : outcome r m s ≡ made) where
+  pub lines-refused : (r .number ≡ 0 → ⊥) → refusalLine (r .number) (r .place) ≡ answerLines t made
   unfolding answerLines
-  lines-refused h = sym (pick-false (eqb (r .number) 0) (planLines t m) (refusalLine (r .number) (r .place)) (ne-eqb (r .number) 0 h))
+  lines-refused h =
+      sym (pick-false (eqb (r .number) 0) (planLines t m) (refusalLine (r .number) (r .place)) (ne-eqb (r .number) 0 h))
+      ∙ ap (answerLines t) is
 
-  pub lines-planned : r .number ≡ 0 → planLines t m ≡ answerLines t (outcome r m s)
+  pub lines-planned : r .number ≡ 0 → planLines t m ≡ answerLines t made
   unfolding answerLines
-  lines-planned z = sym (pick-true (eqb (r .number) 0) (planLines t m) (refusalLine (r .number) (r .place)) (eq-eqb (r .number) 0 z))
+  lines-planned z =
+      sym (pick-true (eqb (r .number) 0) (planLines t m) (refusalLine (r .number) (r .place)) (eq-eqb (r .number) 0 z))
+      ∙ ap (answerLines t) is

@@ -1,8 +1,8 @@
 // The report of a table: the plan is made and written as an archive, whose page records give the lines.
-use archive::write::write_archive;
 use crate::text::head_line;
 use crate::text::page_line;
 use crate::text::refusal_line;
+use archive::write::write_archive;
 use judge::pages::count_pages;
 use planner::plan_pair;
 use table::words::limit_of;
@@ -44,14 +44,7 @@ fn list_pages(archive: &[u8], out: &mut [u8]) -> usize
         let first = word_at(archive, record);
         let last = word_at(archive, record + 1);
         let weight = word_at(archive, record + 2);
-        at = page_line(
-            out,
-            at,
-            p as u32,
-            first as u32,
-            last as u32,
-            weight as u32,
-        );
+        at = page_line(out, at, p as u32, first as u32, last as u32, weight as u32);
     }
     at
 }

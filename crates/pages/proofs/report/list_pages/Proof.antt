@@ -1,12 +1,6 @@
 -- `pages::report::list_pages` meets its contract. Assumes nothing.
 use Rattle.pages.proofs.report.list_pages.Statement.{statement}
 use Rattle.pages.proofs.report.list_pages.Tie as tie
-use Rattle.pages.proofs.report.list_pages.Reads as reads
-use Rattle.pages.proofs.report.list_pages.Lts as lts
-use Rattle.pages.proofs.text.head_line.Reads as head-line-reads
-use Rattle.pages.proofs.text.page_line.Reads as page-line-reads
-use Rattle.table.proofs.words.limit_of.Reads as limit-of-reads
-use Rattle.table.proofs.words.word_at.Reads as word-at-reads
 use mathlib.Core.Path.{_≡_, _∙_}
 use Prim.Native.Nat.{_-_, _≤_}
 use native.Mathlib.Omega.{arith}
@@ -115,7 +109,7 @@ loop-again c =
       g .inv .1,
       g .inv .2,
       listed-turn _ (g .inv .3) (omega (arith, g .inv .0)) (e .before .before .word-at3 .ensures) (e .before .word-at4 .ensures) (e .word-at5 .ensures)
-      (w .page-line .ensures .0) (w .page-line .ensures .1) (w .page-line .kept .0),
+          (w .page-line .ensures .0) (w .page-line .ensures .1) (w .page-line .kept .0),
     )
 
 same-length : tie.Need-same-length Inv-loop μ-loop

@@ -2,12 +2,10 @@
 use borrow.Author.Needs.{needs}
 use Rattle.pages.proofs.report.list_plan.Statement.{statement}
 use Rattle.pages.proofs.report.list_plan.Tie as tie
-use Rattle.pages.proofs.report.list_plan.Reads as reads
-use Rattle.pages.proofs.report.list_plan.Lts as lts
-use Rattle.archive.proofs.write.write_archive.Reads as write-archive-reads
-use Rattle.judge.proofs.pages.count_pages.Reads as count-pages-reads
-use Rattle.pages.proofs.report.list_pages.Reads as list-pages-reads
-use Rattle.table.proofs.words.node_count.Reads as node-count-reads
+use mathlib.Core.Path.{sym, _∙_}
+use native.Mathlib.Omega.{arith}
+use Rattle.archive.proofs.Parts.{fresh-part, part-within, part-long}
+use Rattle.pages.proofs.Archived.{size-most, part-pages, part-lines}
 
 count-pages-requires : tie.Need-count-pages-requires
 count-pages-requires c κs = search needs
@@ -34,28 +32,71 @@ add-size-2 : tie.Need-add-size-2
 add-size-2 c = search needs
 
 array-borrow-prefix-archive : tie.Need-array-borrow-prefix-archive
-array-borrow-prefix-archive c = ?
+array-borrow-prefix-archive c =
+    let n = c in
+    let k = n .before .count-pages in
+    let s = n .before .before .before .before .before in
+    let size = size-most (s .pre .0) (k .ensures) (n .node-count .ensures) in
+    omega arith
 
 slice-aggregate-write-archive : tie.Need-slice-aggregate-write-archive
-slice-aggregate-write-archive c = ?
+slice-aggregate-write-archive c =
+    let n = c .before in
+    let k = n .before .count-pages in
+    let s = n .before .before .before .before .before in
+    let size = size-most (s .pre .0) (k .ensures) (n .node-count .ensures) in
+    sym (fresh-part 16390 _ size)
 
 write-archive-requires : tie.Need-write-archive-requires
 write-archive-requires c κs = search needs
 
 array-share-prefix-archive : tie.Need-array-share-prefix-archive
-array-share-prefix-archive c = ?
+array-share-prefix-archive c =
+    let w = c .before in
+    let n = w .before .before in
+    let k = n .before .count-pages in
+    let s = n .before .before .before .before .before in
+    let fresh = fresh-part 16390 _ (size-most (s .pre .0) (k .ensures) (n .node-count .ensures)) in
+    let same = w .write-archive .kept .1 .1 .0 in
+    let e = w .write-archive .last .1 .1 .0 in
+    part-within e _ _ (same ∙ fresh)
 
 slice-aggregate-list-pages : tie.Need-slice-aggregate-list-pages
-slice-aggregate-list-pages c = ?
+slice-aggregate-list-pages c =
+    let w = c .before .before in
+    let n = w .before .before in
+    let k = n .before .count-pages in
+    let s = n .before .before .before .before .before in
+    let fresh = fresh-part 16390 _ (size-most (s .pre .0) (k .ensures) (n .node-count .ensures)) in
+    let same = w .write-archive .kept .1 .1 .0 in
+    let e = w .write-archive .last .1 .1 .0 in
+    part-long e _ _ (same ∙ fresh)
 
 list-pages-requires : tie.Need-list-pages-requires
-list-pages-requires c κs = ?
+list-pages-requires c κs =
+    let w = c .before .before .before in
+    let n = w .before .before in
+    let k = n .before .count-pages in
+    let s = n .before .before .before .before .before in
+    let fresh = fresh-part 16390 _ (size-most (s .pre .0) (k .ensures) (n .node-count .ensures)) in
+    let same = w .write-archive .kept .1 .1 .0 in
+    let e = w .write-archive .last .1 .1 .0 in
+    (part-pages (s .pre .0) (k .ensures) (n .node-count .ensures) _ e _ (w .write-archive .result) fresh same (w .write-archive .ensures), s .pre .1)
 
 same-length : tie.Need-same-length
 same-length c = search needs
 
 returns : tie.Need-returns
-returns c = ?
+returns c =
+    let w = c .before .before .before .before .before .before in
+    let n = w .before .before in
+    let k = n .before .count-pages in
+    let s = n .before .before .before .before .before in
+    let fresh = fresh-part 16390 _ (size-most (s .pre .0) (k .ensures) (n .node-count .ensures)) in
+    let same = w .write-archive .kept .1 .1 .0 in
+    let e = w .write-archive .last .1 .1 .0 in
+    let l = c .before .before .list-pages in
+    (part-lines (s .pre .0) (k .ensures) (n .node-count .ensures) _ e _ (w .write-archive .result) fresh same (w .write-archive .ensures) (l .ensures .0), l .ensures .1)
 
 pub list-plan-spec : {M : Type 1} → statement M
 list-plan-spec =

@@ -2,11 +2,11 @@
 use borrow.Author.Needs.{needs}
 use Rattle.pages.proofs.report.report_plan.Statement.{statement}
 use Rattle.pages.proofs.report.report_plan.Tie as tie
-use Rattle.pages.proofs.report.report_plan.Reads as reads
-use Rattle.pages.proofs.report.report_plan.Lts as lts
-use Rattle.pages.proofs.report.list_plan.Reads as list-plan-reads
-use Rattle.pages.proofs.text.refusal_line.Reads as refusal-line-reads
-use Rattle.planner.proofs.plan_pair.Reads as plan-pair-reads
+use native.Mathlib.Omega.{arith}
+use Rattle.model.specs.Steps.{pairMarks}
+use Rattle.model.specs.Refusals.{planPair}
+use Rattle.pages.specs.Appended.{filled-first}
+use Rattle.pages.specs.Listing.{made-planned, lines-refused, lines-planned}
 
 plan-pair-requires : tie.Need-plan-pair-requires
 plan-pair-requires c κs = search needs
@@ -24,10 +24,22 @@ same-length-3 : tie.Need-same-length-3
 same-length-3 c = search needs
 
 returns : tie.Need-returns
-returns c = ?
+returns c =
+    let f = c .before .before in
+    let n = f .before .before in
+    let a = n .before .before .before .before .before .before .plan-pair in
+    let t = n .before .before .before .before .before .before .before .before .before .before .before .before .before .args .table .now in (
+      rw (lines-refused t (a .result) (a .last .1 .0) (a .last .1 .1 .0) (a .ensures) (n .if1 .taken)) at (filled-first (f .refusal-line .ensures .0)),
+      omega (arith, f .refusal-line .ensures .1),
+    )
 
 list-plan-requires : tie.Need-list-plan-requires
-list-plan-requires c κs = ?
+unfolding planPair
+list-plan-requires c κs =
+    let n = c .before .before in
+    let a = n .before .before .before .before .before .before .plan-pair in
+    let s = n .before .before .before .before .before .before .before .before .before .before .before .before .before in
+    (made-planned pairMarks _ _ _ (a .result) _ _ (a .ensures) (n .if1 .left), s .pre)
 
 same-length-4 : tie.Need-same-length-4
 same-length-4 c = search needs
@@ -39,7 +51,12 @@ same-length-6 : tie.Need-same-length-6
 same-length-6 c = search needs
 
 returns-2 : tie.Need-returns-2
-returns-2 c = ?
+returns-2 c =
+    let f = c .before .before in
+    let n = f .before .before .before in
+    let a = n .before .before .before .before .before .before .plan-pair in
+    let t = n .before .before .before .before .before .before .before .before .before .before .before .before .before .args .table .now in
+    (rw (lines-planned t (a .result) _ _ (a .ensures) (n .if1 .left)) at (f .list-plan .ensures .0), f .list-plan .ensures .1)
 
 pub report-plan-spec : {M : Type 1} → statement M
 report-plan-spec =
