@@ -1,0 +1,228 @@
+//! Tests of the page program: a table goes in on standard input, and what comes out is compared
+//! with the text that the model gives. BALDUQEN_PAGES names the program.
+#![cfg(has_pages)]
+
+use balduqen_tests::cases::*;
+use balduqen_tests::check::{show, Seen};
+use balduqen_tests::gen::*;
+use balduqen_tests::model::{pages, read, scratch_length, word, Answer};
+use std::io::{ErrorKind, Write};
+use std::process::{Command, Stdio};
+use std::time::Duration;
+use std::{env, thread};
+
+/// The planner whose plan the program writes.
+const KIND: Kind = Kind::Pair;
+
+/// What the program reads at most.
+const MOST_INPUT: usize = 8197;
+
+/// The scratch words that it lends.
+const SCRATCH: usize = 10240;
+
+/// Runs the program on an input that comes in pieces.
+fn run_on_pieces(pieces: &[&[u8]]) -> String {
+    let program = env::var("BALDUQEN_PAGES").unwrap_or("../target/bin/pages".to_string());
+    let mut child = Command::new(&program)
+        .stdin(Stdio::piped())
+        .stdout(Stdio::piped())
+        .stderr(Stdio::piped())
+        .spawn()
+        .unwrap_or_else(|error| panic!("{program}: {error}"));
+    let mut input = child.stdin.take().expect("a pipe");
+    for (index, piece) in pieces.iter().enumerate() {
+        if index > 0 {
+            thread::sleep(Duration::from_millis(2));
+        }
+        match input.write_all(piece) {
+            // It has read all it wants and is gone.
+            Err(error) if error.kind() == ErrorKind::BrokenPipe => break,
+            result => result.expect("the input is written"),
+        }
+    }
+    drop(input);
+    let output = child.wait_with_output().expect("the program ends");
+    assert!(output.status.success(), "{:?}", output.status);
+    assert!(output.stderr.is_empty(), "{}", show(&output.stderr));
+    String::from_utf8(output.stdout).expect("text")
+}
+
+fn run(input: &[u8]) -> String {
+    run_on_pieces(&[input])
+}
+
+/// The model's answer to an input, and its text.
+fn expected(input: &[u8]) -> (Answer, String) {
+    let table = &input[..input.len().min(MOST_INPUT)];
+    let count = if table.len() < 2 { 0 } else { word(table, 0) };
+    let mut marks = vec![0; count];
+    let answer = KIND.model()(table, &mut marks, &mut [0; SCRATCH]);
+    if !answer.is_accepted() {
+        let text = format!("refused {} at {}\n", answer.number, answer.place);
+        return (answer, text);
+    }
+    let tree = read(table).expect("an accepted table");
+    let mut text = format!(
+        "pages {} root {} limit {}\n",
+        answer.pages, answer.root, tree.limit
+    );
+    for (number, page) in (1..).zip(pages(&tree, &marks)) {
+        text += &format!(
+            "page {number} first {} last {} weight {}\n",
+            page.first, page.last, page.weight
+        );
+    }
+    (answer, text)
+}
+
+/// Compares what the program writes with what the model gives, and hands the answer back.
+fn check(input: &[u8]) -> Answer {
+    let (answer, text) = expected(input);
+    assert_eq!(run(input), text, "{}", show(input));
+    answer
+}
+
+/// Document 01's text for case E, letter by letter.
+#[test]
+fn case_e_whole() {
+    let text = "pages 3 root 5 limit 5\n\
+                page 1 first 1 last 1 weight 5\n\
+                page 2 first 2 last 6 weight 4\n\
+                page 3 first 4 last 5 weight 4\n";
+    assert_eq!(run(&case_e().bytes()), text);
+    let too_low = Table {
+        limit: 4,
+        ..case_e()
+    };
+    assert_eq!(run(&too_low.bytes()), "refused 7 at 1\n");
+}
+
+#[test]
+fn cases() {
+    for made in made().into_iter().filter(|made| made.kind == KIND) {
+        let answer = check(&made.table.bytes());
+        assert_eq!(answer, Answer::accepted(made.pages, made.root));
+    }
+    for (table, number, place) in refused_tables() {
+        assert_eq!(check(&table), Answer::refused(number, place));
+        assert_eq!(run(&table), format!("refused {number} at {place}\n"));
+    }
+}
+
+/// Case E with every selection of faults 1 to 7.
+#[test]
+fn order_of_the_checks() {
+    for (table, number, _) in faulty_tables() {
+        assert_eq!(check(&table).number, number);
+    }
+}
+
+#[test]
+fn no_input_and_short_input() {
+    assert_eq!(run(&[]), "refused 1 at 0\n");
+    let table = case_e().bytes();
+    for length in 0..table.len() {
+        let number = if length < 4 { 1 } else { 4 };
+        assert_eq!(check(&table[..length]).number, number);
+    }
+}
+
+/// The program reads one byte more than the longest table has, and no more.
+#[test]
+fn long_input() {
+    let random = &mut Random::new(901);
+    let mut largest = random_table(random, Form::Mixed, 1024, 1).bytes();
+    assert_eq!(largest.len(), MOST_INPUT - 1);
+    assert_eq!(run(&largest), "refused 9 at 16384\n");
+    for length in [MOST_INPUT, MOST_INPUT + 1, 10000, 60000] {
+        largest.resize(length, 0);
+        assert_eq!(run(&largest), "refused 4 at 8196\n");
+        let mut small = case_e().bytes();
+        small.resize(length, 0);
+        assert_eq!(run(&small), "refused 4 at 52\n");
+        assert_eq!(run(&vec![0; length]), "refused 2 at 0\n");
+        assert_eq!(run(&vec![255; length]), "refused 2 at 65535\n");
+    }
+}
+
+/// A pipe gives what is there; the program waits for the rest.
+#[test]
+fn input_in_pieces() {
+    let random = &mut Random::new(902);
+    for _ in 0..40 {
+        let table = any_table(random, 60, 30).bytes();
+        let (low, high) = (random.between(0, 8), random.between(9, table.len()));
+        let pieces = [&table[..low], &table[low..high], &table[high..]];
+        assert_eq!(run_on_pieces(&pieces), expected(&table).1);
+    }
+}
+
+/// 10,240 words serve N x (K + 3) up to 2,560.
+#[test]
+fn scratch_that_is_lent() {
+    let random = &mut Random::new(903);
+    let mut seen = Seen::default();
+    let sizes = [
+        (640, 1),
+        (641, 1),
+        (512, 2),
+        (513, 2),
+        (512, 3),
+        (256, 7),
+        (257, 7),
+        (256, 8),
+        (2, 1024),
+        (3, 1024),
+        (1024, 1),
+        (1024, 1024),
+    ];
+    for (count, limit) in sizes {
+        for form in FORMS {
+            let table = random_table(random, form, count, limit).bytes();
+            let answer = check(&table);
+            let asked = scratch_length(count, limit);
+            if asked > SCRATCH {
+                assert_eq!(answer, Answer::refused(9, asked));
+            } else {
+                assert!(answer.is_accepted());
+            }
+            seen.add(answer);
+        }
+    }
+    seen.expect(&[0, 9], 20);
+}
+
+#[test]
+fn small_trees() {
+    let mut seen = Seen::default();
+    for_each_table(1..=4, &[1, 2, 3], &[2, 4], |table| seen.add(check(table)));
+    seen.expect(&[0, 7], 100);
+}
+
+#[test]
+fn random_trees() {
+    let random = &mut Random::new(904);
+    let mut seen = Seen::default();
+    for _ in 0..500 {
+        let limit = random.pick(&[6, 12, 30]);
+        seen.add(check(&any_table(random, 70, limit).bytes()));
+    }
+    // Numbers of one to four digits.
+    for _ in 0..100 {
+        let (form, count) = (random.pick(&FORMS), random.between(1, 4));
+        let limit = random.pick(&[9, 10, 99, 100, 637, 999, 1000, 1024]);
+        seen.add(check(&random_table(random, form, count, limit).bytes()));
+    }
+    seen.expect(&[0, 9], 10);
+}
+
+#[test]
+fn damaged_tables() {
+    let random = &mut Random::new(905);
+    let mut seen = Seen::default();
+    for _ in 0..1000 {
+        let table = any_table(random, 12, 12);
+        seen.add(check(&damaged(random, &table)));
+    }
+    seen.expect(&[0, 1, 2, 3, 4, 5, 6, 7, 9], 5);
+}
