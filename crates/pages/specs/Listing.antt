@@ -1,5 +1,5 @@
 -- The lines of a plan, read off its archive; and that a planner's acceptance leaves a feasible plan.
--- Defines linesUpto, linesIn. Proves lines-back, made-planned. Assumes nothing.
+-- Defines lineIn, headIn, linesUpto, linesIn. Proves lines-back, made-planned. Assumes nothing.
 use Prim.Native.Nat.{ℕ, suc, _+_, _-_, _*_, _≤_}
 use native.Mathlib.Omega.{arith}
 use native.Mathlib.Numerals.{add-one}
