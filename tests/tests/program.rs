@@ -12,7 +12,7 @@ use std::time::Duration;
 use std::{env, thread};
 
 /// The planner whose plan the program writes.
-const KIND: Kind = Kind::Pair;
+const KIND: Kind = Kind::Best;
 
 /// What the program reads at most.
 const MOST_INPUT: usize = 8197;

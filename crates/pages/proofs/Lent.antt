@@ -7,7 +7,7 @@ use lib.ListN.{length, take, replicate, length-replicate, replicate-append-repli
 use lib.Seq.{length-take-le, take-at}
 use Rattle.io.specs.Counts.{Counts}
 use Rattle.model.specs.Table.{nodeCount}
-use Rattle.model.specs.Refusals.{planPair}
+use Rattle.model.specs.Refusals.{planBest}
 use Rattle.pages.specs.Text.{scratchLent, answerLines, reportOf}
 use Rattle.pages.specs.Appended.{Filled, reportBytes}
 
@@ -19,10 +19,10 @@ zeros most n h =
     ∙ take-at (replicate n 0) (replicate (most - n) 0) n (length-replicate n 0)
 
 pub report-whole : (t out : List ℕ) (most n r : ℕ) → n ≡ nodeCount t → n ≤ most
-    → Filled (answerLines t (planPair t (take n (replicate most 0)) (replicate scratchLent 0))) out r → r ≤ reportBytes → reportBytes ≤ length out
+    → Filled (answerLines t (planBest t (take n (replicate most 0)) (replicate scratchLent 0))) out r → r ≤ reportBytes → reportBytes ≤ length out
     → Counts r out × (take r out ≡ reportOf t)
 unfolding reportOf
 report-whole t out most n r e fits h small room = (
   (omega arith, sym (length-take-le r out (omega arith))),
-  h .bytes ∙ ap (λ m. answerLines t (planPair t m (replicate scratchLent 0))) (zeros most n fits ∙ ap (λ k. replicate k 0) e),
+  h .bytes ∙ ap (λ m. answerLines t (planBest t m (replicate scratchLent 0))) (zeros most n fits ∙ ap (λ k. replicate k 0) e),
 )

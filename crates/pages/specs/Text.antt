@@ -7,7 +7,7 @@ use Rattle.model.specs.Basics.{pick, listTo}
 use Rattle.model.specs.Table.{nodeCount, limitOf}
 use Rattle.model.specs.Plan.{pageCount, pageWeight}
 use Rattle.model.specs.Runs.{Run, rootRun, runsOf}
-use Rattle.model.specs.Refusals.{Planned, planPair}
+use Rattle.model.specs.Refusals.{Planned, planBest}
 
 -- ---- Numbers and words
 
@@ -96,4 +96,4 @@ scratchLent = 10240
 
 -- what the program writes for the table t: it lends a mark a node and the scratch words, all zero
 unfoldable pub reportOf : List ℕ → List ℕ
-reportOf t = answerLines t (planPair t (replicate (nodeCount t) 0) (replicate scratchLent 0))
+reportOf t = answerLines t (planBest t (replicate (nodeCount t) 0) (replicate scratchLent 0))

@@ -3,8 +3,8 @@ use crate::text::head_line;
 use crate::text::page_line;
 use crate::text::refusal_line;
 use archive::write::write_archive;
-use judge::pages::count_pages;
-use planner::plan_pair;
+use judge::pages::lay_plan;
+use planner::plan_best;
 use table::words::limit_of;
 use table::words::node_count;
 use table::words::word_at;
@@ -13,7 +13,7 @@ ghost use Prim.Native.Nat.{_≤_};
 ghost use lib.ListN.{length, take};
 ghost use Rattle.io.specs.Counts.{Counts};
 ghost use Rattle.model.specs.Archive.{pagesIn};
-ghost use Rattle.model.specs.Refusals.{planPair};
+ghost use Rattle.model.specs.Refusals.{planBest};
 ghost use Rattle.theory.specs.ArchiveBack.{Planned};
 ghost use Rattle.pages.specs.Text.{planLines, answerLines, reportOf};
 ghost use Rattle.pages.specs.Appended.{Filled, reportBytes};
@@ -55,7 +55,8 @@ fn list_plan(table: &[u8], marks: &[u8], out: &mut [u8]) -> usize
     ensures { λ r. ⌜ Filled (planLines (now (table .entry)) (now (marks .entry))) (now (out .exit)) r ⌝ }
     ensures { λ r. ⌜ r ≤ reportBytes ⌝ }
 {
-    let pages = count_pages(table, marks) as usize;
+    let plan = lay_plan(table, marks);
+    let pages = plan.pages as usize;
     let nodes = node_count(table) as usize;
     let size = 6 + 8 * pages + 8 * nodes;
     let mut archive = [0u8; ARCHIVE_BYTES];
@@ -66,10 +67,10 @@ fn list_plan(table: &[u8], marks: &[u8], out: &mut [u8]) -> usize
 // The planner's answer, and the plan that it made, with these marks and this scratch.
 fn report_plan(table: &[u8], marks: &mut [u8], scratch: &mut [u32], out: &mut [u8]) -> usize
     requires { ⌜ reportBytes ≤ length (now out) ⌝ }
-    ensures { λ r. ⌜ Filled (answerLines (now (table .entry)) (planPair (now (table .entry)) (now (marks .entry)) (now (scratch .entry)))) (now (out .exit)) r ⌝ }
+    ensures { λ r. ⌜ Filled (answerLines (now (table .entry)) (planBest (now (table .entry)) (now (marks .entry)) (now (scratch .entry)))) (now (out .exit)) r ⌝ }
     ensures { λ r. ⌜ r ≤ reportBytes ⌝ }
 {
-    let answer = plan_pair(table, marks, scratch);
+    let answer = plan_best(table, marks, scratch);
     if answer.number != 0 {
         return refusal_line(out, 0, answer.number, answer.place);
     }

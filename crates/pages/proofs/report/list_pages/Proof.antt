@@ -1,6 +1,4 @@
 -- `pages::report::list_pages` meets its contract. Assumes nothing.
-use Rattle.pages.proofs.report.list_pages.Statement.{statement}
-use Rattle.pages.proofs.report.list_pages.Tie as tie
 use mathlib.Core.Path.{_≡_, _∙_}
 use Prim.Native.Nat.{_-_, _≤_}
 use native.Mathlib.Omega.{arith}
@@ -9,6 +7,8 @@ use Rattle.model.specs.Archive.{pagesIn}
 use Rattle.pages.specs.Appended.{reportBytes}
 use Rattle.pages.proofs.Listed.{Listed, listed-start, listed-turn, listed-end}
 use borrow.Author.Needs.{needs}
+use Rattle.pages.proofs.report.list_pages.Statement.{statement}
+use Rattle.pages.proofs.report.list_pages.Tie as tie
 
 abbrev Inv-loop : tie.InvT-loop
 Inv-loop archive out₀ pages root limit at₀ p₀ out at p =

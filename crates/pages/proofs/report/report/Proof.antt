@@ -1,11 +1,11 @@
 -- `pages::report::report` meets its contract. Assumes nothing.
-use borrow.Author.Needs.{needs}
-use Rattle.pages.proofs.report.report.Statement.{statement}
-use Rattle.pages.proofs.report.report.Tie as tie
 use mathlib.Core.Path.{sym}
 use native.Mathlib.Omega.{arith}
 use Rattle.archive.proofs.Parts.{fresh-part}
 use Rattle.pages.proofs.Lent.{report-whole}
+use borrow.Author.Needs.{needs}
+use Rattle.pages.proofs.report.report.Statement.{statement}
+use Rattle.pages.proofs.report.report.Tie as tie
 
 node-count-requires : tie.Need-node-count-requires
 node-count-requires c κs = search needs

@@ -1,10 +1,10 @@
 -- `pages::text::head_line` meets its contract. Assumes nothing.
-use borrow.Author.Needs.{needs}
-use Rattle.pages.proofs.text.head_line.Statement.{statement}
-use Rattle.pages.proofs.text.head_line.Tie as tie
 use native.Mathlib.Omega.{arith}
 use Rattle.pages.specs.Text.{headLine}
 use Rattle.pages.specs.Appended.{appended-then}
+use borrow.Author.Needs.{needs}
+use Rattle.pages.proofs.text.head_line.Statement.{statement}
+use Rattle.pages.proofs.text.head_line.Tie as tie
 
 slice-aggregate-put-item : tie.Need-slice-aggregate-put-item
 slice-aggregate-put-item c = search needs

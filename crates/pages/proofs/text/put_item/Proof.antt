@@ -1,9 +1,9 @@
 -- `pages::text::put_item` meets its contract. Assumes nothing.
+use native.Mathlib.Omega.{arith}
+use Rattle.pages.proofs.Digits.{number-long, item-end}
 use borrow.Author.Needs.{needs}
 use Rattle.pages.proofs.text.put_item.Statement.{statement}
 use Rattle.pages.proofs.text.put_item.Tie as tie
-use native.Mathlib.Omega.{arith}
-use Rattle.pages.proofs.Digits.{number-long, item-end}
 
 decimal-requires : tie.Need-decimal-requires
 decimal-requires c κs = search needs
