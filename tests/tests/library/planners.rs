@@ -99,10 +99,7 @@ fn order_of_the_checks(tested: Tested) {
 fn all_small_trees(tested: Tested) {
     let random = &mut Random::new(802);
     let mut seen = Seen::default();
-    for_each_table(1..=5, &[1, 2, 3], &[1, 2, 3, 4], |table| {
-        seen.add(tested.plan_with_good_buffers(random, table).0);
-    });
-    for_each_table(6..=6, &[1, 2], &[2, 3, 4, 5], |table| {
+    for_each_table(1..=6, &[1, 2, 3, 4], &[1, 2, 3, 4], |table| {
         seen.add(tested.plan_with_good_buffers(random, table).0);
     });
     seen.expect(&[0, 7], 1000);
