@@ -49,7 +49,6 @@ gcc -std=c11 -Wall -Wextra -Werror -Iinclude examples/case_e.c -o target/case_e 
 status=$?
 add example "$status" "$((status == 0))" 0
 
-export BALDUQEN_LIB=../target/staticlib
 in_rust tests
 in_rust tools
 

@@ -4,7 +4,6 @@ use crate::planner::{Kind, Planner};
 
 /// A slice goes as a pointer and then a length. Each call hands over slices that live through it,
 /// which is what makes the unsafe block sound.
-#[allow(unused_macros)]
 macro_rules! planner {
     ($entry:ident) => {{
         use crate::planner::Answer;
@@ -30,22 +29,16 @@ macro_rules! planner {
                 )
             }
         }
-        Some(call as Planner)
+        call
     }};
 }
 
-/// The library's planner; none where it is not linked.
-#[allow(unreachable_patterns)]
-pub fn planner(kind: Kind) -> Option<Planner> {
+/// The library's planner.
+pub fn planner(kind: Kind) -> Planner {
     match kind {
-        #[cfg(has_single)]
         Kind::Single => planner!(balduqen_plan_single),
-        #[cfg(has_pair)]
         Kind::Pair => planner!(balduqen_plan_pair),
-        #[cfg(has_level)]
         Kind::Level => planner!(balduqen_plan_level),
-        #[cfg(has_best)]
         Kind::Best => planner!(balduqen_plan_best),
-        _ => None,
     }
 }

@@ -1,8 +1,7 @@
 //! The planners of the proved library beside the same steps in plain Rust and beside the report's
 //! DHW: on the same trees, in the same run, as ratios. Nothing passes or fails by its time.
 //!
-//! BALDUQEN_LIB names the folder of libembed.a, and BALDUQEN_ENTRIES the entries that it has;
-//! `cargo run --release` in this folder then prints the table.
+//! `rt staticlib embed` writes the library; `cargo run --release` in this folder then prints the table.
 
 mod clock;
 mod columns;

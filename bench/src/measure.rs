@@ -30,8 +30,7 @@ pub const FORMS: [Form; 5] = [
 impl Form {
     fn is_tried(self, load: &Load, kind: Kind) -> bool {
         match self {
-            Form::Clearing | Form::Plain => true,
-            Form::Library => library::planner(kind).is_some(),
+            Form::Clearing | Form::Library | Form::Plain => true,
             Form::Dhw | Form::DhwOnDemand => has_dhw(load, kind),
         }
     }
@@ -43,7 +42,7 @@ impl Form {
                 black_box(&mut buffers.scratch).fill(0);
                 None
             }
-            Form::Library => Some(buffers.run(library::planner(kind)?, load)),
+            Form::Library => Some(buffers.run(library::planner(kind), load)),
             Form::Plain => Some(buffers.run(plain::planner(kind), load)),
             Form::Dhw => Some(dhw(Entries::All)),
             Form::DhwOnDemand => Some(dhw(Entries::OnDemand)),
@@ -83,16 +82,14 @@ pub fn check_agreement(load: &Load, kind: Kind) {
     let mut buffers = Buffers::soiled(load);
     let answer = buffers.run(plain::planner(kind), load);
     assert_eq!(answer.number, 0, "{place}: the tree is refused");
-    if let Some(planner) = library::planner(kind) {
-        let mut lent = Buffers::soiled(load);
-        let library = lent.run(planner, load);
-        assert_eq!(library, answer, "{place}: the library's answer differs");
-        assert!(lent.marks == buffers.marks, "{place}: the marks differ");
-        assert!(
-            lent.scratch == buffers.scratch,
-            "{place}: the scratch differs"
-        );
-    }
+    let mut lent = Buffers::soiled(load);
+    let library = lent.run(library::planner(kind), load);
+    assert_eq!(library, answer, "{place}: the library's answer differs");
+    assert!(lent.marks == buffers.marks, "{place}: the marks differ");
+    assert!(
+        lent.scratch == buffers.scratch,
+        "{place}: the scratch differs"
+    );
     if has_dhw(load, kind) {
         // The report leaves open which of equal plans is given, so the figures are compared.
         for form in [Form::Dhw, Form::DhwOnDemand] {

@@ -1,12 +1,9 @@
 //! The proved library behind its C interface. A slice goes as a pointer and then a length; that of
 //! an empty Rust slice is a valid pointer to nothing. Each call hands over slices that live through
 //! it, which is what makes the unsafe blocks sound.
-#![cfg(linked)]
 
-#[allow(unused_imports)]
 use crate::model::Answer;
 
-#[cfg(has_read_tree)]
 pub fn read_tree(table: &[u8]) -> Answer {
     extern "C" {
         fn balduqen_read_tree(table: *const u8, table_length: usize) -> Answer;
@@ -14,7 +11,6 @@ pub fn read_tree(table: &[u8]) -> Answer {
     unsafe { balduqen_read_tree(table.as_ptr(), table.len()) }
 }
 
-#[cfg(has_judge)]
 pub fn judge(table: &[u8], marks: &[u8]) -> Answer {
     extern "C" {
         fn balduqen_judge(
@@ -27,7 +23,6 @@ pub fn judge(table: &[u8], marks: &[u8]) -> Answer {
     unsafe { balduqen_judge(table.as_ptr(), table.len(), marks.as_ptr(), marks.len()) }
 }
 
-#[allow(unused_macros)]
 macro_rules! planner {
     ($name:ident, $entry:ident) => {
         pub fn $name(table: &[u8], marks: &mut [u8], scratch: &mut [u32]) -> Answer {
@@ -58,16 +53,11 @@ macro_rules! planner {
     };
 }
 
-#[cfg(has_single)]
 planner!(plan_single, balduqen_plan_single);
-#[cfg(has_pair)]
 planner!(plan_pair, balduqen_plan_pair);
-#[cfg(has_level)]
 planner!(plan_level, balduqen_plan_level);
-#[cfg(has_best)]
 planner!(plan_best, balduqen_plan_best);
 
-#[cfg(has_write_archive)]
 pub fn write_archive(table: &[u8], marks: &[u8], archive: &mut [u8]) -> Answer {
     extern "C" {
         fn balduqen_write_archive(
@@ -94,7 +84,6 @@ pub fn write_archive(table: &[u8], marks: &[u8], archive: &mut [u8]) -> Answer {
     }
 }
 
-#[cfg(has_read_archive)]
 pub fn read_archive(archive: &[u8], table: &mut [u8], marks: &mut [u8]) -> Answer {
     extern "C" {
         fn balduqen_read_archive(

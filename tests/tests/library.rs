@@ -1,20 +1,13 @@
-//! Tests of the proved library through its C interface, each call against the model. Nothing is
-//! compiled without the library, and only the entries it has are tested.
-#![cfg(linked)]
+//! Tests of the proved library through its C interface, each call against the model.
 
-#[cfg(has_judge)]
 #[path = "library/judge.rs"]
 mod judge;
-#[cfg(any(has_single, has_pair, has_level, has_best))]
 #[path = "library/planners.rs"]
 mod planners;
-#[cfg(has_read_archive)]
 #[path = "library/read_archive.rs"]
 mod read_archive;
-#[cfg(has_read_tree)]
 #[path = "library/read_tree.rs"]
 mod read_tree;
-#[cfg(has_write_archive)]
 #[path = "library/write_archive.rs"]
 mod write_archive;
 
@@ -23,7 +16,6 @@ use std::hint::black_box;
 
 /// Makes a call with a copy of the input and looks at it afterwards. The black box keeps the
 /// compiler from taking it for granted that the copy is unchanged.
-#[allow(dead_code)]
 fn with_copy<T>(input: &[u8], call: impl FnOnce(&[u8]) -> T) -> T {
     let copy = input.to_vec();
     let result = call(black_box(&copy));

@@ -1,6 +1,5 @@
 //! Tests of the page program: a table goes in on standard input, and what comes out is compared
 //! with the text that the model gives. BALDUQEN_PAGES names the program.
-#![cfg(has_pages)]
 
 use balduqen_tests::cases::*;
 use balduqen_tests::check::{show, Seen};

@@ -1,10 +1,9 @@
 //! The printed rule sheet, docs/RULE-SHEET.txt: its form, its example, and that the reader written
-//! from it alone reads archives exactly as the model and, where it is linked, the library.
+//! from it alone reads archives exactly as the model and the library.
 
 use balduqen_tests::cases::{archive_of_e, case_e, MARKS_OF_E};
 use balduqen_tests::check::show;
 use balduqen_tests::exhaustive::for_each_plan;
-#[cfg(any(has_write_archive, has_read_archive))]
 use balduqen_tests::ffi;
 use balduqen_tests::gen::*;
 use balduqen_tests::model::{
@@ -617,14 +616,12 @@ mod with_model {
     }
 }
 
-#[cfg(has_read_archive)]
 mod with_reader_of_library {
     use super::*;
 
     tests_of_reader!(ffi::read_archive);
 }
 
-#[cfg(has_write_archive)]
 mod with_writer_of_library {
     use super::*;
 

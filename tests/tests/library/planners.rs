@@ -206,17 +206,12 @@ macro_rules! planner_tests {
     };
 }
 
-#[cfg(has_single)]
 planner_tests!(single, Kind::Single, ffi::plan_single);
-#[cfg(has_pair)]
 planner_tests!(pair, Kind::Pair, ffi::plan_pair);
-#[cfg(has_level)]
 planner_tests!(level, Kind::Level, ffi::plan_level);
-#[cfg(has_best)]
 planner_tests!(best, Kind::Best, ffi::plan_best);
 
 /// The best planner against exhaustive search, without the model's planner.
-#[cfg(has_best)]
 mod search {
     use super::*;
     use balduqen_tests::exhaustive::{best_of_plans, best_of_run_sets, score_of_plan};

@@ -31,15 +31,11 @@ fn read_into(archive: &[u8], table: &[u8], marks: &[u8]) -> (Answer, Vec<u8>, Ve
 }
 
 /// An archive that is read is the very one that writing what was read gives.
-#[cfg_attr(not(has_write_archive), allow(unused_variables))]
 fn assert_rewritten(archive: &[u8], table: &[u8], marks: &[u8]) {
-    #[cfg(has_write_archive)]
-    {
-        let mut again = vec![7; archive.len()];
-        let answer = ffi::write_archive(table, marks, &mut again);
-        assert!(answer.is_accepted(), "{answer:?}: {}", show(archive));
-        assert!(again == archive, "{}; {}", show(&again), show(archive));
-    }
+    let mut again = vec![7; archive.len()];
+    let answer = ffi::write_archive(table, marks, &mut again);
+    assert!(answer.is_accepted(), "{answer:?}: {}", show(archive));
+    assert!(again == archive, "{}; {}", show(&again), show(archive));
 }
 
 /// Reads into buffers of the lengths that the archive's first word asks for.

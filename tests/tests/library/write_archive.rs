@@ -147,7 +147,6 @@ fn damaged_tables() {
 }
 
 /// What is written can be read: the same table and marks come back.
-#[cfg(has_read_archive)]
 mod round_trips {
     use super::*;
     use balduqen_tests::model::Tree;
