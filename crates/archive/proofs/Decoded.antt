@@ -17,6 +17,7 @@ use Rattle.model.specs.Archive.{parentIn, firstIn, tableIn, marksIn}
 use Rattle.theory.specs.Ranges.{Upto, pick-true, pick-false, bool-cases}
 use Rattle.theory.specs.ArchiveBack.{sameList-self, sameList-true}
 use Rattle.theory.specs.Siblings.{and-true, and-false-left, and-false-right}
+use Rattle.judge.specs.Rows.{slots}
 use Rattle.archive.specs.Put.{putWord, length-putWord, Starts, starts-none, starts-word}
 use Rattle.archive.specs.Onward.{nextWith}
 use Rattle.archive.specs.Decode.{Told, told, told-nodes, Loaded, told-links, told-onward, treeUpto, length-treeUpto, tree-start, tree-told}
@@ -45,7 +46,7 @@ module _ (a : List ℕ) (v : ℕ) where
       (pick-false test (v + 1) 0
       (and-false-right (ltb v (nodeCount a)) (eqb (parentIn a (v + 1)) v) (ne-eqb (parentIn a (v + 1)) v e)))
 
-pub sibling-small : (b : Bool) (x : ℕ) → x < 1025 → pick b 0 x < 1025
+pub sibling-small : (b : Bool) (x : ℕ) → x < slots → pick b 0 x < slots
 unfolding pick
 sibling-small true x h = omega arith
 sibling-small false x h = h

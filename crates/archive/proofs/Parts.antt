@@ -1,5 +1,5 @@
 -- Parts of the reader's own arrays, and its answers. Assumes nothing.
-use Prim.Native.Nat.{ℕ, _+_, _≤_}
+use Prim.Native.Nat.{ℕ, _+_, _≤_, _<_}
 use native.Mathlib.Omega.{arith}
 use mathlib.Core.Bool.{true}
 use mathlib.Core.Path.{_≡_, sym, _∙_, ap, ap₂}
@@ -10,10 +10,11 @@ use Rattle.model.specs.Basics.{sameList}
 use Rattle.model.specs.Table.{nodeCount, tableBytes}
 use Rattle.model.specs.Plan.{verdictOf}
 use Rattle.model.specs.Archive.{tableIn, marksIn}
-use Rattle.model.specs.Refusals.{accepted, isArchive, readArchive}
+use Rattle.model.specs.Refusals.{accepted, refused, isArchive, readArchive}
 use Rattle.model.specs.declared.Answer.{Answer}
-use Rattle.theory.specs.ArchiveAnswers.{read-none, read-done}
-use Rattle.archive.specs.Answers.{restored, CopyJudged, not-archive}
+use Rattle.theory.specs.ArchiveAnswers.{read-none, read-table, read-marks, read-done}
+use Rattle.archive.specs.Size.{archiveNodes}
+use Rattle.archive.specs.Answers.{restored, CopyJudged, not-archive, too-many}
 
 -- a part of an array of zeros
 pub fresh-part : (n size : ℕ) → size ≤ n → length (take size (replicate {A = ℕ} n 0)) ≡ size
@@ -34,6 +35,21 @@ module _ (e rest : List ℕ) (size : ℕ) (long : length e ≡ size) where
   part-back a = ap (λ l. sameList l a) (take-at e rest size long)
 
 -- ---- Answers
+
+-- refusals: too many nodes, the table's length, the marks' length
+module _ (a : List ℕ) {t m : List ℕ} {r : Answer} where
+  pub reader-many : r ≡ refused 13 0 → archiveNodes < nodeCount a → restored r t m ≡ readArchive a t m
+  reader-many e many = ap (λ (x : Answer). restored x t m) e ∙ read-none a t m (too-many a many)
+
+  pub reader-table : {size : ℕ} → r ≡ refused 12 size → size ≡ tableBytes (nodeCount a) → isArchive a ≡ true → (length t ≡ size → ⊥)
+      → restored r t m ≡ readArchive a t m
+  reader-table e is film other =
+      ap (λ (x : Answer). restored x t m) (e ∙ ap (refused 12) is) ∙ read-table a t m film (λ long. other (long ∙ sym is))
+
+  pub reader-marks : {n : ℕ} → r ≡ refused 8 n → n ≡ nodeCount a → isArchive a ≡ true → length t ≡ tableBytes (nodeCount a)
+      → (length m ≡ n → ⊥) → restored r t m ≡ readArchive a t m
+  reader-marks e is film fits other =
+      ap (λ (x : Answer). restored x t m) (e ∙ ap (refused 8) is) ∙ read-marks a t m film fits (λ long. other (long ∙ sym is))
 
 module _ (a t m t′ m′ : List ℕ) (r : Answer) (j : CopyJudged a t′ m′ r) where
   pub reader-none : (r .number ≡ 0 → ⊥) → (isArchive a ≡ true → (t′ ≡ tableIn a) × (m′ ≡ marksIn a)) → restored r t m ≡ readArchive a t m

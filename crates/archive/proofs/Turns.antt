@@ -19,6 +19,7 @@ use Rattle.theory.specs.RunMarks.{runLast-on, runLast-stop}
 use Rattle.theory.specs.Ranges.{Upto, countTo-yes, countTo-no, countTo-le}
 use Rattle.theory.specs.Chosen.{countTo-mono}
 use native.Mathlib.Numerals.{add-one}
+use Rattle.judge.specs.Rows.{slots}
 use Rattle.archive.specs.Put.{putWord, length-putWord, putRecord, length-putRecord, Starts, starts-none, starts-word, starts-record}
 use Rattle.archive.specs.Onward.{nextWith, nextWith-cong}
 use Rattle.archive.specs.Sheets.{headWords, pagesUpto, length-pagesUpto, pages-no, pages-yes, NodesPut, nodes-turn}
@@ -134,5 +135,5 @@ onward-is t m page onward n n-is row h v low high =
     ∙ ap (nextWith (pageOf t m) (nodeCount t) v) (row v low high)
 
 pub page-fits : {t : List ℕ} → AcceptedFacts t → (m page : List ℕ) → Upto (nodeCount t) (λ v. getD page v 0 ≡ pageOf t m v)
-    → Upto (nodeCount t) (λ v. getD page v 0 < 1025)
+    → Upto (nodeCount t) (λ v. getD page v 0 < slots)
 page-fits {t} a m page row v low high = omega (arith, row v low high, pageOf-le t m v, a .sound .count-high)

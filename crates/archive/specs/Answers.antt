@@ -20,6 +20,7 @@ use Rattle.theory.specs.ArchiveWords.{length-archive, archive-nodes}
 use Rattle.theory.specs.ArchiveBack.{feasible-planned, sameList-true, write-read, read-write}
 use Rattle.theory.specs.ArchiveAnswers.{writer-done, writer-refused}
 use Rattle.model.specs.declared.Answer.{Answer}
+use Rattle.archive.specs.Size.{archiveNodes, longestArchive}
 
 abbrev pub written : Answer → List ℕ → Written
 written r o = record { answer = r; archive = o }
@@ -47,7 +48,7 @@ copy-refused {r} e h =
     }
 
 -- an archive of a feasible plan is not longer than the longest
-pub copy-long : (a t m : List ℕ) → 16390 < length a → (feasiblePlan t m && sameList (archiveOf t m) a) ≡ false
+pub copy-long : (a t m : List ℕ) → longestArchive < length a → (feasiblePlan t m && sameList (archiveOf t m) a) ≡ false
 copy-long a t m long = go (bool-cases (feasiblePlan t m)) (bool-cases (sameList (archiveOf t m) a))
   where
     go : (feasiblePlan t m ≡ true) ⊎ (feasiblePlan t m ≡ false) → (sameList (archiveOf t m) a ≡ true) ⊎ (sameList (archiveOf t m) a ≡ false)
@@ -115,7 +116,7 @@ not-archive a t m h e = go (bool-cases (isArchive a))
     go (inr y) = y
 
 -- too many nodes: no archive
-pub too-many : (a : List ℕ) → 1024 < nodeCount a → isArchive a ≡ false
+pub too-many : (a : List ℕ) → archiveNodes < nodeCount a → isArchive a ≡ false
 too-many a many = go (bool-cases (isArchive a))
   where
     go : (isArchive a ≡ true) ⊎ (isArchive a ≡ false) → isArchive a ≡ false

@@ -20,6 +20,7 @@ use Rattle.theory.specs.Ranges.{Upto, pick-true, pick-false, listTo-zero, listT
 use Rattle.theory.specs.Links.{parentAt-less}
 use Rattle.theory.specs.ArchiveWords.{Page, length-fours, archive-nodes, archive-pages, archive-page, archive-parent}
 use Rattle.theory.specs.ArchiveBack.{Planned, feasible-planned, read-write, archive-next}
+use Rattle.judge.specs.Rows.{slots}
 use Rattle.archive.specs.Put.{putRecord, Starts, starts-record}
 use Rattle.archive.specs.Onward.{nextWith, nextWith-cong}
 
@@ -41,7 +42,7 @@ module _ {a t m : List ℕ} (w : Told a t m) where
   pub told-parent : (v : ℕ) → 1 ≤ v → v ≤ nodeCount t → parentIn a v ≡ parentAt t v
   told-parent v low high = ap (λ x. parentIn x v) (sym (w .same)) ∙ archive-parent t m v low high
 
-  pub told-small : (v : ℕ) → 1 ≤ v → v ≤ nodeCount t → parentIn a v < 1025
+  pub told-small : (v : ℕ) → 1 ≤ v → v ≤ nodeCount t → parentIn a v < slots
   told-small v low high = omega (arith, told-parent v low high, parentAt-less t v low, w .plan .tree .sound .count-high)
 
   pub told-next : (v : ℕ) → 1 ≤ v → v ≤ nodeCount t → nextIn a v ≡ nextAt t v
@@ -57,38 +58,38 @@ module _ {a t m : List ℕ} (w : Told a t m) where
 
 -- the parents of the nodes 1 to v, where they fit
 abbrev pub Loaded : List ℕ → ℕ → List ℕ → Type 0
-Loaded a v l = Upto v (λ u. (getD l u 0 < 1025) × (parentIn a u < 1025 → getD l u 0 ≡ parentIn a u))
+Loaded a v l = Upto v (λ u. (getD l u 0 < slots) × (parentIn a u < slots → getD l u 0 ≡ parentIn a u))
 
 -- a number that fits, or 0
 unfoldable pub fitted : ℕ → ℕ
-fitted x = pick (ltb x 1025) x 0
+fitted x = pick (ltb x slots) x 0
 
-pub fitted-small : (x : ℕ) → fitted x < 1025
+pub fitted-small : (x : ℕ) → fitted x < slots
 unfolding fitted
-fitted-small x = go (ltb x 1025) refl
+fitted-small x = go (ltb x slots) refl
   where
-    go : (b : Bool) → ltb x 1025 ≡ b → pick (ltb x 1025) x 0 < 1025
-    go true e = omega (arith, pick-true (ltb x 1025) x 0 e, ltb-true x 1025 e)
-    go false e = omega (arith, pick-false (ltb x 1025) x 0 e)
+    go : (b : Bool) → ltb x slots ≡ b → pick (ltb x slots) x 0 < slots
+    go true e = omega (arith, pick-true (ltb x slots) x 0 e, ltb-true x slots e)
+    go false e = omega (arith, pick-false (ltb x slots) x 0 e)
 
 pub fitted-le : (x : ℕ) → fitted x ≤ x
 unfolding fitted
-fitted-le x = go (ltb x 1025) refl
+fitted-le x = go (ltb x slots) refl
   where
-    go : (b : Bool) → ltb x 1025 ≡ b → pick (ltb x 1025) x 0 ≤ x
-    go true e = omega (arith, pick-true (ltb x 1025) x 0 e)
-    go false e = omega (arith, pick-false (ltb x 1025) x 0 e)
+    go : (b : Bool) → ltb x slots ≡ b → pick (ltb x slots) x 0 ≤ x
+    go true e = omega (arith, pick-true (ltb x slots) x 0 e)
+    go false e = omega (arith, pick-false (ltb x slots) x 0 e)
 
-pub fitted-same : (x : ℕ) → x < 1025 → fitted x ≡ x
+pub fitted-same : (x : ℕ) → x < slots → fitted x ≡ x
 unfolding fitted
-fitted-same x h = pick-true (ltb x 1025) x 0 (lt-ltb x 1025 h)
+fitted-same x h = pick-true (ltb x slots) x 0 (lt-ltb x slots h)
 
-pub loaded-turn : (a l : List ℕ) (v x : ℕ) → Loaded a v l → length l ≡ 1025 → v < 1024 → x ≡ fitted (parentIn a (v + 1))
+pub loaded-turn : (a l : List ℕ) (v x : ℕ) → Loaded a v l → length l ≡ slots → v + 1 < slots → x ≡ fitted (parentIn a (v + 1))
     → Loaded a (v + 1) (set l (v + 1) x)
 loaded-turn a l v x h long less e u low high = go (eqb u (v + 1)) refl
   where
     go : (b : Bool) → eqb u (v + 1) ≡ b
-        → (getD (set l (v + 1) x) u 0 < 1025) × (parentIn a u < 1025 → getD (set l (v + 1) x) u 0 ≡ parentIn a u)
+        → (getD (set l (v + 1) x) u 0 < slots) × (parentIn a u < slots → getD (set l (v + 1) x) u 0 ≡ parentIn a u)
     go true q =
         let same : u ≡ v + 1 = eqb-true u (v + 1) q in
         let here : getD (set l (v + 1) x) u 0 ≡ x =

@@ -12,7 +12,7 @@ use lib.Seq.{getD-set-same, getD-set-other, getD-take, length-take-le, ext-getD}
 use lib.Dec.{eqb, leb}
 use borrow.Author.Tests.{eqb-true, eqb-false, eq-eqb, ne-eqb, leb-true, le-leb, lt-leb}
 use Rattle.model.specs.Basics.{pick, countTo}
-use Rattle.model.specs.Table.{nodeCount, nextAt}
+use Rattle.model.specs.Table.{maxNodes, nodeCount, nextAt}
 use Rattle.model.specs.Plan.{prevAt, begins, stays, markAt, hasMark, pageCount, runLast}
 use Rattle.model.specs.Archive.{pagesIn, pageFieldIn}
 use Rattle.theory.specs.Ranges.{Upto, pick-true, pick-false}
@@ -24,6 +24,7 @@ use Rattle.theory.specs.RunMarks.{good-marks, runLast-on, runLast-stop, runLast
 use Rattle.theory.specs.ArchiveWords.{Page, page-first}
 use Rattle.theory.specs.ArchiveBack.{Planned}
 use Rattle.theory.specs.Judged.{pageCount-le}
+use Rattle.judge.specs.Rows.{slots}
 use Rattle.archive.specs.Decode.{Told, told-pages, told-first, told-last, fitted, fitted-same, fitted-le}
 
 -- the last of the run that node u is in, or 0 where it is in none
@@ -69,7 +70,7 @@ module _ (t m : List ℕ) where
   abbrev pub DueRow : ℕ → List ℕ → Type 0
   DueRow v l = (w : ℕ) → v < w → w ≤ nodeCount t → getD l w 0 ≡ dueAt t m v w
 
-  pub due-start : (l : List ℕ) → ((k : ℕ) → k < 1025 → getD l k 0 ≡ 0) → nodeCount t ≤ 1024 → DueRow 0 l
+  pub due-start : (l : List ℕ) → ((k : ℕ) → k < slots → getD l k 0 ≡ 0) → nodeCount t ≤ maxNodes → DueRow 0 l
   unfolding dueAt
   due-start l h few w less high = h w (omega arith) ∙ sym (go (leb (prevAt t w) 0) refl)
     where
@@ -86,7 +87,7 @@ module _ (t m : List ℕ) where
       ∙ pick-true (leb (prevAt t (v + 1)) v) (endOf t m (prevAt t (v + 1))) 0
       (le-leb (prevAt t (v + 1)) v (omega (arith, prevAt-less t (v + 1) (omega arith))))
 
-  pub due-turn : SoundFacts t → (l : List ℕ) (v x end : ℕ) → DueRow v l → length l ≡ 1025 → v < nodeCount t → nodeCount t ≤ 1024
+  pub due-turn : SoundFacts t → (l : List ℕ) (v x end : ℕ) → DueRow v l → length l ≡ slots → v < nodeCount t → nodeCount t ≤ maxNodes
       → x ≡ nextAt t (v + 1) → end ≡ endOf t m (v + 1) → DueRow (v + 1) (set l x end)
   unfolding dueAt
   due-turn s l v x end h long less few e q w later high = go (eqb w x) refl
@@ -213,7 +214,7 @@ abbrev pub LastRow : List ℕ → List ℕ → ℕ → List ℕ → Type 0
 LastRow t m q l = Upto (nodeCount t) (λ v. getD l v 0 ≡ lastAt t m q v)
 
 module _ {a t m : List ℕ} (w : Told a t m) where
-  pub last-start : (l : List ℕ) → ((k : ℕ) → k < 1025 → getD l k 0 ≡ 0) → LastRow t m 0 l
+  pub last-start : (l : List ℕ) → ((k : ℕ) → k < slots → getD l k 0 ≡ 0) → LastRow t m 0 l
   unfolding lastAt
   last-start l h v low high =
       h v (omega (arith, w .plan .tree .sound .count-high)) ∙ sym (pick-false _ (runLast t m v) 0 (go (hasMark m begins v) refl))
@@ -224,7 +225,7 @@ module _ {a t m : List ℕ} (w : Told a t m) where
           (lt-leb (countTo v (hasMark m begins)) 0 (omega (arith, countTo-pass (hasMark m begins) v low e 0 low)))
       go false e = and-false-left (hasMark m begins v) (leb (countTo v (hasMark m begins)) 0) e
 
-  pub last-turn : (l : List ℕ) (q first last : ℕ) → LastRow t m q l → length l ≡ 1025 → q < pageCount t m
+  pub last-turn : (l : List ℕ) (q first last : ℕ) → LastRow t m q l → length l ≡ slots → q < pageCount t m
       → first ≡ pageFieldIn a (q + 1) 0 → last ≡ pageFieldIn a (q + 1) 1 → LastRow t m (q + 1) (set l first last)
   unfolding lastAt
   last-turn l q first last h long less f g = on (page-first t m (q + 1) (omega arith) (omega arith))
@@ -327,13 +328,13 @@ abbrev pub MarksPass : List ℕ → List ℕ → ℕ → ℕ → List ℕ → Li
 MarksPass lasts links nodes v out due =
     (t m : List ℕ) → Guides t m lasts links nodes → MarksRow m v out × DueRow t m v due
 
-pub marks-start : (lasts links : List ℕ) (nodes : ℕ) (out due : List ℕ) → ((k : ℕ) → k < 1025 → getD due k 0 ≡ 0)
+pub marks-start : (lasts links : List ℕ) (nodes : ℕ) (out due : List ℕ) → ((k : ℕ) → k < slots → getD due k 0 ≡ 0)
     → MarksPass lasts links nodes 0 out due
 marks-start lasts links nodes out due h t m g =
     (λ u low high. absurd (omega arith), due-start t m due h (g .plan .tree .sound .count-high))
 
 pub marks-turn : (lasts links : List ℕ) (nodes v : ℕ) (out due : List ℕ) (end mark next : ℕ) → MarksPass lasts links nodes v out due
-    → length due ≡ 1025 → v < nodes → v < length out → end ≡ runEnd (v + 1) (getD lasts (v + 1) 0) (getD due (v + 1) 0)
+    → length due ≡ slots → v < nodes → v < length out → end ≡ runEnd (v + 1) (getD lasts (v + 1) 0) (getD due (v + 1) 0)
     → mark ≡ markFor (getD lasts (v + 1) 0) end → next ≡ pick (eqb (v + 1) 1) 0 (getD links (v + 1) 0)
     → MarksPass lasts links nodes (v + 1) (set out v mark) (set due next end)
 marks-turn lasts links nodes v out due end mark next h long less room e k q t m g =
@@ -365,12 +366,12 @@ marks-turn lasts links nodes v out due end mark next h long less room e k q t m 
 abbrev pub LastsPass : List ℕ → ℕ → List ℕ → Type 0
 LastsPass a q l = (t m : List ℕ) → Told a t m → LastRow t m q l
 
-pub lasts-turn : (a l : List ℕ) (q first last pages : ℕ) → LastsPass a q l → length l ≡ 1025 → q < pages → pages ≡ fitted (pagesIn a)
+pub lasts-turn : (a l : List ℕ) (q first last pages : ℕ) → LastsPass a q l → length l ≡ slots → q < pages → pages ≡ fitted (pagesIn a)
     → first ≡ fitted (pageFieldIn a (q + 1) 0) → last ≡ pageFieldIn a (q + 1) 1 → LastsPass a (q + 1) (set l first last)
 lasts-turn a l q first last pages h long less e f g t m w =
     let within : q < pageCount t m = omega (arith, e, fitted-le (pagesIn a), told-pages w) in
     let x = page-first t m (q + 1) (omega arith) (omega arith) in
-    let small : pageFieldIn a (q + 1) 0 < 1025 =
+    let small : pageFieldIn a (q + 1) 0 < slots =
     omega (arith, told-first w (q + 1) (x .0) (omega arith) (omega arith) (x .1), x .1 .high, w .plan .tree .sound .count-high) in
     last-turn w l q first last (h t m w) long within (f ∙ fitted-same (pageFieldIn a (q + 1) 0) small) g
 

@@ -1,4 +1,5 @@
 -- What the archive's code is written against.
+pub mod Size
 pub mod Put
 pub mod Onward
 pub mod Sheets

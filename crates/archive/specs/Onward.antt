@@ -12,6 +12,7 @@ use borrow.Author.Tests.{eqb-true, eqb-false, eq-eqb, ne-eqb, lt-ltb, le-ltb}
 use Rattle.model.specs.Basics.{atPlace, firstTo}
 use Rattle.theory.specs.Ranges.{Upto, atPlace-at, atPlace-nowhere, place-cases, firstTo-none, firstTo-first, firstTo-cong, firstTo-at}
 use Rattle.theory.specs.Siblings.{and-true, and-false-left, and-false-right, order-cases}
+use Rattle.judge.specs.Rows.{slots}
 use Rattle.model.specs.declared.Place.{Place}
 use Rattle.model.specs.declared.Place.the-variants.{At, Nowhere}
 
@@ -75,19 +76,19 @@ nextWith-cong f g n v k h =
 -- ---- The pass: what was seen of each key after v, and the links of the numbers after v
 
 abbrev pub Seen : (ℕ → ℕ) → ℕ → ℕ → List ℕ → Type 0
-Seen f n v l = (k : ℕ) → k < 1025 → getD l k 0 ≡ nextWith f n v k
+Seen f n v l = (k : ℕ) → k < slots → getD l k 0 ≡ nextWith f n v k
 
 abbrev pub LinkedFrom : (ℕ → ℕ) → ℕ → ℕ → List ℕ → Type 0
 LinkedFrom f n v l = (u : ℕ) → v < u → u ≤ n → getD l u 0 ≡ nextWith f n u (f u)
 
 module _ (f : ℕ → ℕ) (n : ℕ) where
-  pub seen-start : (l : List ℕ) → ((k : ℕ) → k < 1025 → getD l k 0 ≡ 0) → Seen f n n l
+  pub seen-start : (l : List ℕ) → ((k : ℕ) → k < slots → getD l k 0 ≡ 0) → Seen f n n l
   seen-start l h k fits = h k fits ∙ sym (nextWith-none f n k)
 
   pub linked-start : (l : List ℕ) → LinkedFrom f n n l
   linked-start l u low high = absurd (omega arith)
 
-  pub seen-turn : (l : List ℕ) (v : ℕ) → Seen f n v l → length l ≡ 1025 → 1 ≤ v → v ≤ n → f v < 1025 → Seen f n (v - 1) (set l (f v) v)
+  pub seen-turn : (l : List ℕ) (v : ℕ) → Seen f n v l → length l ≡ slots → 1 ≤ v → v ≤ n → f v < slots → Seen f n (v - 1) (set l (f v) v)
   seen-turn l v h long low high fits k within = go (eqb k (f v)) refl
     where
       go : (b : Bool) → eqb k (f v) ≡ b → getD (set l (f v) v) k 0 ≡ nextWith f n (v - 1) k
@@ -99,7 +100,7 @@ module _ (f : ℕ → ℕ) (n : ℕ) where
           let other : k ≡ f v → ⊥ = eqb-false k (f v) e in
           getD-set-other l (f v) k v 0 other ∙ h k within ∙ sym (nextWith-skip f n v k low (λ q. other (sym q)))
 
-  pub linked-turn : (s l : List ℕ) (v : ℕ) → Seen f n v s → LinkedFrom f n v l → v < length l → f v < 1025 → 1 ≤ v
+  pub linked-turn : (s l : List ℕ) (v : ℕ) → Seen f n v s → LinkedFrom f n v l → v < length l → f v < slots → 1 ≤ v
       → LinkedFrom f n (v - 1) (set l v (getD s (f v) 0))
   linked-turn s l v seen h fits key low u less high = go (eqb u v) refl
     where

@@ -20,6 +20,7 @@ ghost use Rattle.model.specs.Archive.{pagesIn, pageFieldIn, nodeFieldIn, parent
 ghost use Rattle.model.specs.Refusals.{isArchive};
 ghost use Rattle.theory.specs.Ranges.{Upto};
 ghost use Rattle.judge.specs.Rows.{slots};
+ghost use Rattle.archive.specs.Size.{archiveNodes, longestTable};
 ghost use Rattle.archive.specs.Put.{Starts};
 ghost use Rattle.archive.specs.Decode.{Told, Loaded, fitted, treeUpto};
 ghost use Rattle.archive.specs.Ends.{runEnd, markFor, Guides, MarksRow};
@@ -86,7 +87,7 @@ fn sibling_of(v: u16, link: u16) -> u16
 
 // The parents of the nodes.
 fn load_parents(archive: &[u8], nodes: u16) -> [u16; SLOTS]
-    requires { ⌜ nodes ≤ 1024 ⌝ }
+    requires { ⌜ nodes < slots ⌝ }
     ensures { λ r. ⌜ Loaded (now (archive .entry)) nodes r ⌝ }
 {
     let mut parents = [0u16; SLOTS];
@@ -117,7 +118,7 @@ fn load_lasts(archive: &[u8]) -> [u16; SLOTS]
 
 // The table of the tree.
 fn fill_tree(archive: &[u8], links: &[u16; SLOTS], tree: &mut [u8])
-    requires { ⌜ (nodeCount (now archive) ≤ 1024) × (length (now tree) ≡ 8196) ⌝ }
+    requires { ⌜ (nodeCount (now archive) ≤ archiveNodes) × (length (now tree) ≡ longestTable) ⌝ }
     ensures { λ r. ⌜ Starts (now (tree .exit)) (treeUpto (now (archive .entry)) (now (links .entry)) (nodeCount (now (archive .entry)))) ⌝ }
 {
     let nodes = node_count(archive);
@@ -156,7 +157,7 @@ fn mark_for(last: u16, end: u16) -> u8
 
 // The marks of the plan.
 fn fill_marks(nodes: u16, lasts: &[u16; SLOTS], links: &[u16; SLOTS], plan: &mut [u8])
-    requires { ⌜ (nodes ≤ 1024) × Upto nodes (λ v. getD (now links) v 0 < slots) × (length (now plan) ≡ 1024) ⌝ }
+    requires { ⌜ (nodes ≤ archiveNodes) × Upto nodes (λ v. getD (now links) v 0 < slots) × (length (now plan) ≡ archiveNodes) ⌝ }
     ensures { λ r. ⌜ ((t m : List ℕ) → Guides t m (now (lasts .entry)) (now (links .entry)) nodes → MarksRow m nodes (now (plan .exit))) ⌝ }
 {
     let mut due = [0u16; SLOTS];
@@ -174,7 +175,7 @@ fn fill_marks(nodes: u16, lasts: &[u16; SLOTS], links: &[u16; SLOTS], plan: &mut
 
 // The tree and the plan that the archive tells, if it is one.
 pub fn decode(archive: &[u8], tree: &mut [u8], plan: &mut [u8])
-    requires { ⌜ (nodeCount (now archive) ≤ 1024) × (length (now tree) ≡ 8196) × (length (now plan) ≡ 1024) ⌝ }
+    requires { ⌜ (nodeCount (now archive) ≤ archiveNodes) × (length (now tree) ≡ longestTable) × (length (now plan) ≡ archiveNodes) ⌝ }
     ensures { λ r. ⌜ (isArchive (now (archive .entry)) ≡ true
         → (take (tableBytes (nodeCount (now (archive .entry)))) (now (tree .exit)) ≡ tableIn (now (archive .entry)))
         × (take (nodeCount (now (archive .entry))) (now (plan .exit)) ≡ marksIn (now (archive .entry)))) ⌝ }

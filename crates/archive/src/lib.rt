@@ -5,4 +5,5 @@ mod onward;
 mod put;
 pub mod read;
 mod records;
+pub mod size;
 pub mod write;

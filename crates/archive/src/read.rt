@@ -1,5 +1,8 @@
 // The archive's reader. It decodes a tree and a plan, has the writer write them, and accepts where that gives the very same bytes.
 use crate::decode::decode;
+use crate::size::MOST_BYTES;
+use crate::size::MOST_NODES;
+use crate::size::MOST_TABLE;
 use crate::write::write_archive;
 use model::Answer;
 use table::refuse;
@@ -10,11 +13,6 @@ ghost use lib.ListN.{length};
 ghost use Rattle.model.specs.Basics.{sameList};
 ghost use Rattle.model.specs.Refusals.{readArchive};
 ghost use Rattle.archive.specs.Answers.{restored, CopyJudged};
-
-// The longest archive: 1,024 pages and 1,024 nodes.
-const MOST_BYTES: usize = 16390;
-
-const MAX_NODES: u16 = 1024;
 
 // Whether two strings of bytes are the same.
 fn same_bytes(a: &[u8], b: &[u8]) -> bool
@@ -69,15 +67,15 @@ pub fn read_archive(archive: &[u8], table: &mut [u8], marks: &mut [u8]) -> Answe
     ensures { λ r. ⌜ restored r (now (table .exit)) (now (marks .exit)) ≡ readArchive (now (archive .entry)) (now (table .entry)) (now (marks .entry)) ⌝ }
 {
     let nodes = node_count(archive);
-    if MAX_NODES < nodes {
+    let count = nodes as usize;
+    if MOST_NODES < count {
         return refuse(13, 0);
     }
-    let mut tree = [0u8; 8196];
-    let mut plan = [0u8; 1024];
+    let mut tree = [0u8; MOST_TABLE];
+    let mut plan = [0u8; MOST_NODES];
     decode(archive, &mut tree, &mut plan);
     let size = table_bytes(nodes);
     let bytes = size as usize;
-    let count = nodes as usize;
     let answer = judge_copy(archive, &tree[..bytes], &plan[..count]);
     if answer.number != 0 {
         return answer;

@@ -8,7 +8,7 @@ use table::words::node_count;
 use table::words::weight_at;
 ghost use mathlib.Core.Path.{_≡_};
 ghost use mathlib.Core.Bool.{_&&_, not};
-ghost use Prim.Native.Nat.{_≤_};
+ghost use Prim.Native.Nat.{_≤_, _<_};
 ghost use lib.Dec.{eqb};
 ghost use lib.ListN.{length, getD};
 ghost use Rattle.model.specs.Table.{nodeCount};
@@ -17,6 +17,7 @@ ghost use Rattle.model.specs.Archive.{nextPage, archiveBytes};
 ghost use Rattle.theory.specs.Ranges.{Upto};
 ghost use Rattle.theory.specs.Sound.{SoundFacts};
 ghost use Rattle.theory.specs.ArchiveBack.{Planned};
+ghost use Rattle.judge.specs.Rows.{slots};
 ghost use Rattle.archive.specs.Put.{Starts};
 ghost use Rattle.archive.specs.Sheets.{headWords, pagesUpto, NodesPut};
 
@@ -43,7 +44,7 @@ fn find_last(table: &[u8], marks: &[u8], v: u16) -> u16
 
 // The page after page p, or 0 after the last.
 fn page_after(p: u16, pages: u16) -> u16
-    requires { ⌜ pages ≤ 1024 ⌝ }
+    requires { ⌜ pages < slots ⌝ }
     ensures { λ r. ⌜ r ≡ nextPage p pages ⌝ }
 {
     if p < pages { p + 1 } else { 0 }
@@ -80,7 +81,7 @@ pub fn put_nodes(
     pages: u16,
     out: &mut [u8],
 )
-    requires { ⌜ (nodeCount (now table) ≤ 1024) × (pages ≤ 1024) × (length (now out) ≡ archiveBytes pages (nodeCount (now table))) ⌝ }
+    requires { ⌜ (nodeCount (now table) < slots) × (pages < slots) × (length (now out) ≡ archiveBytes pages (nodeCount (now table))) ⌝ }
     ensures { λ r. ⌜ NodesPut (now (table .entry)) (now (parents .entry)) (now (onward .entry)) pages (nodeCount (now (table .entry))) (now (out .entry)) (now (out .exit)) ⌝ }
 {
     let nodes = node_count(table);

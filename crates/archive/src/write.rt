@@ -3,6 +3,7 @@ use crate::onward::link_next;
 use crate::put::put_word;
 use crate::records::put_nodes;
 use crate::records::put_pages;
+use crate::size::archive_bytes;
 use judge::judge_plan;
 use judge::pages::Layout;
 use judge::pages::lay_plan;
@@ -19,13 +20,6 @@ ghost use Rattle.theory.specs.ArchiveBack.{Planned};
 ghost use Rattle.judge.specs.Rows.{Laid};
 ghost use Rattle.archive.specs.Put.{putWord};
 ghost use Rattle.archive.specs.Answers.{written};
-
-// How many bytes the archive of so many pages and nodes has.
-fn archive_bytes(pages: u16, nodes: u16) -> u32
-    ensures { λ r. ⌜ r ≡ archiveBytes pages nodes ⌝ }
-{
-    6 + 8 * (pages as u32) + 8 * (nodes as u32)
-}
 
 // N, K and P.
 fn put_head(out: &mut [u8], nodes: u16, limit: u16, pages: u16)

@@ -4,6 +4,7 @@ use Prim.Native.Nat.{_+_, _-_, _≤_, _<_}
 use native.Mathlib.Omega.{arith}
 use lib.ListN.{length, getD, length-set, replicate, getD-replicate}
 use lib.Dec.{eqb}
+use Rattle.judge.specs.Rows.{slots}
 use Rattle.archive.specs.Ends.{MarksPass, marks-start, marks-turn}
 use Rattle.archive.proofs.Decoded.{sibling-small}
 use borrow.Author.Needs.{needs}
@@ -12,7 +13,7 @@ use Rattle.archive.proofs.decode.fill_marks.Tie as tie
 
 abbrev Inv-loop : tie.InvT-loop
 Inv-loop nodes lasts links plan₀ due₀ v₀ plan due v =
-    (v ≤ nodes) × (length due ≡ 1025) × (length plan ≡ length plan₀) × MarksPass lasts links nodes v plan due
+    (v ≤ nodes) × (length due ≡ slots) × (length plan ≡ length plan₀) × MarksPass lasts links nodes v plan due
 
 abbrev μ-loop : tie.MeasureT-loop
 μ-loop nodes lasts links plan₀ due₀ v₀ plan due v = nodes - v
@@ -23,7 +24,7 @@ loop-holds c =
       omega arith,
       refl,
       refl,
-      marks-start (a .lasts .now) (a .links .now) (a .nodes) (a .plan .now) (replicate 1025 0) (λ k fits. getD-replicate 1025 k 0 0 fits),
+      marks-start (a .lasts .now) (a .links .now) (a .nodes) (a .plan .now) (replicate slots 0) (λ k fits. getD-replicate slots k 0 0 fits),
     )
 
 cast-i : tie.Need-cast-i Inv-loop μ-loop
@@ -80,7 +81,7 @@ cast-due c =
     let start = c .before .before .before .before .before .before .before .before in
     let next = c .before .sibling-of in
     let link = start .pre .1 (l .v + 1) (omega arith) (omega arith) in
-    let small : next .result < 1025 = omega (arith, next .ensures, sibling-small (eqb (l .v + 1) 1) (getD (start .args .links .now) (l .v + 1) 0) link) in
+    let small : next .result < slots = omega (arith, next .ensures, sibling-small (eqb (l .v + 1) 1) (getD (start .args .links .now) (l .v + 1) 0) link) in
     search needs
 
 mul-due : tie.Need-mul-due Inv-loop μ-loop
@@ -89,7 +90,7 @@ mul-due c =
     let start = c .before .before .before .before .before .before .before .before in
     let next = c .before .sibling-of in
     let link = start .pre .1 (l .v + 1) (omega arith) (omega arith) in
-    let small : next .result < 1025 = omega (arith, next .ensures, sibling-small (eqb (l .v + 1) 1) (getD (start .args .links .now) (l .v + 1) 0) link) in
+    let small : next .result < slots = omega (arith, next .ensures, sibling-small (eqb (l .v + 1) 1) (getD (start .args .links .now) (l .v + 1) 0) link) in
     search needs
 
 array-write-due : tie.Need-array-write-due Inv-loop μ-loop
@@ -98,7 +99,7 @@ array-write-due c =
     let start = c .before .before .before .before .before .before .before .before in
     let next = c .before .sibling-of in
     let link = start .pre .1 (l .v + 1) (omega arith) (omega arith) in
-    let small : next .result < 1025 = omega (arith, next .ensures, sibling-small (eqb (l .v + 1) 1) (getD (start .args .links .now) (l .v + 1) 0) link) in
+    let small : next .result < slots = omega (arith, next .ensures, sibling-small (eqb (l .v + 1) 1) (getD (start .args .links .now) (l .v + 1) 0) link) in
     search needs
 
 loop-less : tie.Need-loop-less Inv-loop μ-loop

@@ -4,6 +4,7 @@ use Prim.Native.Nat.{_+_, _-_, _*_, _≤_}
 use native.Mathlib.Omega.{arith}
 use lib.ListN.{length}
 use Rattle.model.specs.Table.{nodeCount}
+use Rattle.archive.specs.Size.{longestTable}
 use Rattle.archive.specs.Put.{Starts}
 use Rattle.archive.specs.Decode.{treeUpto, tree-turn}
 use Rattle.archive.proofs.Decoded.{tree-begin}
@@ -13,7 +14,7 @@ use Rattle.archive.proofs.decode.fill_tree.Tie as tie
 
 abbrev Inv-loop : tie.InvT-loop
 Inv-loop archive links tree₀ nodes limit v₀ tree v =
-    (v ≤ nodes) × (length tree ≡ 8196) × Starts tree (treeUpto archive links v)
+    (v ≤ nodes) × (length tree ≡ longestTable) × Starts tree (treeUpto archive links v)
 
 abbrev μ-loop : tie.MeasureT-loop
 μ-loop archive links tree₀ nodes limit v₀ tree v = nodes - v

@@ -3,6 +3,7 @@ use mathlib.Core.Path.{_≡_, refl, ap, _∙_}
 use Prim.Native.Nat.{_-_, _≤_, _<_}
 use native.Mathlib.Omega.{arith}
 use lib.ListN.{length, length-set, replicate, getD-replicate}
+use Rattle.judge.specs.Rows.{slots}
 use Rattle.archive.specs.Decode.{fitted, fitted-small}
 use Rattle.archive.specs.Ends.{LastsPass, last-start, lasts-turn, lasts-end}
 use borrow.Author.Needs.{needs}
@@ -11,7 +12,7 @@ use Rattle.archive.proofs.decode.load_lasts.Tie as tie
 
 abbrev Inv-loop : tie.InvT-loop
 Inv-loop archive pages lasts₀ q₀ lasts q =
-    (length lasts ≡ 1025) × (q ≤ pages) × LastsPass archive q lasts
+    (length lasts ≡ slots) × (q ≤ pages) × LastsPass archive q lasts
 
 abbrev μ-loop : tie.MeasureT-loop
 μ-loop archive pages lasts₀ q₀ lasts q = pages - q
@@ -23,7 +24,7 @@ fit-requires : tie.Need-fit-requires Inv-loop μ-loop
 fit-requires c κs = search needs
 
 loop-holds : tie.Need-loop-holds Inv-loop μ-loop
-loop-holds c = (refl, omega arith, λ t m w. last-start w (replicate 1025 0) (λ k fits. getD-replicate 1025 k 0 0 fits))
+loop-holds c = (refl, omega arith, λ t m w. last-start w (replicate slots 0) (λ k fits. getD-replicate slots k 0 0 fits))
 
 add-q : tie.Need-add-q Inv-loop μ-loop
 add-q c = search needs
@@ -40,19 +41,19 @@ page-field-requires-2 c κs = search needs
 cast-lasts : tie.Need-cast-lasts Inv-loop μ-loop
 cast-lasts c =
     let first = c .before .fit2 in
-    let small : first .result < 1025 = omega (arith, first .ensures, fitted-small (c .before .before .page-field .result)) in
+    let small : first .result < slots = omega (arith, first .ensures, fitted-small (c .before .before .page-field .result)) in
     search needs
 
 mul-lasts : tie.Need-mul-lasts Inv-loop μ-loop
 mul-lasts c =
     let first = c .before .fit2 in
-    let small : first .result < 1025 = omega (arith, first .ensures, fitted-small (c .before .before .page-field .result)) in
+    let small : first .result < slots = omega (arith, first .ensures, fitted-small (c .before .before .page-field .result)) in
     search needs
 
 array-write-lasts : tie.Need-array-write-lasts Inv-loop μ-loop
 array-write-lasts c =
     let first = c .before .fit2 in
-    let small : first .result < 1025 = omega (arith, first .ensures, fitted-small (c .before .before .page-field .result)) in
+    let small : first .result < slots = omega (arith, first .ensures, fitted-small (c .before .before .page-field .result)) in
     search needs
 
 loop-less : tie.Need-loop-less Inv-loop μ-loop

@@ -3,6 +3,7 @@ use mathlib.Core.Path.{_≡_, refl, ap, _∙_}
 use Prim.Native.Nat.{_-_, _≤_}
 use native.Mathlib.Omega.{arith}
 use lib.ListN.{length, length-set}
+use Rattle.judge.specs.Rows.{slots}
 use Rattle.archive.specs.Decode.{Loaded, fitted, loaded-turn}
 use borrow.Author.Needs.{needs}
 use Rattle.archive.proofs.decode.load_parents.Statement.{statement}
@@ -10,7 +11,7 @@ use Rattle.archive.proofs.decode.load_parents.Tie as tie
 
 abbrev Inv-loop : tie.InvT-loop
 Inv-loop archive nodes parents₀ v₀ parents v =
-    (length parents ≡ 1025) × (v ≤ nodes) × Loaded archive v parents
+    (length parents ≡ slots) × (v ≤ nodes) × Loaded archive v parents
 
 abbrev μ-loop : tie.MeasureT-loop
 μ-loop archive nodes parents₀ v₀ parents v = nodes - v

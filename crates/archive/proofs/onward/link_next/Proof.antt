@@ -6,6 +6,7 @@ use lib.ListN.{length, getD}
 use lib.ListN.{length-set, replicate, getD-replicate}
 use mathlib.Core.Path.{refl}
 use native.Mathlib.Omega.{arith}
+use Rattle.judge.specs.Rows.{slots}
 use Rattle.archive.specs.Onward.{Seen, LinkedFrom, seen-start, seen-turn, linked-start, linked-turn}
 use borrow.Author.Needs.{needs}
 use Rattle.archive.proofs.onward.link_next.Statement.{statement}
@@ -13,14 +14,14 @@ use Rattle.archive.proofs.onward.link_next.Tie as tie
 
 abbrev Inv-loop : tie.InvT-loop
 Inv-loop keys nodes seen₀ next₀ v₀ seen next v =
-    (length seen ≡ 1025) × (length next ≡ 1025) × (v ≤ nodes) × Seen (λ u. getD keys u 0) nodes v seen
+    (length seen ≡ slots) × (length next ≡ slots) × (v ≤ nodes) × Seen (λ u. getD keys u 0) nodes v seen
     × LinkedFrom (λ u. getD keys u 0) nodes v next
 
 abbrev μ-loop : tie.MeasureT-loop
 μ-loop keys nodes seen₀ next₀ v₀ seen next v = v
 
 loop-holds : tie.Need-loop-holds Inv-loop μ-loop
-loop-holds c = (refl, refl, omega arith, seen-start _ _ (replicate 1025 0) (λ k fits. getD-replicate 1025 k 0 0 fits), linked-start _ _ (replicate 1025 0))
+loop-holds c = (refl, refl, omega arith, seen-start _ _ (replicate slots 0) (λ k fits. getD-replicate slots k 0 0 fits), linked-start _ _ (replicate slots 0))
 
 cast-key : tie.Need-cast-key Inv-loop μ-loop
 cast-key c = search needs
@@ -35,21 +36,21 @@ cast-key-2 : tie.Need-cast-key-2 Inv-loop μ-loop
 cast-key-2 c =
     let l = c .before .before .loop in
     let start = c .before .before .before in
-    let key : getD (start .args .keys .now) (l .v) 0 < 1025 = start .pre .1 (l .v) (omega arith) (omega arith) in
+    let key : getD (start .args .keys .now) (l .v) 0 < slots = start .pre .1 (l .v) (omega arith) (omega arith) in
     search needs
 
 mul-next : tie.Need-mul-next Inv-loop μ-loop
 mul-next c =
     let l = c .before .before .loop in
     let start = c .before .before .before in
-    let key : getD (start .args .keys .now) (l .v) 0 < 1025 = start .pre .1 (l .v) (omega arith) (omega arith) in
+    let key : getD (start .args .keys .now) (l .v) 0 < slots = start .pre .1 (l .v) (omega arith) (omega arith) in
     search needs
 
 array-read-next : tie.Need-array-read-next Inv-loop μ-loop
 array-read-next c =
     let l = c .before .before .loop in
     let start = c .before .before .before in
-    let key : getD (start .args .keys .now) (l .v) 0 < 1025 = start .pre .1 (l .v) (omega arith) (omega arith) in
+    let key : getD (start .args .keys .now) (l .v) 0 < slots = start .pre .1 (l .v) (omega arith) (omega arith) in
     search needs
 
 cast-next : tie.Need-cast-next Inv-loop μ-loop
@@ -65,14 +66,14 @@ mul-seen : tie.Need-mul-seen Inv-loop μ-loop
 mul-seen c =
     let l = c .before .before .loop in
     let start = c .before .before .before in
-    let key : getD (start .args .keys .now) (l .v) 0 < 1025 = start .pre .1 (l .v) (omega arith) (omega arith) in
+    let key : getD (start .args .keys .now) (l .v) 0 < slots = start .pre .1 (l .v) (omega arith) (omega arith) in
     search needs
 
 array-write-seen : tie.Need-array-write-seen Inv-loop μ-loop
 array-write-seen c =
     let l = c .before .before .loop in
     let start = c .before .before .before in
-    let key : getD (start .args .keys .now) (l .v) 0 < 1025 = start .pre .1 (l .v) (omega arith) (omega arith) in
+    let key : getD (start .args .keys .now) (l .v) 0 < slots = start .pre .1 (l .v) (omega arith) (omega arith) in
     search needs
 
 sub-v : tie.Need-sub-v Inv-loop μ-loop
@@ -86,7 +87,7 @@ loop-again c =
     let l = c .before .before .loop in
     let start = c .before .before .before in
     let keys = start .args .keys .now in
-    let key : getD keys (l .v) 0 < 1025 = start .pre .1 (l .v) (omega arith) (omega arith) in (
+    let key : getD keys (l .v) 0 < slots = start .pre .1 (l .v) (omega arith) (omega arith) in (
       simp length-set (l .inv .0),
       simp length-set (l .inv .1),
       omega arith,

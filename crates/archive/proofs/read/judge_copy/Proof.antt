@@ -2,6 +2,7 @@
 use mathlib.Core.Path.{sym, _∙_}
 use native.Mathlib.Omega.{arith}
 use lib.ListN.{length}
+use Rattle.archive.specs.Size.{longestArchive}
 use Rattle.archive.specs.Answers.{copy-refused, copy-long, copy-stopped, copy-differs, copy-same}
 use Rattle.archive.proofs.Parts.{fresh-part, part-within, part-long, part-back}
 use borrow.Author.Needs.{needs}
@@ -19,7 +20,7 @@ array-borrow-prefix-copy c = search needs
 
 slice-aggregate-write-archive : tie.Need-slice-aggregate-write-archive
 slice-aggregate-write-archive c =
-    sym (fresh-part 16390 (length (c .before .before .before .before .before .args .archive .now)) (c .before .if1 .left))
+    sym (fresh-part longestArchive (length (c .before .before .before .before .before .args .archive .now)) (c .before .if1 .left))
 
 write-archive-requires : tie.Need-write-archive-requires
 write-archive-requires c κs = search needs
@@ -35,7 +36,7 @@ returns-2 c =
     let m = start .args .plan .now in
     let w = c .before .before .before .before .write-archive in
     let small = c .before .before .before .before .before .before .if1 .left in
-    let fresh = fresh-part 16390 (length a) small in
+    let fresh = fresh-part longestArchive (length a) small in
     let long = w .kept .1 .1 .0 ∙ fresh in
     copy-refused (c .refuse2 .ensures) (copy-stopped a t m _ (w .last .1 .1 .0) (w .result) (w .ensures) (c .before .if2 .taken) fresh)
 
@@ -47,7 +48,7 @@ array-share-prefix-copy c =
     let m = start .args .plan .now in
     let w = c .before .before .before .write-archive in
     let small = c .before .before .before .before .before .if1 .left in
-    let fresh = fresh-part 16390 (length a) small in
+    let fresh = fresh-part longestArchive (length a) small in
     let long = w .kept .1 .1 .0 ∙ fresh in
     part-within (w .last .1 .1 .0) _ (length a) long
 
@@ -59,7 +60,7 @@ slice-aggregate-same-bytes c =
     let m = start .args .plan .now in
     let w = c .before .before .before .before .write-archive in
     let small = c .before .before .before .before .before .before .if1 .left in
-    let fresh = fresh-part 16390 (length a) small in
+    let fresh = fresh-part longestArchive (length a) small in
     let long = w .kept .1 .1 .0 ∙ fresh in
     part-long (w .last .1 .1 .0) _ (length a) long
 
@@ -74,7 +75,7 @@ returns-3 c =
     let m = start .args .plan .now in
     let w = c .before .before .before .before .before .before .write-archive in
     let small = c .before .before .before .before .before .before .before .before .if1 .left in
-    let fresh = fresh-part 16390 (length a) small in
+    let fresh = fresh-part longestArchive (length a) small in
     let long = w .kept .1 .1 .0 ∙ fresh in
     copy-same a t m _ (w .last .1 .1 .0) (w .result) (w .ensures) (λ i. omega (arith, c .before .before .before .before .before .before .before .before .before .before .shared-slice-known2 .given i)) (c .before .before .before .if2 .left)
     (sym (part-back (w .last .1 .1 .0) _ (length a) long a) ∙ sym (c .before .same-bytes .ensures) ∙ c .if3 .taken)
@@ -90,7 +91,7 @@ returns-4 c =
     let m = start .args .plan .now in
     let w = c .before .before .before .before .before .before .before .write-archive in
     let small = c .before .before .before .before .before .before .before .before .before .if1 .left in
-    let fresh = fresh-part 16390 (length a) small in
+    let fresh = fresh-part longestArchive (length a) small in
     let long = w .kept .1 .1 .0 ∙ fresh in
     copy-refused (c .refuse3 .ensures)
     (copy-differs a t m _ (w .last .1 .1 .0) (w .result) (w .ensures) (c .before .before .before .before .if2 .left)

@@ -1,32 +1,56 @@
 -- `archive::read::read_archive` meets its contract. Assumes nothing.
-use mathlib.Core.Path.{sym, ap, _∙_}
 use native.Mathlib.Omega.{arith}
-use lib.ListN.{take}
-use Rattle.model.specs.Table.{tableBytes}
-use Rattle.model.specs.Refusals.{refused}
-use Rattle.model.specs.declared.Answer.{Answer}
-use Rattle.theory.specs.ArchiveAnswers.{read-none, read-table, read-marks}
-use Rattle.archive.specs.Answers.{restored, too-many}
-use Rattle.archive.proofs.Parts.{known-part, reader-none, reader-done}
+use mathlib.Core.Bool.{true}
+use mathlib.Core.Path.{_≡_, ap, _∙_}
+use mathlib.Core.List.{List}
+use Prim.Native.Nat.{ℕ}
+use lib.ListN.{length, take}
+use Rattle.model.specs.Table.{nodeCount, tableBytes}
+use Rattle.model.specs.Archive.{tableIn, marksIn}
+use Rattle.model.specs.Refusals.{isArchive}
+use Rattle.archive.specs.Size.{archiveNodes, longestTable}
+use Rattle.archive.proofs.Parts.{known-part, reader-many, reader-none, reader-table, reader-marks, reader-done}
 use borrow.Author.Needs.{needs}
 use Rattle.archive.proofs.read.read_archive.Statement.{statement}
 use Rattle.archive.proofs.read.read_archive.Tie as tie
 
+-- ---- What was decoded: the archive, the tree and the plan, the parts of them that the nodes fill, and how long these are
+
+module _ (b : tie.After-table-bytes) where
+  abbrev archive : List ℕ
+  archive = b .before .before .before .before .before .before .before .before .before .before .before .args .archive .now
+
+  abbrev tree : List ℕ
+  tree = take (b .table-bytes .result) (b .before .before .before .decode .last .1 .0)
+
+  abbrev plan : List ℕ
+  plan = take (b .before .before .before .before .before .before .before .node-count .result) (b .before .before .before .decode .last .1 .1 .0)
+
+  size-is : b .table-bytes .result ≡ tableBytes (nodeCount archive)
+  size-is = b .table-bytes .ensures ∙ ap tableBytes (b .before .before .before .before .before .before .before .node-count .ensures)
+
+  tree-long : b .table-bytes .result ≡ length tree
+  tree-long = known-part _ longestTable _ (b .before .before .before .decode .kept .1 .0) (omega (arith, b .table-bytes .ensures, b .before .before .before .before .before .before .if1 .left))
+
+  plan-long : b .before .before .before .before .before .before .before .node-count .result ≡ length plan
+  plan-long = known-part _ archiveNodes _ (b .before .before .before .decode .kept .1 .1 .0) (b .before .before .before .before .before .before .if1 .left)
+
+  told : isArchive archive ≡ true → (tree ≡ tableIn archive) × (plan ≡ marksIn archive)
+  told e =
+      let d = b .before .before .before .decode in
+      (ap (λ k. take k (d .last .1 .0)) size-is ∙ d .ensures e .0, ap (λ k. take k (d .last .1 .1 .0)) (b .before .before .before .before .before .before .before .node-count .ensures) ∙ d .ensures e .1)
+
 node-count-requires : tie.Need-node-count-requires
 node-count-requires c κs = search needs
+
+cast-count : tie.Need-cast-count
+cast-count c = search needs
 
 refuse-requires : tie.Need-refuse-requires
 refuse-requires c κs = search needs
 
 returns : tie.Need-returns
-returns c =
-    let start = c .before .before .before .before .before .before in
-    let a = start .args .archive .now in
-    let t = start .args .table .now in
-    let m = start .args .marks .now in
-    let count = c .before .before .node-count in
-    ap (λ (x : Answer). restored x t m) (c .refuse .ensures)
-    ∙ read-none a t m (too-many a (omega (arith, count .ensures, c .before .if1 .taken)))
+returns c = reader-many _ (c .refuse .ensures) (omega (arith, c .before .before .node-count .ensures, c .before .if1 .taken))
 
 slice-aggregate-decode : tie.Need-slice-aggregate-decode
 slice-aggregate-decode c = search needs
@@ -43,94 +67,35 @@ table-bytes-requires c κs = search needs
 cast-bytes : tie.Need-cast-bytes
 cast-bytes c = search needs
 
-cast-count : tie.Need-cast-count
-cast-count c = search needs
-
 array-share-prefix-tree : tie.Need-array-share-prefix-tree
 array-share-prefix-tree c = search needs
 
 slice-aggregate-judge-copy : tie.Need-slice-aggregate-judge-copy
-slice-aggregate-judge-copy c =
-    let start = c .before .before .before .before .before .before .before .before .before .before .before .before in
-    let a = start .args .archive .now in
-    let t = start .args .table .now in
-    let m = start .args .marks .now in
-    let count = c .before .before .before .before .before .before .before .before .node-count in
-    let few = c .before .before .before .before .before .before .before .if1 .left in
-    let told = c .before .before .before .before .decode in
-    let size = c .before .table-bytes in
-    let size-is = size .ensures ∙ ap tableBytes (count .ensures) in
-    let tree = told .last .1 .0 in
-    let plan = told .last .1 .1 .0 in
-    let part = known-part tree 8196 (size .result) (told .kept .1 .0) (omega (arith, size .ensures)) in
-    let part₂ = known-part plan 1024 (count .result) (told .kept .1 .1 .0) few in
-    part
+slice-aggregate-judge-copy c = tree-long (c .before)
 
 array-share-prefix-plan : tie.Need-array-share-prefix-plan
 array-share-prefix-plan c = search needs
 
 slice-aggregate-judge-copy-2 : tie.Need-slice-aggregate-judge-copy-2
-slice-aggregate-judge-copy-2 c =
-    let start = c .before .before .before .before .before .before .before .before .before .before .before .before .before in
-    let a = start .args .archive .now in
-    let t = start .args .table .now in
-    let m = start .args .marks .now in
-    let count = c .before .before .before .before .before .before .before .before .before .node-count in
-    let few = c .before .before .before .before .before .before .before .before .if1 .left in
-    let told = c .before .before .before .before .before .decode in
-    let size = c .before .before .table-bytes in
-    let size-is = size .ensures ∙ ap tableBytes (count .ensures) in
-    let tree = told .last .1 .0 in
-    let plan = told .last .1 .1 .0 in
-    let part = known-part tree 8196 (size .result) (told .kept .1 .0) (omega (arith, size .ensures)) in
-    let part₂ = known-part plan 1024 (count .result) (told .kept .1 .1 .0) few in
-    part₂
+slice-aggregate-judge-copy-2 c = plan-long (c .before .before)
 
 judge-copy-requires : tie.Need-judge-copy-requires
 judge-copy-requires c κs = search needs
 
 returns-2 : tie.Need-returns-2
 returns-2 c =
-    let start = c .before .before .before .before .before .before .before .before .before .before .before .before .before .before .before .before in
-    let a = start .args .archive .now in
-    let t = start .args .table .now in
-    let m = start .args .marks .now in
-    let count = c .before .before .before .before .before .before .before .before .before .before .before .before .node-count in
-    let few = c .before .before .before .before .before .before .before .before .before .before .before .if1 .left in
-    let told = c .before .before .before .before .before .before .before .before .decode in
-    let size = c .before .before .before .before .before .table-bytes in
-    let size-is = size .ensures ∙ ap tableBytes (count .ensures) in
-    let tree = told .last .1 .0 in
-    let plan = told .last .1 .1 .0 in
-    let part = known-part tree 8196 (size .result) (told .kept .1 .0) (omega (arith, size .ensures)) in
-    let part₂ = known-part plan 1024 (count .result) (told .kept .1 .1 .0) few in
-    let j = c .before .before .judge-copy in
-    reader-none a t m (take (size .result) tree) (take (count .result) plan) (j .result) (j .ensures) (c .if2 .taken)
-    (λ e. (ap (λ k. take k tree) size-is ∙ told .ensures e .0, ap (λ k. take k plan) (count .ensures) ∙ told .ensures e .1))
+    let j = c .before .before in
+    let b = j .before .before .before in
+    reader-none (archive b) _ _ (tree b) (plan b) (j .judge-copy .result) (j .judge-copy .ensures) (c .if2 .taken) (told b)
 
 refuse-requires-2 : tie.Need-refuse-requires-2
 refuse-requires-2 c κs = search needs
 
 returns-3 : tie.Need-returns-3
 returns-3 c =
-    let start = c .before .before .before .before .before .before .before .before .before .before .before .before .before .before .before .before .before .before in
-    let a = start .args .archive .now in
-    let t = start .args .table .now in
-    let m = start .args .marks .now in
-    let count = c .before .before .before .before .before .before .before .before .before .before .before .before .before .before .node-count in
-    let few = c .before .before .before .before .before .before .before .before .before .before .before .before .before .if1 .left in
-    let told = c .before .before .before .before .before .before .before .before .before .before .decode in
-    let size = c .before .before .before .before .before .before .before .table-bytes in
-    let size-is = size .ensures ∙ ap tableBytes (count .ensures) in
-    let tree = told .last .1 .0 in
-    let plan = told .last .1 .1 .0 in
-    let part = known-part tree 8196 (size .result) (told .kept .1 .0) (omega (arith, size .ensures)) in
-    let part₂ = known-part plan 1024 (count .result) (told .kept .1 .1 .0) few in
-    let j = c .before .before .before .before .judge-copy in
-    let accepts = c .before .before .if2 .left in
-    let is = j .ensures .accepts accepts .0 in
-    ap (λ (x : Answer). restored x t m) (c .refuse2 .ensures ∙ ap (refused 12) size-is)
-    ∙ read-table a t m is (λ e. c .before .if3 .taken (e ∙ sym size-is))
+    let e = c .before .before in
+    let j = e .before .before in
+    reader-table _ (c .refuse2 .ensures) (size-is (j .before .before .before)) (j .judge-copy .ensures .accepts (e .if2 .left) .0) (c .before .if3 .taken)
 
 cast-refuse : tie.Need-cast-refuse
 cast-refuse c = search needs
@@ -140,98 +105,28 @@ refuse-requires-3 c κs = search needs
 
 returns-4 : tie.Need-returns-4
 returns-4 c =
-    let start = c .before .before .before .before .before .before .before .before .before .before .before .before .before .before .before .before .before .before .before in
-    let a = start .args .archive .now in
-    let t = start .args .table .now in
-    let m = start .args .marks .now in
-    let count = c .before .before .before .before .before .before .before .before .before .before .before .before .before .before .before .node-count in
-    let few = c .before .before .before .before .before .before .before .before .before .before .before .before .before .before .if1 .left in
-    let told = c .before .before .before .before .before .before .before .before .before .before .before .decode in
-    let size = c .before .before .before .before .before .before .before .before .table-bytes in
-    let size-is = size .ensures ∙ ap tableBytes (count .ensures) in
-    let tree = told .last .1 .0 in
-    let plan = told .last .1 .1 .0 in
-    let part = known-part tree 8196 (size .result) (told .kept .1 .0) (omega (arith, size .ensures)) in
-    let part₂ = known-part plan 1024 (count .result) (told .kept .1 .1 .0) few in
-    let j = c .before .before .before .before .before .judge-copy in
-    let accepts = c .before .before .before .if2 .left in
-    let is = j .ensures .accepts accepts .0 in
-    ap (λ (x : Answer). restored x t m) (c .refuse3 .ensures ∙ ap (refused 8) (count .ensures))
-    ∙ read-marks a t m is (c .before .before .if3 .left ∙ size-is) (λ e. c .before .if4 .taken (e ∙ sym (count .ensures)))
+    let e = c .before .before .before in
+    let j = e .before .before in
+    let b = j .before .before .before in
+    reader-marks _ (c .refuse3 .ensures) (b .before .before .before .before .before .before .before .node-count .ensures) (j .judge-copy .ensures .accepts (e .if2 .left) .0) (c .before .before .if3 .left ∙ size-is b) (c .before .if4 .taken)
 
 array-share-prefix-tree-2 : tie.Need-array-share-prefix-tree-2
 array-share-prefix-tree-2 c = search needs
 
 slice-aggregate-copy-bytes : tie.Need-slice-aggregate-copy-bytes
-slice-aggregate-copy-bytes c =
-    let start = c .before .before .before .before .before .before .before .before .before .before .before .before .before .before .before .before .before .before .before in
-    let a = start .args .archive .now in
-    let t = start .args .table .now in
-    let m = start .args .marks .now in
-    let count = c .before .before .before .before .before .before .before .before .before .before .before .before .before .before .before .node-count in
-    let few = c .before .before .before .before .before .before .before .before .before .before .before .before .before .before .if1 .left in
-    let told = c .before .before .before .before .before .before .before .before .before .before .before .decode in
-    let size = c .before .before .before .before .before .before .before .before .table-bytes in
-    let size-is = size .ensures ∙ ap tableBytes (count .ensures) in
-    let tree = told .last .1 .0 in
-    let plan = told .last .1 .1 .0 in
-    let part = known-part tree 8196 (size .result) (told .kept .1 .0) (omega (arith, size .ensures)) in
-    let part₂ = known-part plan 1024 (count .result) (told .kept .1 .1 .0) few in
-    part
+slice-aggregate-copy-bytes c = tree-long (c .before .before .before .before .before .before .before .before)
 
 copy-bytes-requires : tie.Need-copy-bytes-requires
-copy-bytes-requires c κs =
-    let start = c .before .before .before .before .before .before .before .before .before .before .before .before .before .before .before .before .before .before .before .before in
-    let a = start .args .archive .now in
-    let t = start .args .table .now in
-    let m = start .args .marks .now in
-    let count = c .before .before .before .before .before .before .before .before .before .before .before .before .before .before .before .before .node-count in
-    let few = c .before .before .before .before .before .before .before .before .before .before .before .before .before .before .before .if1 .left in
-    let told = c .before .before .before .before .before .before .before .before .before .before .before .before .decode in
-    let size = c .before .before .before .before .before .before .before .before .before .table-bytes in
-    let size-is = size .ensures ∙ ap tableBytes (count .ensures) in
-    let tree = told .last .1 .0 in
-    let plan = told .last .1 .1 .0 in
-    let part = known-part tree 8196 (size .result) (told .kept .1 .0) (omega (arith, size .ensures)) in
-    let part₂ = known-part plan 1024 (count .result) (told .kept .1 .1 .0) few in
-    c .before .before .before .if3 .left ∙ part
+copy-bytes-requires c κs = c .before .before .before .if3 .left ∙ tree-long (c .before .before .before .before .before .before .before .before .before)
 
 array-share-prefix-plan-2 : tie.Need-array-share-prefix-plan-2
 array-share-prefix-plan-2 c = search needs
 
 slice-aggregate-copy-bytes-2 : tie.Need-slice-aggregate-copy-bytes-2
-slice-aggregate-copy-bytes-2 c =
-    let start = c .before .before .before .before .before .before .before .before .before .before .before .before .before .before .before .before .before .before .before .before .before .before .before .before in
-    let a = start .args .archive .now in
-    let t = start .args .table .now in
-    let m = start .args .marks .now in
-    let count = c .before .before .before .before .before .before .before .before .before .before .before .before .before .before .before .before .before .before .before .before .node-count in
-    let few = c .before .before .before .before .before .before .before .before .before .before .before .before .before .before .before .before .before .before .before .if1 .left in
-    let told = c .before .before .before .before .before .before .before .before .before .before .before .before .before .before .before .before .decode in
-    let size = c .before .before .before .before .before .before .before .before .before .before .before .before .before .table-bytes in
-    let size-is = size .ensures ∙ ap tableBytes (count .ensures) in
-    let tree = told .last .1 .0 in
-    let plan = told .last .1 .1 .0 in
-    let part = known-part tree 8196 (size .result) (told .kept .1 .0) (omega (arith, size .ensures)) in
-    let part₂ = known-part plan 1024 (count .result) (told .kept .1 .1 .0) few in
-    part₂
+slice-aggregate-copy-bytes-2 c = plan-long (c .before .before .before .before .before .before .before .before .before .before .before .before .before)
 
 copy-bytes-requires-2 : tie.Need-copy-bytes-requires-2
-copy-bytes-requires-2 c κs =
-    let start = c .before .before .before .before .before .before .before .before .before .before .before .before .before .before .before .before .before .before .before .before .before .before .before .before .before in
-    let a = start .args .archive .now in
-    let t = start .args .table .now in
-    let m = start .args .marks .now in
-    let count = c .before .before .before .before .before .before .before .before .before .before .before .before .before .before .before .before .before .before .before .before .before .node-count in
-    let few = c .before .before .before .before .before .before .before .before .before .before .before .before .before .before .before .before .before .before .before .before .if1 .left in
-    let told = c .before .before .before .before .before .before .before .before .before .before .before .before .before .before .before .before .before .decode in
-    let size = c .before .before .before .before .before .before .before .before .before .before .before .before .before .before .table-bytes in
-    let size-is = size .ensures ∙ ap tableBytes (count .ensures) in
-    let tree = told .last .1 .0 in
-    let plan = told .last .1 .1 .0 in
-    let part = known-part tree 8196 (size .result) (told .kept .1 .0) (omega (arith, size .ensures)) in
-    let part₂ = known-part plan 1024 (count .result) (told .kept .1 .1 .0) few in
-    c .before .before .before .before .before .before .before .if4 .left ∙ part₂
+copy-bytes-requires-2 c κs = c .before .before .before .before .before .before .before .if4 .left ∙ plan-long (c .before .before .before .before .before .before .before .before .before .before .before .before .before .before)
 
 same-length : tie.Need-same-length
 same-length c = search needs
@@ -241,30 +136,18 @@ same-length-2 c = search needs
 
 returns-5 : tie.Need-returns-5
 returns-5 c =
-    let start = c .before .before .before .before .before .before .before .before .before .before .before .before .before .before .before .before .before .before .before .before .before .before .before .before .before .before .before .before in
-    let a = start .args .archive .now in
-    let t = start .args .table .now in
-    let m = start .args .marks .now in
-    let count = c .before .before .before .before .before .before .before .before .before .before .before .before .before .before .before .before .before .before .before .before .before .before .before .before .node-count in
-    let few = c .before .before .before .before .before .before .before .before .before .before .before .before .before .before .before .before .before .before .before .before .before .before .before .if1 .left in
-    let told = c .before .before .before .before .before .before .before .before .before .before .before .before .before .before .before .before .before .before .before .before .decode in
-    let size = c .before .before .before .before .before .before .before .before .before .before .before .before .before .before .before .before .before .table-bytes in
-    let size-is = size .ensures ∙ ap tableBytes (count .ensures) in
-    let tree = told .last .1 .0 in
-    let plan = told .last .1 .1 .0 in
-    let part = known-part tree 8196 (size .result) (told .kept .1 .0) (omega (arith, size .ensures)) in
-    let part₂ = known-part plan 1024 (count .result) (told .kept .1 .1 .0) few in
-    let j = c .before .before .before .before .before .before .before .before .before .before .before .before .before .before .judge-copy in
-    let accepts = c .before .before .before .before .before .before .before .before .before .before .before .before .if2 .left in
-    let is = j .ensures .accepts accepts .0 in
-    reader-done a t m (take (size .result) tree) (take (count .result) plan) (j .result) (j .ensures) accepts (c .before .before .before .before .before .before .before .before .before .before .before .if3 .left ∙ size-is)
-    (c .before .before .before .before .before .before .before .before .before .before .if4 .left ∙ count .ensures) _ _ (c .before .before .before .before .before .before .before .copy-bytes .ensures) (c .before .before .copy-bytes2 .ensures)
+    let e = c .before .before .before .before .before .before .before .before .before .before in
+    let j = e .before .before .before .before in
+    let b = j .before .before .before in
+    reader-done (archive b) _ _ (tree b) (plan b) (j .judge-copy .result) (j .judge-copy .ensures) (e .before .before .if2 .left) (e .before .if3 .left ∙ size-is b)
+    (e .if4 .left ∙ b .before .before .before .before .before .before .before .node-count .ensures) _ _ (c .before .before .before .before .before .before .before .copy-bytes .ensures) (c .before .before .copy-bytes2 .ensures)
 
 pub read-archive-spec : {M : Type 1} → statement M
 read-archive-spec =
     tie.close
     (tie.spec
     node-count-requires
+    cast-count
     refuse-requires
     returns
     slice-aggregate-decode
@@ -272,7 +155,6 @@ read-archive-spec =
     decode-requires
     table-bytes-requires
     cast-bytes
-    cast-count
     array-share-prefix-tree
     slice-aggregate-judge-copy
     array-share-prefix-plan

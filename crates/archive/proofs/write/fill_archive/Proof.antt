@@ -53,7 +53,7 @@ put-nodes-requires c κs =
     let a = start .args in
     let head = c .before .before .before .before .before .before .before .before .before .before .before .before .put-head in
     let pages = c .before .before .before .before .before .before .put-pages in (
-      start .pre .0 .tree .sound .count-high,
+      omega (arith, start .pre .0 .tree .sound .count-high),
       omega (arith, start .pre .1 .pages-are, pageCount-le (a .table .now) (a .marks .now), start .pre .0 .tree .sound .count-high),
       pages .kept .1 .1 .1 .1 .0 ∙ head .kept .0 ∙ start .pre .2,
     )
