@@ -1,13 +1,33 @@
 -- `archive::read::judge_copy` meets its contract. Assumes nothing.
-use mathlib.Core.Path.{sym, _∙_}
 use native.Mathlib.Omega.{arith}
-use lib.ListN.{length}
+use mathlib.Core.Path.{_≡_, sym, _∙_}
+use mathlib.Core.List.{List}
+use Prim.Native.Nat.{ℕ}
+use lib.ListN.{length, take, replicate}
+use Rattle.model.specs.Basics.{sameList}
 use Rattle.archive.specs.Size.{longestArchive}
 use Rattle.archive.specs.Answers.{copy-refused, copy-long, copy-stopped, copy-differs, copy-same}
 use Rattle.archive.proofs.Parts.{fresh-part, part-within, part-long, part-back}
 use borrow.Author.Needs.{needs}
 use Rattle.archive.proofs.read.judge_copy.Statement.{statement}
 use Rattle.archive.proofs.read.judge_copy.Tie as tie
+
+-- ---- What the writer left in the part that it was lent
+
+abbrev archive : tie.After-write-archive → List ℕ
+archive w = w .before .before .before .before .before .before .args .archive .now
+
+abbrev copied : tie.After-write-archive → List ℕ
+copied w = w .write-archive .last .1 .1 .0
+
+fresh : (b : tie.After-copy) → length (take (length (b .before .before .before .before .before .args .archive .now)) (replicate {A = ℕ} longestArchive 0)) ≡ length (b .before .before .before .before .before .args .archive .now)
+fresh b = fresh-part longestArchive _ (b .before .if1 .left)
+
+copied-long : (w : tie.After-write-archive) → length (copied w) ≡ length (archive w)
+copied-long w = w .write-archive .kept .1 .1 .0 ∙ fresh (w .before)
+
+compared : (s : tie.After-same-bytes) → sameList (copied (s .before .before .before .before .before)) (archive (s .before .before .before .before .before)) ≡ s .same-bytes .result
+compared s = sym (part-back (copied (s .before .before .before .before .before)) _ _ (copied-long (s .before .before .before .before .before)) (archive (s .before .before .before .before .before))) ∙ sym (s .same-bytes .ensures)
 
 refuse-requires : tie.Need-refuse-requires
 refuse-requires c κs = search needs
@@ -19,8 +39,7 @@ array-borrow-prefix-copy : tie.Need-array-borrow-prefix-copy
 array-borrow-prefix-copy c = search needs
 
 slice-aggregate-write-archive : tie.Need-slice-aggregate-write-archive
-slice-aggregate-write-archive c =
-    sym (fresh-part longestArchive (length (c .before .before .before .before .before .args .archive .now)) (c .before .if1 .left))
+slice-aggregate-write-archive c = sym (fresh c)
 
 write-archive-requires : tie.Need-write-archive-requires
 write-archive-requires c κs = search needs
@@ -30,72 +49,32 @@ refuse-requires-2 c κs = search needs
 
 returns-2 : tie.Need-returns-2
 returns-2 c =
-    let start = c .before .before .before .before .before .before .before .before .before .before in
-    let a = start .args .archive .now in
-    let t = start .args .tree .now in
-    let m = start .args .plan .now in
-    let w = c .before .before .before .before .write-archive in
-    let small = c .before .before .before .before .before .before .if1 .left in
-    let fresh = fresh-part longestArchive (length a) small in
-    let long = w .kept .1 .1 .0 ∙ fresh in
-    copy-refused (c .refuse2 .ensures) (copy-stopped a t m _ (w .last .1 .1 .0) (w .result) (w .ensures) (c .before .if2 .taken) fresh)
+    let w = c .before .before .before .before in
+    copy-refused (c .refuse2 .ensures) (copy-stopped (archive w) _ _ _ (copied w) _ (w .write-archive .ensures) (c .before .if2 .taken) (fresh (w .before)))
 
 array-share-prefix-copy : tie.Need-array-share-prefix-copy
-array-share-prefix-copy c =
-    let start = c .before .before .before .before .before .before .before .before .before in
-    let a = start .args .archive .now in
-    let t = start .args .tree .now in
-    let m = start .args .plan .now in
-    let w = c .before .before .before .write-archive in
-    let small = c .before .before .before .before .before .if1 .left in
-    let fresh = fresh-part longestArchive (length a) small in
-    let long = w .kept .1 .1 .0 ∙ fresh in
-    part-within (w .last .1 .1 .0) _ (length a) long
+array-share-prefix-copy c = let w = c .before .before .before in part-within (copied w) _ _ (copied-long w)
 
 slice-aggregate-same-bytes : tie.Need-slice-aggregate-same-bytes
-slice-aggregate-same-bytes c =
-    let start = c .before .before .before .before .before .before .before .before .before .before in
-    let a = start .args .archive .now in
-    let t = start .args .tree .now in
-    let m = start .args .plan .now in
-    let w = c .before .before .before .before .write-archive in
-    let small = c .before .before .before .before .before .before .if1 .left in
-    let fresh = fresh-part longestArchive (length a) small in
-    let long = w .kept .1 .1 .0 ∙ fresh in
-    part-long (w .last .1 .1 .0) _ (length a) long
+slice-aggregate-same-bytes c = let w = c .before .before .before .before in part-long (copied w) _ _ (copied-long w)
 
 same-bytes-requires : tie.Need-same-bytes-requires
 same-bytes-requires c κs = search needs
 
 returns-3 : tie.Need-returns-3
 returns-3 c =
-    let start = c .before .before .before .before .before .before .before .before .before .before .before .before in
-    let a = start .args .archive .now in
-    let t = start .args .tree .now in
-    let m = start .args .plan .now in
-    let w = c .before .before .before .before .before .before .write-archive in
-    let small = c .before .before .before .before .before .before .before .before .if1 .left in
-    let fresh = fresh-part longestArchive (length a) small in
-    let long = w .kept .1 .1 .0 ∙ fresh in
-    copy-same a t m _ (w .last .1 .1 .0) (w .result) (w .ensures) (λ i. omega (arith, c .before .before .before .before .before .before .before .before .before .before .shared-slice-known2 .given i)) (c .before .before .before .if2 .left)
-    (sym (part-back (w .last .1 .1 .0) _ (length a) long a) ∙ sym (c .before .same-bytes .ensures) ∙ c .if3 .taken)
+    let w = c .before .before .before .before .before .before in
+    copy-same (archive w) _ _ _ (copied w) _ (w .write-archive .ensures) (λ i. omega (arith, w .before .before .before .before .shared-slice-known2 .given i)) (c .before .before .before .if2 .left)
+    (compared (c .before) ∙ c .if3 .taken)
 
 refuse-requires-3 : tie.Need-refuse-requires-3
 refuse-requires-3 c κs = search needs
 
 returns-4 : tie.Need-returns-4
 returns-4 c =
-    let start = c .before .before .before .before .before .before .before .before .before .before .before .before .before in
-    let a = start .args .archive .now in
-    let t = start .args .tree .now in
-    let m = start .args .plan .now in
-    let w = c .before .before .before .before .before .before .before .write-archive in
-    let small = c .before .before .before .before .before .before .before .before .before .if1 .left in
-    let fresh = fresh-part longestArchive (length a) small in
-    let long = w .kept .1 .1 .0 ∙ fresh in
+    let w = c .before .before .before .before .before .before .before in
     copy-refused (c .refuse3 .ensures)
-    (copy-differs a t m _ (w .last .1 .1 .0) (w .result) (w .ensures) (c .before .before .before .before .if2 .left)
-    (sym (part-back (w .last .1 .1 .0) _ (length a) long a) ∙ sym (c .before .before .same-bytes .ensures) ∙ c .before .if3 .left))
+    (copy-differs (archive w) _ _ _ (copied w) _ (w .write-archive .ensures) (c .before .before .before .before .if2 .left) (compared (c .before .before) ∙ c .before .if3 .left))
 
 pub judge-copy-spec : {M : Type 1} → statement M
 judge-copy-spec =

@@ -1,18 +1,20 @@
 -- `archive::records::put_pages` meets its contract: the records of the pages begun so far stand after the head. Assumes nothing.
 use mathlib.Core.Path.{_≡_, refl, sym, ap, _∙_, subst}
 use Rattle.model.specs.Archive.{nextPage, archiveBytes}
-use Prim.Native.Nat.{_+_, _-_, _*_, _≤_, _<_}
+use Prim.Native.Nat.{ℕ, _+_, _-_, _*_, _≤_, _<_}
+use mathlib.Core.List.{List}
 use Rattle.model.specs.Table.{nodeCount}
 use Rattle.theory.specs.Ranges.{countTo-zero}
 use Rattle.theory.specs.ArchiveBack.{planned-light}
 use native.Mathlib.Omega.{arith}
 use lib.ListN.{length}
 use Rattle.model.specs.Basics.{countTo}
-use Rattle.model.specs.Plan.{begins, markAt, hasMark}
+use Rattle.model.specs.Plan.{begins, markAt, hasMark, pageCount}
+use Rattle.judge.specs.Rows.{slots}
 use Rattle.archive.specs.Put.{Starts}
 use Rattle.archive.specs.Sheets.{pagesUpto, pages-start}
 use Rattle.theory.specs.Judged.{pageCount-le}
-use Rattle.archive.proofs.Turns.{record-length, page-no, page-yes, page-within, page-small, pages-pass, pages-next}
+use Rattle.archive.proofs.Turns.{record-length, page-no, page-yes, page-within, pages-pass, pages-next}
 use borrow.Author.Needs.{needs}
 use Rattle.archive.proofs.records.put_pages.Statement.{statement}
 use Rattle.archive.proofs.records.put_pages.Tie as tie
@@ -23,6 +25,30 @@ Inv-loop table marks weights pages out₀ nodes page₀ v₀ out page v =
 
 abbrev μ-loop : tie.MeasureT-loop
 μ-loop table marks weights pages out₀ nodes page₀ v₀ out page v = nodes - v
+
+-- ---- Where a page begins
+
+module _ (i : tie.Then1 Inv-loop μ-loop) where
+  abbrev table : List ℕ
+  table = i .before .before .before .before .before .before .before .before .args .table .now
+
+  abbrev marks : List ℕ
+  marks = i .before .before .before .before .before .before .before .before .args .marks .now
+
+  one : markAt marks (i .before .before .before .loop .v + 1) ≡ 1
+  one = sym (i .before .mark-at .ensures) ∙ i .if1 .taken
+
+  less : i .before .before .before .loop .v < nodeCount table
+  less = omega (arith, i .before .before .loop-test .taken, i .before .before .before .before .node-count .ensures)
+
+  within : i .before .before .before .loop .page + 1 ≤ pageCount table marks
+  within = page-within table marks _ _ (i .before .before .before .loop .inv .2) one less
+
+  pages-few : pageCount table marks < slots
+  pages-few = omega (arith, pageCount-le table marks, i .before .before .before .before .before .before .before .before .pre .0 .tree .sound .count-high)
+
+  page-few : i .before .before .before .loop .page + 1 < slots
+  page-few = omega (arith, within, pages-few)
 
 node-count-requires : tie.Need-node-count-requires Inv-loop μ-loop
 node-count-requires c κs = search needs
@@ -44,101 +70,35 @@ mark-at-requires : tie.Need-mark-at-requires Inv-loop μ-loop
 mark-at-requires c κs = search needs
 
 add-page : tie.Need-add-page Inv-loop μ-loop
-add-page c =
-    let l = c .before .before .before .loop in
-    let start = c .before .before .before .before .before .before .before .before in
-    let a = start .args in
-    let count = c .before .before .before .before .node-count .ensures in
-    let one : markAt (a .marks .now) (l .v + 1) ≡ 1 = sym (c .before .mark-at .ensures) ∙ c .if1 .taken in
-    let less : l .v < nodeCount (a .table .now) = omega (arith, c .before .before .loop-test .taken) in
-    let within = page-within (a .table .now) (a .marks .now) (l .v) (l .page) (l .inv .2) one less in
-    let small = page-small (a .table .now) (a .marks .now) (l .v) (l .page) (l .inv .2) in
-    let nodes = start .pre .0 .tree .sound .count-high in
-    search needs
+add-page c = let few = page-few c in search needs
 
 find-last-requires : tie.Need-find-last-requires Inv-loop μ-loop
 find-last-requires c κs = search needs
 
 cast-weight : tie.Need-cast-weight Inv-loop μ-loop
-cast-weight c =
-    let l = c .before .before .before .before .loop in
-    let start = c .before .before .before .before .before .before .before .before .before in
-    let a = start .args in
-    let count = c .before .before .before .before .before .node-count .ensures in
-    let one : markAt (a .marks .now) (l .v + 1) ≡ 1 = sym (c .before .before .mark-at .ensures) ∙ c .before .if1 .taken in
-    let less : l .v < nodeCount (a .table .now) = omega (arith, c .before .before .before .loop-test .taken) in
-    let within = page-within (a .table .now) (a .marks .now) (l .v) (l .page) (l .inv .2) one less in
-    let small = page-small (a .table .now) (a .marks .now) (l .v) (l .page) (l .inv .2) in
-    let nodes = start .pre .0 .tree .sound .count-high in
-    search needs
+cast-weight c = let few = page-few (c .before) in search needs
 
 mul-weight : tie.Need-mul-weight Inv-loop μ-loop
-mul-weight c =
-    let l = c .before .before .before .before .loop in
-    let start = c .before .before .before .before .before .before .before .before .before in
-    let a = start .args in
-    let count = c .before .before .before .before .before .node-count .ensures in
-    let one : markAt (a .marks .now) (l .v + 1) ≡ 1 = sym (c .before .before .mark-at .ensures) ∙ c .before .if1 .taken in
-    let less : l .v < nodeCount (a .table .now) = omega (arith, c .before .before .before .loop-test .taken) in
-    let within = page-within (a .table .now) (a .marks .now) (l .v) (l .page) (l .inv .2) one less in
-    let small = page-small (a .table .now) (a .marks .now) (l .v) (l .page) (l .inv .2) in
-    let nodes = start .pre .0 .tree .sound .count-high in
-    search needs
+mul-weight c = let few = page-few (c .before) in search needs
 
 element-copy-out-weight : tie.Need-element-copy-out-weight Inv-loop μ-loop
-element-copy-out-weight c =
-    let l = c .before .before .before .before .loop in
-    let start = c .before .before .before .before .before .before .before .before .before in
-    let a = start .args in
-    let count = c .before .before .before .before .before .node-count .ensures in
-    let one : markAt (a .marks .now) (l .v + 1) ≡ 1 = sym (c .before .before .mark-at .ensures) ∙ c .before .if1 .taken in
-    let less : l .v < nodeCount (a .table .now) = omega (arith, c .before .before .before .loop-test .taken) in
-    let within = page-within (a .table .now) (a .marks .now) (l .v) (l .page) (l .inv .2) one less in
-    let small = page-small (a .table .now) (a .marks .now) (l .v) (l .page) (l .inv .2) in
-    let nodes = start .pre .0 .tree .sound .count-high in
-    search needs
+element-copy-out-weight c = let few = page-few (c .before) in search needs
 
 cast-weight-2 : tie.Need-cast-weight-2 Inv-loop μ-loop
 cast-weight-2 c =
-    let l = c .before .before .before .before .before .loop in
-    let start = c .before .before .before .before .before .before .before .before .before .before in
-    let a = start .args in
-    let count = c .before .before .before .before .before .before .node-count .ensures in
-    let one : markAt (a .marks .now) (l .v + 1) ≡ 1 = sym (c .before .before .before .mark-at .ensures) ∙ c .before .before .if1 .taken in
-    let less : l .v < nodeCount (a .table .now) = omega (arith, c .before .before .before .before .loop-test .taken) in
-    let within = page-within (a .table .now) (a .marks .now) (l .v) (l .page) (l .inv .2) one less in
-    let small = page-small (a .table .now) (a .marks .now) (l .v) (l .page) (l .inv .2) in
-    let nodes = start .pre .0 .tree .sound .count-high in
-    let weight = start .pre .2 (l .page + 1) (omega arith) (omega (arith, start .pre .1)) in
-    let light = planned-light (start .pre .0) (l .page + 1) (omega arith) within in
+    let i = c .before .before in
+    let start = i .before .before .before .before .before .before .before .before in
+    let page = i .before .before .before .loop .page + 1 in
+    let weight = start .pre .2 page (omega arith) (omega (arith, within i, start .pre .1)) in
+    let light = planned-light (start .pre .0) page (omega arith) (within i) in
     let limit = start .pre .0 .tree .sound .limit-high in
     search needs
 
 page-after-requires : tie.Need-page-after-requires Inv-loop μ-loop
-page-after-requires c κs =
-    let l = c .before .before .before .before .before .loop in
-    let start = c .before .before .before .before .before .before .before .before .before .before in
-    let a = start .args in
-    let count = c .before .before .before .before .before .before .node-count .ensures in
-    let one : markAt (a .marks .now) (l .v + 1) ≡ 1 = sym (c .before .before .before .mark-at .ensures) ∙ c .before .before .if1 .taken in
-    let less : l .v < nodeCount (a .table .now) = omega (arith, c .before .before .before .before .loop-test .taken) in
-    let within = page-within (a .table .now) (a .marks .now) (l .v) (l .page) (l .inv .2) one less in
-    let small = page-small (a .table .now) (a .marks .now) (l .v) (l .page) (l .inv .2) in
-    let nodes = start .pre .0 .tree .sound .count-high in
-    omega (arith, start .pre .1, pageCount-le (a .table .now) (a .marks .now))
+page-after-requires c κs = omega (arith, c .before .before .before .before .before .before .before .before .before .before .pre .1, pages-few (c .before .before))
 
 mul-put-record : tie.Need-mul-put-record Inv-loop μ-loop
-mul-put-record c =
-    let l = c .before .before .before .before .before .before .before .loop in
-    let start = c .before .before .before .before .before .before .before .before .before .before .before .before in
-    let a = start .args in
-    let count = c .before .before .before .before .before .before .before .before .node-count .ensures in
-    let one : markAt (a .marks .now) (l .v + 1) ≡ 1 = sym (c .before .before .before .before .before .mark-at .ensures) ∙ c .before .before .before .before .if1 .taken in
-    let less : l .v < nodeCount (a .table .now) = omega (arith, c .before .before .before .before .before .before .loop-test .taken) in
-    let within = page-within (a .table .now) (a .marks .now) (l .v) (l .page) (l .inv .2) one less in
-    let small = page-small (a .table .now) (a .marks .now) (l .v) (l .page) (l .inv .2) in
-    let nodes = start .pre .0 .tree .sound .count-high in
-    search needs
+mul-put-record c = let few = page-few (c .before .before .before .before) in search needs
 
 sub-put-record : tie.Need-sub-put-record Inv-loop μ-loop
 sub-put-record c = search needs
@@ -151,23 +111,16 @@ loop-less c = search needs
 
 loop-again : tie.Need-loop-again Inv-loop μ-loop
 loop-again c =
-    let l = c .before .before .before .before .before .before .before .before .before .before .loop in
-    let start = c .before .before .before .before .before .before .before .before .before .before .before .before .before .before .before in
-    let a = start .args in
-    let count = c .before .before .before .before .before .before .before .before .before .before .before .node-count .ensures in
-    let one : markAt (a .marks .now) (l .v + 1) ≡ 1 = sym (c .before .before .before .before .before .before .before .before .mark-at .ensures) ∙ c .before .before .before .before .before .before .before .if1 .taken in
-    let less : l .v < nodeCount (a .table .now) = omega (arith, c .before .before .before .before .before .before .before .before .before .loop-test .taken) in
-    let within = page-within (a .table .now) (a .marks .now) (l .v) (l .page) (l .inv .2) one less in
-    let small = page-small (a .table .now) (a .marks .now) (l .v) (l .page) (l .inv .2) in
-    let nodes = start .pre .0 .tree .sound .count-high in
-    let put = c .before .before .put-record .ensures in
-    let i = 4 * (l .page + 1) - 1 in (
-      omega (arith, less),
+    let i = c .before .before .before .before .before .before .before in
+    let l = i .before .before .before .loop in
+    let start = i .before .before .before .before .before .before .before .before in
+    let put = c .before .before .put-record .ensures in (
+      omega (arith, less i, i .before .before .before .before .node-count .ensures),
       record-length (l .out) _ _ _ _ _ _ put ∙ l .inv .1,
-      page-yes (a .table .now) (a .marks .now) (l .v) (l .page) (l .inv .2) one,
-      pages-next (a .table .now) (a .marks .now) (l .v) (l .page) (l .inv .2) i (l .out) _ _ _ _ one less
-          (l .inv .1 ∙ start .pre .3 ∙ ap (λ k. archiveBytes k (nodeCount (a .table .now))) (start .pre .1)) (l .inv .3) (omega arith) put
-          (c .before .before .before .before .before .before .find-last .ensures) (start .pre .2 (l .page + 1) (omega arith) (omega (arith, start .pre .1)))
+      page-yes (table i) (marks i) (l .v) (l .page) (l .inv .2) (one i),
+      pages-next (table i) (marks i) (l .v) (l .page) (l .inv .2) (4 * (l .page + 1) - 1) (l .out) _ _ _ _ (one i) (less i)
+          (l .inv .1 ∙ start .pre .3 ∙ ap (λ k. archiveBytes k (nodeCount (table i))) (start .pre .1)) (l .inv .3) (omega arith) put
+          (c .before .before .before .before .before .before .find-last .ensures) (start .pre .2 (l .page + 1) (omega arith) (omega (arith, within i, start .pre .1)))
           (c .before .before .before .before .page-after .ensures ∙ ap (nextPage (l .page + 1)) (start .pre .1)),
     )
 

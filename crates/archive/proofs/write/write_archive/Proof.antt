@@ -1,32 +1,49 @@
 -- `archive::write::write_archive` meets its contract. Assumes nothing.
-use mathlib.Core.Path.{sym, ap, ap₂, _∙_}
 use native.Mathlib.Omega.{arith}
+use mathlib.Core.Path.{_≡_, sym, ap, ap₂, _∙_}
+use mathlib.Core.List.{List}
+use Prim.Native.Nat.{ℕ}
+use Rattle.model.specs.Table.{nodeCount}
+use Rattle.model.specs.Plan.{pageCount}
 use Rattle.model.specs.Archive.{archiveBytes}
-use Rattle.model.specs.Refusals.{refused}
-use Rattle.archive.specs.Answers.{written}
+use Rattle.model.specs.Refusals.{refused, judgePlan}
 use Rattle.model.specs.declared.Answer.{Answer}
-use Rattle.theory.specs.ArchiveBack.{feasible-planned}
+use Rattle.theory.specs.ArchiveBack.{Planned, feasible-planned}
 use Rattle.theory.specs.ArchiveAnswers.{judge-feasible, write-refuses, write-short, write-done}
+use Rattle.archive.specs.Answers.{written}
 use borrow.Author.Needs.{needs}
 use Rattle.archive.proofs.write.write_archive.Statement.{statement}
 use Rattle.archive.proofs.write.write_archive.Tie as tie
+
+-- ---- Where the judge accepts
+
+abbrev tree : tie.Else1 → List ℕ
+tree e = e .before .before .before .before .before .before .args .table .now
+
+abbrev plan : tie.Else1 → List ℕ
+plan e = e .before .before .before .before .before .before .args .marks .now
+
+accepts : (e : tie.Else1) → judgePlan (tree e) (plan e) .number ≡ 0
+accepts e = sym (ap (λ (x : Answer). x .number) (e .before .before .judge-plan .ensures)) ∙ e .if1 .left
+
+feasible : (e : tie.Else1) → Planned (tree e) (plan e)
+feasible e = feasible-planned (tree e) (plan e) (judge-feasible (tree e) (plan e) (accepts e))
+
+size-is : (b : tie.After-archive-bytes) → b .archive-bytes .result ≡ archiveBytes (pageCount (tree (b .before .before .before)) (plan (b .before .before .before))) (nodeCount (tree (b .before .before .before)))
+size-is b = b .archive-bytes .ensures ∙ ap₂ archiveBytes (b .before .before .lay-plan .ensures .pages-are) (b .before .node-count .ensures)
 
 judge-plan-requires : tie.Need-judge-plan-requires
 judge-plan-requires c κs = search needs
 
 returns : tie.Need-returns
 returns c =
-    let start = c .before .before .before .before .before .before in
-    let a = start .args in
-    let judged = c .before .before .judge-plan in
-    ap (λ (x : Answer). written x (a .out .now)) (judged .ensures)
-    ∙ (write-refuses (a .table .now) (a .marks .now) (a .out .now) (λ z. c .if1 .taken (ap (λ (x : Answer). x .number) (judged .ensures) ∙ z)))
+    let a = c .before .before .before .before .before .before .args in
+    let judged = c .before .before .judge-plan .ensures in
+    ap (λ (x : Answer). written x (a .out .now)) judged
+    ∙ write-refuses _ _ (a .out .now) (λ z. c .if1 .taken (ap (λ (x : Answer). x .number) judged ∙ z))
 
 lay-plan-requires : tie.Need-lay-plan-requires
-lay-plan-requires c κs =
-    let a = c .before .before .before .before .before .before .args in
-    let accepts = sym (ap (λ (x : Answer). x .number) (c .before .before .judge-plan .ensures)) ∙ c .if1 .left in
-    feasible-planned (a .table .now) (a .marks .now) (judge-feasible (a .table .now) (a .marks .now) accepts) .tree
+lay-plan-requires c κs = feasible c .tree
 
 node-count-requires : tie.Need-node-count-requires
 node-count-requires c κs = search needs
@@ -42,47 +59,24 @@ refuse-requires c κs = search needs
 
 returns-2 : tie.Need-returns-2
 returns-2 c =
-    let start = c .before .before .before .before .before .before .before .before .before .before .before in
-    let a = start .args in
-    let judged = c .before .before .before .before .before .before .before .judge-plan in
-    let accepts = sym (ap (λ (x : Answer). x .number) (judged .ensures)) ∙ c .before .before .before .before .before .if1 .left in
-    let laid = c .before .before .before .before .lay-plan .ensures in
-    let count = c .before .before .before .node-count in
-    let bytes = c .before .before .archive-bytes in
-    let size = bytes .ensures ∙ ap₂ archiveBytes (laid .pages-are) (count .ensures) in
-    ap (λ (x : Answer). written x (a .out .now)) (c .refuse .ensures ∙ ap (refused 12) size)
-    ∙ write-short (a .table .now) (a .marks .now) (a .out .now) accepts (λ e. omega (arith, c .before .if2 .taken, size))
+    let b = c .before .before in
+    let out = b .before .before .before .before .before .before .before .before .before .args .out .now in
+    ap (λ (x : Answer). written x out) (c .refuse .ensures ∙ ap (refused 12) (size-is b))
+    ∙ write-short _ _ out (accepts (b .before .before .before)) (λ e. omega (arith, c .before .if2 .taken, size-is b))
 
 fill-archive-requires : tie.Need-fill-archive-requires
 fill-archive-requires c κs =
-    let start = c .before .before .before .before .before .before .before .before .before .before .before in
-    let a = start .args in
-    let judged = c .before .before .before .before .before .before .before .judge-plan in
-    let accepts = sym (ap (λ (x : Answer). x .number) (judged .ensures)) ∙ c .before .before .before .before .before .if1 .left in
-    let laid = c .before .before .before .before .lay-plan .ensures in
-    let count = c .before .before .before .node-count in
-    let bytes = c .before .before .archive-bytes in
-    let size = bytes .ensures ∙ ap₂ archiveBytes (laid .pages-are) (count .ensures) in (
-      feasible-planned (a .table .now) (a .marks .now) (judge-feasible (a .table .now) (a .marks .now) accepts),
-      laid,
-      c .before .if2 .left ∙ bytes .ensures ∙ ap (archiveBytes _) (count .ensures),
-    )
+    let b = c .before .before in
+    (feasible (b .before .before .before), b .before .before .lay-plan .ensures, c .before .if2 .left ∙ b .archive-bytes .ensures ∙ ap (archiveBytes _) (b .before .node-count .ensures))
 
 same-length : tie.Need-same-length
 same-length c = search needs
 
 returns-3 : tie.Need-returns-3
 returns-3 c =
-    let start = c .before .before .before .before .before .before .before .before .before .before .before .before .before .before in
-    let a = start .args in
-    let judged = c .before .before .before .before .before .before .before .before .before .before .judge-plan in
-    let accepts = sym (ap (λ (x : Answer). x .number) (judged .ensures)) ∙ c .before .before .before .before .before .before .before .before .if1 .left in
-    let laid = c .before .before .before .before .before .before .before .lay-plan .ensures in
-    let count = c .before .before .before .before .before .before .node-count in
-    let bytes = c .before .before .before .before .before .archive-bytes in
-    let size = bytes .ensures ∙ ap₂ archiveBytes (laid .pages-are) (count .ensures) in
-    ap₂ written (judged .ensures) (c .before .before .fill-archive .ensures)
-    ∙ write-done (a .table .now) (a .marks .now) (a .out .now) accepts (c .before .before .before .before .if2 .left ∙ size)
+    let b = c .before .before .before .before .before in
+    ap₂ written (b .before .before .before .before .before .judge-plan .ensures) (c .before .before .fill-archive .ensures)
+    ∙ write-done _ _ _ (accepts (b .before .before .before)) (c .before .before .before .before .if2 .left ∙ size-is b)
 
 pub write-archive-spec : {M : Type 1} → statement M
 write-archive-spec =
