@@ -16,7 +16,7 @@ use Rattle.theory.specs.JudgePages.{pageOf-le}
 use Rattle.theory.specs.Links.{next-later, next-le}
 use Rattle.theory.specs.Siblings.{and-true}
 use Rattle.theory.specs.RunMarks.{runLast-on, runLast-stop}
-use Rattle.theory.specs.Ranges.{Upto, countTo-yes, countTo-no, countTo-le}
+use Rattle.theory.specs.Ranges.{Upto, countTo-yes, countTo-no}
 use Rattle.theory.specs.Chosen.{countTo-mono}
 use native.Mathlib.Numerals.{add-one}
 use Rattle.judge.specs.Rows.{slots}
@@ -26,14 +26,15 @@ use Rattle.archive.specs.Sheets.{headWords, pagesUpto, length-pagesUpto,
 
 -- ---- Along a run
 
-module _ {t : List ℕ} (m : List ℕ) (s : SoundFacts t) (u next : ℕ) (low : 1 ≤ u) (high : u ≤ nodeCount t) (here : next ≡ nextAt t u) where
-  pub record RunTurn (v : ℕ) : Type 0 where
-    pub some : 1 ≤ next
-    pub within : next ≤ nodeCount t
-    pub later : u < next
-    pub same : runLast t m v ≡ runLast t m next
+-- a step from node u on leads to a node of the tree, and the run of v is its run
+pub record RunTurn (t m : List ℕ) (u next v : ℕ) : Type 0 where
+  pub some : 1 ≤ next
+  pub within : next ≤ nodeCount t
+  pub later : u < next
+  pub same : runLast t m v ≡ runLast t m next
 
-  pub run-turn : (v : ℕ) → (not (eqb next 0) && hasMark m continues next) ≡ true → runLast t m v ≡ runLast t m u → RunTurn v
+module _ {t : List ℕ} (m : List ℕ) (s : SoundFacts t) (u next : ℕ) (low : 1 ≤ u) (high : u ≤ nodeCount t) (here : next ≡ nextAt t u) where
+  pub run-turn : (v : ℕ) → (not (eqb next 0) && hasMark m continues next) ≡ true → runLast t m v ≡ runLast t m u → RunTurn t m u next v
   run-turn v e h =
       let both = both-true (not (eqb next 0)) (hasMark m continues next) e in
       let other : next ≡ 0 → ⊥ = eqb-false next 0 (not-true (eqb next 0) (both .0)) in
@@ -74,9 +75,6 @@ module _ (t m : List ℕ) (v page : ℕ) (here : page ≡ countTo v (hasMark m b
   pub page-within : markAt m (v + 1) ≡ 1 → v < nodeCount t → page + 1 ≤ pageCount t m
   unfolding pageCount
   page-within one less = omega (arith, page-yes one, countTo-mono (hasMark m begins) (v + 1) (nodeCount t) (omega arith))
-
-  pub page-small : page ≤ v
-  page-small = omega (arith, here, countTo-le v (hasMark m begins))
 
   pub pages-pass : (out : List ℕ) → (markAt m (v + 1) ≡ 1 → ⊥) → Starts out (pagesUpto t m v) → Starts out (pagesUpto t m (v + 1))
   pages-pass out other h = rw (pages-no t m v (ne-eqb (markAt m (v + 1)) 1 other)) h

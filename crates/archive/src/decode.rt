@@ -10,11 +10,11 @@ use table::words::word_at;
 ghost use mathlib.Core.Path.{_≡_};
 ghost use mathlib.Core.Bool.{true};
 ghost use mathlib.Core.List.{List};
-ghost use Prim.Native.Nat.{ℕ, _≤_, _<_};
+ghost use Prim.Native.Nat.{ℕ, _+_, _-_, _*_, _≤_, _<_};
 ghost use lib.Dec.{eqb};
 ghost use lib.ListN.{length, getD, take};
 ghost use Rattle.model.specs.Basics.{pick};
-ghost use Rattle.model.specs.Table.{nodeCount, tableBytes};
+ghost use Rattle.model.specs.Table.{wordAt, nodeCount, tableBytes};
 ghost use Rattle.model.specs.Plan.{begins, hasMark, runLast};
 ghost use Rattle.model.specs.Archive.{pagesIn, pageFieldIn, nodeFieldIn, parentIn, firstIn, tableIn, marksIn};
 ghost use Rattle.model.specs.Refusals.{isArchive};
@@ -31,24 +31,29 @@ fn pages_in(archive: &[u8]) -> u16
     word_at(archive, 2)
 }
 
+// Word f of record i, counted from 1, after so many others.
+fn field_after(archive: &[u8], others: u16, i: u16, f: u8) -> u16
+    ensures { λ r. ⌜ r ≡ wordAt (now (archive .entry)) (3 + 4 * others + 4 * (i - 1) + f) ⌝ }
+{
+    let before = if i == 0 { 0 } else { i - 1 };
+    word_at(
+        archive,
+        3 + 4 * (others as u32) + 4 * (before as u32) + (f as u32),
+    )
+}
+
 // Word f of page q's record.
 fn page_field(archive: &[u8], q: u16, f: u8) -> u16
     ensures { λ r. ⌜ r ≡ pageFieldIn (now (archive .entry)) q f ⌝ }
 {
-    let before = if q == 0 { 0 } else { q - 1 };
-    word_at(archive, 3 + 4 * (before as u32) + (f as u32))
+    field_after(archive, 0, q, f)
 }
 
 // Word f of node v's record.
 fn node_field(archive: &[u8], v: u16, f: u8) -> u16
     ensures { λ r. ⌜ r ≡ nodeFieldIn (now (archive .entry)) v f ⌝ }
 {
-    let before = if v == 0 { 0 } else { v - 1 };
-    let pages = pages_in(archive);
-    word_at(
-        archive,
-        3 + 4 * (pages as u32) + 4 * (before as u32) + (f as u32),
-    )
+    field_after(archive, pages_in(archive), v, f)
 }
 
 fn parent_in(archive: &[u8], v: u16) -> u16

@@ -18,6 +18,13 @@ Inv-loop nodes lasts links plan₀ due₀ v₀ plan due v =
 abbrev μ-loop : tie.MeasureT-loop
 μ-loop nodes lasts links plan₀ due₀ v₀ plan due v = nodes - v
 
+-- the next sibling is a place of the array
+next-few : (n : tie.After-sibling-of Inv-loop μ-loop) → n .sibling-of .result < slots
+next-few n =
+    let v = n .before .before .before .before .before .loop .v + 1 in
+    let link = n .before .before .before .before .before .before .before .pre .1 v (omega arith) (omega arith) in
+    omega (arith, n .sibling-of .ensures, sibling-small (eqb v 1) (getD (n .before .before .before .before .before .before .before .args .links .now) v 0) link)
+
 loop-holds : tie.Need-loop-holds Inv-loop μ-loop
 loop-holds c =
     let a = c .before .args in (
@@ -76,31 +83,13 @@ slice-write-plan c =
     omega (arith, l .inv .2, start .pre .2, start .pre .0)
 
 cast-due : tie.Need-cast-due Inv-loop μ-loop
-cast-due c =
-    let l = c .before .before .before .before .before .before .loop in
-    let start = c .before .before .before .before .before .before .before .before in
-    let next = c .before .sibling-of in
-    let link = start .pre .1 (l .v + 1) (omega arith) (omega arith) in
-    let small : next .result < slots = omega (arith, next .ensures, sibling-small (eqb (l .v + 1) 1) (getD (start .args .links .now) (l .v + 1) 0) link) in
-    search needs
+cast-due c = let few = next-few (c .before) in search needs
 
 mul-due : tie.Need-mul-due Inv-loop μ-loop
-mul-due c =
-    let l = c .before .before .before .before .before .before .loop in
-    let start = c .before .before .before .before .before .before .before .before in
-    let next = c .before .sibling-of in
-    let link = start .pre .1 (l .v + 1) (omega arith) (omega arith) in
-    let small : next .result < slots = omega (arith, next .ensures, sibling-small (eqb (l .v + 1) 1) (getD (start .args .links .now) (l .v + 1) 0) link) in
-    search needs
+mul-due c = let few = next-few (c .before) in search needs
 
 array-write-due : tie.Need-array-write-due Inv-loop μ-loop
-array-write-due c =
-    let l = c .before .before .before .before .before .before .loop in
-    let start = c .before .before .before .before .before .before .before .before in
-    let next = c .before .sibling-of in
-    let link = start .pre .1 (l .v + 1) (omega arith) (omega arith) in
-    let small : next .result < slots = omega (arith, next .ensures, sibling-small (eqb (l .v + 1) 1) (getD (start .args .links .now) (l .v + 1) 0) link) in
-    search needs
+array-write-due c = let few = next-few (c .before) in search needs
 
 loop-less : tie.Need-loop-less Inv-loop μ-loop
 loop-less c = search needs

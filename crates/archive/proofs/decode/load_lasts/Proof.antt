@@ -17,6 +17,10 @@ Inv-loop archive pages lasts₀ q₀ lasts q =
 abbrev μ-loop : tie.MeasureT-loop
 μ-loop archive pages lasts₀ q₀ lasts q = pages - q
 
+-- what is taken for a first node is a place of the array
+first-few : (f : tie.After-fit2 Inv-loop μ-loop) → f .fit2 .result < slots
+first-few f = omega (arith, f .fit2 .ensures, fitted-small (f .before .page-field .result))
+
 pages-in-requires : tie.Need-pages-in-requires Inv-loop μ-loop
 pages-in-requires c κs = search needs
 
@@ -39,22 +43,13 @@ page-field-requires-2 : tie.Need-page-field-requires-2 Inv-loop μ-loop
 page-field-requires-2 c κs = search needs
 
 cast-lasts : tie.Need-cast-lasts Inv-loop μ-loop
-cast-lasts c =
-    let first = c .before .fit2 in
-    let small : first .result < slots = omega (arith, first .ensures, fitted-small (c .before .before .page-field .result)) in
-    search needs
+cast-lasts c = let few = first-few (c .before) in search needs
 
 mul-lasts : tie.Need-mul-lasts Inv-loop μ-loop
-mul-lasts c =
-    let first = c .before .fit2 in
-    let small : first .result < slots = omega (arith, first .ensures, fitted-small (c .before .before .page-field .result)) in
-    search needs
+mul-lasts c = let few = first-few (c .before) in search needs
 
 array-write-lasts : tie.Need-array-write-lasts Inv-loop μ-loop
-array-write-lasts c =
-    let first = c .before .fit2 in
-    let small : first .result < slots = omega (arith, first .ensures, fitted-small (c .before .before .page-field .result)) in
-    search needs
+array-write-lasts c = let few = first-few (c .before) in search needs
 
 loop-less : tie.Need-loop-less Inv-loop μ-loop
 loop-less c = search needs

@@ -1,11 +1,11 @@
 -- `archive::onward::link_next` meets its contract: what was seen of each key so far, and the links of the nodes passed.
 -- Assumes nothing.
 use mathlib.Core.Path.{_≡_}
+use mathlib.Core.Path.{refl}
 use Prim.Native.Nat.{_≤_, _<_}
+use native.Mathlib.Omega.{arith}
 use lib.ListN.{length, getD}
 use lib.ListN.{length-set, replicate, getD-replicate}
-use mathlib.Core.Path.{refl}
-use native.Mathlib.Omega.{arith}
 use Rattle.judge.specs.Rows.{slots}
 use Rattle.archive.specs.Onward.{Seen, LinkedFrom, seen-start, seen-turn, linked-start, linked-turn}
 use borrow.Author.Needs.{needs}
@@ -20,6 +20,10 @@ Inv-loop keys nodes seen₀ next₀ v₀ seen next v =
 abbrev μ-loop : tie.MeasureT-loop
 μ-loop keys nodes seen₀ next₀ v₀ seen next v = v
 
+-- a key is a place of the arrays
+key-few : (k : tie.After-key Inv-loop μ-loop) → getD (k .before .before .before .args .keys .now) (k .before .before .loop .v) 0 < slots
+key-few k = k .before .before .before .pre .1 (k .before .before .loop .v) (omega arith) (omega arith)
+
 loop-holds : tie.Need-loop-holds Inv-loop μ-loop
 loop-holds c = (refl, refl, omega arith, seen-start _ _ (replicate slots 0) (λ k fits. getD-replicate slots k 0 0 fits), linked-start _ _ (replicate slots 0))
 
@@ -33,25 +37,13 @@ element-copy-out-key : tie.Need-element-copy-out-key Inv-loop μ-loop
 element-copy-out-key c = search needs
 
 cast-key-2 : tie.Need-cast-key-2 Inv-loop μ-loop
-cast-key-2 c =
-    let l = c .before .before .loop in
-    let start = c .before .before .before in
-    let key : getD (start .args .keys .now) (l .v) 0 < slots = start .pre .1 (l .v) (omega arith) (omega arith) in
-    search needs
+cast-key-2 c = let few = key-few c in search needs
 
 mul-next : tie.Need-mul-next Inv-loop μ-loop
-mul-next c =
-    let l = c .before .before .loop in
-    let start = c .before .before .before in
-    let key : getD (start .args .keys .now) (l .v) 0 < slots = start .pre .1 (l .v) (omega arith) (omega arith) in
-    search needs
+mul-next c = let few = key-few c in search needs
 
 array-read-next : tie.Need-array-read-next Inv-loop μ-loop
-array-read-next c =
-    let l = c .before .before .loop in
-    let start = c .before .before .before in
-    let key : getD (start .args .keys .now) (l .v) 0 < slots = start .pre .1 (l .v) (omega arith) (omega arith) in
-    search needs
+array-read-next c = let few = key-few c in search needs
 
 cast-next : tie.Need-cast-next Inv-loop μ-loop
 cast-next c = search needs
@@ -63,18 +55,10 @@ array-write-next : tie.Need-array-write-next Inv-loop μ-loop
 array-write-next c = search needs
 
 mul-seen : tie.Need-mul-seen Inv-loop μ-loop
-mul-seen c =
-    let l = c .before .before .loop in
-    let start = c .before .before .before in
-    let key : getD (start .args .keys .now) (l .v) 0 < slots = start .pre .1 (l .v) (omega arith) (omega arith) in
-    search needs
+mul-seen c = let few = key-few c in search needs
 
 array-write-seen : tie.Need-array-write-seen Inv-loop μ-loop
-array-write-seen c =
-    let l = c .before .before .loop in
-    let start = c .before .before .before in
-    let key : getD (start .args .keys .now) (l .v) 0 < slots = start .pre .1 (l .v) (omega arith) (omega arith) in
-    search needs
+array-write-seen c = let few = key-few c in search needs
 
 sub-v : tie.Need-sub-v Inv-loop μ-loop
 sub-v c = search needs
@@ -86,13 +70,12 @@ loop-again : tie.Need-loop-again Inv-loop μ-loop
 loop-again c =
     let l = c .before .before .loop in
     let start = c .before .before .before in
-    let keys = start .args .keys .now in
-    let key : getD keys (l .v) 0 < slots = start .pre .1 (l .v) (omega arith) (omega arith) in (
+    let keys = start .args .keys .now in (
       simp length-set (l .inv .0),
       simp length-set (l .inv .1),
       omega arith,
-      seen-turn (λ u. getD keys u 0) (start .args .nodes) (l .seen) (l .v) (l .inv .3) (l .inv .0) (omega arith) (l .inv .2) key,
-      linked-turn (λ u. getD keys u 0) (start .args .nodes) (l .seen) (l .next) (l .v) (l .inv .3) (l .inv .4) (omega (arith, l .inv .1, start .pre .0)) key (omega arith),
+      seen-turn (λ u. getD keys u 0) (start .args .nodes) (l .seen) (l .v) (l .inv .3) (l .inv .0) (omega arith) (l .inv .2) (key-few c),
+      linked-turn (λ u. getD keys u 0) (start .args .nodes) (l .seen) (l .next) (l .v) (l .inv .3) (l .inv .4) (omega (arith, l .inv .1, start .pre .0)) (key-few c) (omega arith),
     )
 
 returns : tie.Need-returns Inv-loop μ-loop

@@ -1,8 +1,8 @@
 -- `archive::read::judge_copy` meets its contract. Assumes nothing.
-use native.Mathlib.Omega.{arith}
 use mathlib.Core.Path.{_≡_, sym, _∙_}
 use mathlib.Core.List.{List}
 use Prim.Native.Nat.{ℕ}
+use native.Mathlib.Omega.{arith}
 use lib.ListN.{length, take, replicate}
 use Rattle.model.specs.Basics.{sameList}
 use Rattle.archive.specs.Size.{longestArchive}

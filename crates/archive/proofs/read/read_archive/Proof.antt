@@ -1,9 +1,9 @@
 -- `archive::read::read_archive` meets its contract. Assumes nothing.
-use native.Mathlib.Omega.{arith}
 use mathlib.Core.Bool.{true}
 use mathlib.Core.Path.{_≡_, ap, _∙_}
 use mathlib.Core.List.{List}
 use Prim.Native.Nat.{ℕ}
+use native.Mathlib.Omega.{arith}
 use lib.ListN.{length, take}
 use Rattle.model.specs.Table.{nodeCount, tableBytes}
 use Rattle.model.specs.Archive.{tableIn, marksIn}

@@ -4,7 +4,7 @@ use Prim.Native.Nat.{_-_, _≤_}
 use native.Mathlib.Omega.{arith}
 use Rattle.model.specs.Table.{nodeCount, nextAt}
 use Rattle.model.specs.Plan.{runLast}
-use Rattle.archive.proofs.Turns.{run-turn, run-end}
+use Rattle.archive.proofs.Turns.{RunTurn, run-turn, run-end}
 use borrow.Author.Needs.{needs}
 use Rattle.archive.proofs.records.find_last.Statement.{statement}
 use Rattle.archive.proofs.records.find_last.Tie as tie
@@ -14,6 +14,12 @@ Inv-loop table marks v last₀ next₀ last next = (1 ≤ last) × (last ≤ nod
 
 abbrev μ-loop : tie.MeasureT-loop
 μ-loop table marks v last₀ next₀ last next = nodeCount table - last
+
+turned : (i : tie.Then1 Inv-loop μ-loop)
+    → RunTurn (i .before .before .before .before .before .before .args .table .now) (i .before .before .before .before .before .before .args .marks .now) (i .before .before .loop .last) (i .before .before .loop .next) (i .before .before .before .before .before .before .args .v)
+turned i =
+    let l = i .before .before .loop in
+    run-turn _ (i .before .before .before .before .before .before .pre .0) (l .last) (l .next) (l .inv .0) (l .inv .1) (l .inv .2) _ (sym (i .before .leads-on .ensures) ∙ i .if1 .taken) (l .inv .3)
 
 next-at-requires : tie.Need-next-at-requires Inv-loop μ-loop
 next-at-requires c κs = search needs
@@ -28,22 +34,10 @@ next-at-requires-2 : tie.Need-next-at-requires-2 Inv-loop μ-loop
 next-at-requires-2 c κs = search needs
 
 loop-less : tie.Need-loop-less Inv-loop μ-loop
-loop-less c =
-    let l = c .before .before .before .loop in
-    let start = c .before .before .before .before .before .before .before in
-    let r =
-    run-turn (start .args .marks .now) (start .pre .0) (l .last) (l .next) (l .inv .0) (l .inv .1) (l .inv .2) (start .args .v)
-    (sym (c .before .before .leads-on .ensures) ∙ c .before .if1 .taken) (l .inv .3) in
-    omega (arith, r .later, r .within)
+loop-less c = let r = turned (c .before) in omega (arith, r .later, r .within)
 
 loop-again : tie.Need-loop-again Inv-loop μ-loop
-loop-again c =
-    let l = c .before .before .before .loop in
-    let start = c .before .before .before .before .before .before .before in
-    let r =
-    run-turn (start .args .marks .now) (start .pre .0) (l .last) (l .next) (l .inv .0) (l .inv .1) (l .inv .2) (start .args .v)
-    (sym (c .before .before .leads-on .ensures) ∙ c .before .if1 .taken) (l .inv .3) in
-    (r .some, r .within, c .next-at2 .ensures, r .same)
+loop-again c = let r = turned (c .before) in (r .some, r .within, c .next-at2 .ensures, r .same)
 
 returns : tie.Need-returns Inv-loop μ-loop
 returns c =

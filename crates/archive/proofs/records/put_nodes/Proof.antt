@@ -1,9 +1,9 @@
 -- `archive::records::put_nodes` meets its contract: the records of the nodes passed stand after what stood before. Assumes nothing.
 use mathlib.Core.Path.{_≡_, refl, _∙_, subst}
 use Prim.Native.Nat.{_+_, _-_, _*_, _≤_}
-use Rattle.model.specs.Table.{nodeCount}
 use native.Mathlib.Omega.{arith}
 use lib.ListN.{length}
+use Rattle.model.specs.Table.{nodeCount}
 use Rattle.archive.specs.Sheets.{NodesPut, nodes-start}
 use Rattle.archive.proofs.Turns.{record-length, nodes-next}
 use borrow.Author.Needs.{needs}

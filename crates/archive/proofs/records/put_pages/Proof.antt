@@ -1,19 +1,19 @@
 -- `archive::records::put_pages` meets its contract: the records of the pages begun so far stand after the head. Assumes nothing.
 use mathlib.Core.Path.{_≡_, refl, sym, ap, _∙_, subst}
-use Rattle.model.specs.Archive.{nextPage, archiveBytes}
-use Prim.Native.Nat.{ℕ, _+_, _-_, _*_, _≤_, _<_}
 use mathlib.Core.List.{List}
-use Rattle.model.specs.Table.{nodeCount}
-use Rattle.theory.specs.Ranges.{countTo-zero}
-use Rattle.theory.specs.ArchiveBack.{planned-light}
+use Prim.Native.Nat.{ℕ, _+_, _-_, _*_, _≤_, _<_}
 use native.Mathlib.Omega.{arith}
 use lib.ListN.{length}
+use Rattle.model.specs.Archive.{nextPage, archiveBytes}
+use Rattle.model.specs.Table.{nodeCount}
 use Rattle.model.specs.Basics.{countTo}
 use Rattle.model.specs.Plan.{begins, markAt, hasMark, pageCount}
+use Rattle.theory.specs.Ranges.{countTo-zero}
+use Rattle.theory.specs.ArchiveBack.{planned-light}
+use Rattle.theory.specs.Judged.{pageCount-le}
 use Rattle.judge.specs.Rows.{slots}
 use Rattle.archive.specs.Put.{Starts}
 use Rattle.archive.specs.Sheets.{pagesUpto, pages-start}
-use Rattle.theory.specs.Judged.{pageCount-le}
 use Rattle.archive.proofs.Turns.{record-length, page-no, page-yes, page-within, pages-pass, pages-next}
 use borrow.Author.Needs.{needs}
 use Rattle.archive.proofs.records.put_pages.Statement.{statement}

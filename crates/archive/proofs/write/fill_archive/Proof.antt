@@ -1,7 +1,7 @@
 -- `archive::write::fill_archive` meets its contract. Assumes nothing.
 use mathlib.Core.Path.{ap, _∙_}
-use Rattle.model.specs.Archive.{archiveBytes}
 use native.Mathlib.Omega.{arith}
+use Rattle.model.specs.Archive.{archiveBytes}
 use Rattle.model.specs.Table.{nodeCount}
 use Rattle.theory.specs.Judged.{pageCount-le}
 use Rattle.archive.specs.Sheets.{pagesUpto, all-put}

@@ -1,8 +1,8 @@
 -- `archive::write::write_archive` meets its contract. Assumes nothing.
-use native.Mathlib.Omega.{arith}
 use mathlib.Core.Path.{_≡_, sym, ap, ap₂, _∙_}
 use mathlib.Core.List.{List}
 use Prim.Native.Nat.{ℕ}
+use native.Mathlib.Omega.{arith}
 use Rattle.model.specs.Table.{nodeCount}
 use Rattle.model.specs.Plan.{pageCount}
 use Rattle.model.specs.Archive.{archiveBytes}
