@@ -1,6 +1,6 @@
 -- Text appended to a buffer at a position. Defines Appended, Filled, lineBytes, reportBytes. Proves that texts append one after the other, and
 -- how long a number is. Assumes nothing.
-use Prim.Native.Nat.{ℕ, zero, suc, _+_, _/_, _%_, _≤_}
+use Prim.Native.Nat.{ℕ, zero, suc, _+_, _*_, _/_, _%_, _≤_}
 use native.Mathlib.Omega.{arith}
 use mathlib.Core.Bool.{Bool, true, false}
 use mathlib.Core.Path.{_≡_, refl, _∙_, ap}
@@ -9,14 +9,16 @@ use lib.ListN.{length, take, length-append}
 use lib.Dec.{ltb}
 use Rattle.model.specs.Basics.{pick}
 use Rattle.theory.specs.Ranges.{pick-true, pick-false}
+use Rattle.archive.specs.Size.{archiveNodes}
 use Rattle.pages.specs.Text.{decimalTo, decimal}
 
--- no line is longer, and so no report: a head line and 1,024 page lines
+-- no line is longer
 abbrev pub lineBytes : ℕ
 lineBytes = 80
 
+-- no report is longer: a head line, and a line for each page that an archive may have
 abbrev pub reportBytes : ℕ
-reportBytes = 82000
+reportBytes = lineBytes * (archiveNodes + 1)
 
 -- what stood in front of the position stands there still, the text follows it, and the new position is at its end
 pub record Appended (out : List ℕ) (at : ℕ) (text left : List ℕ) (end : ℕ) : Type 0 where

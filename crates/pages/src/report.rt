@@ -2,6 +2,8 @@
 use crate::text::head_line;
 use crate::text::page_line;
 use crate::text::refusal_line;
+use archive::size::MOST_BYTES;
+use archive::size::archive_bytes;
 use archive::write::write_archive;
 use judge::pages::lay_plan;
 use planner::plan_best;
@@ -15,12 +17,10 @@ ghost use Rattle.io.specs.Counts.{Counts};
 ghost use Rattle.model.specs.Archive.{pagesIn};
 ghost use Rattle.model.specs.Refusals.{planBest};
 ghost use Rattle.theory.specs.ArchiveBack.{Planned};
+ghost use Rattle.archive.specs.Size.{archiveNodes};
 ghost use Rattle.pages.specs.Text.{planLines, answerLines, reportOf};
 ghost use Rattle.pages.specs.Appended.{Filled, reportBytes};
 ghost use Rattle.pages.specs.Listing.{linesIn};
-
-// The longest archive: 1,024 pages and 1,024 nodes.
-const ARCHIVE_BYTES: usize = 16390;
 
 // As many marks as a word can ask for: N may be anything until it is checked.
 const MARKS: usize = 65535;
@@ -29,7 +29,7 @@ const SCRATCH_WORDS: usize = 10240;
 
 // The lines of the plan that an archive tells.
 fn list_pages(archive: &[u8], out: &mut [u8]) -> usize
-    requires { ⌜ (pagesIn (now archive) ≤ 1024) × (reportBytes ≤ length (now out)) ⌝ }
+    requires { ⌜ (pagesIn (now archive) ≤ archiveNodes) × (reportBytes ≤ length (now out)) ⌝ }
     ensures { λ r. ⌜ Filled (linesIn (now (archive .entry))) (now (out .exit)) r ⌝ }
     ensures { λ r. ⌜ r ≤ reportBytes ⌝ }
 {
@@ -56,10 +56,8 @@ fn list_plan(table: &[u8], marks: &[u8], out: &mut [u8]) -> usize
     ensures { λ r. ⌜ r ≤ reportBytes ⌝ }
 {
     let plan = lay_plan(table, marks);
-    let pages = plan.pages as usize;
-    let nodes = node_count(table) as usize;
-    let size = 6 + 8 * pages + 8 * nodes;
-    let mut archive = [0u8; ARCHIVE_BYTES];
+    let size = archive_bytes(plan.pages, node_count(table)) as usize;
+    let mut archive = [0u8; MOST_BYTES];
     write_archive(table, marks, &mut archive[..size]);
     list_pages(&archive[..size], out)
 }

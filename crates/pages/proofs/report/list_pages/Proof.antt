@@ -4,6 +4,7 @@ use Prim.Native.Nat.{_-_, _≤_}
 use native.Mathlib.Omega.{arith}
 use lib.ListN.{length}
 use Rattle.model.specs.Archive.{pagesIn}
+use Rattle.archive.specs.Size.{archiveNodes}
 use Rattle.pages.specs.Appended.{reportBytes}
 use Rattle.pages.proofs.Listed.{Listed, listed-start, listed-turn, listed-end}
 use borrow.Author.Needs.{needs}
@@ -12,7 +13,7 @@ use Rattle.pages.proofs.report.list_pages.Tie as tie
 
 abbrev Inv-loop : tie.InvT-loop
 Inv-loop archive out₀ pages root limit at₀ p₀ out at p =
-    (pages ≡ pagesIn archive) × (pages ≤ 1024) × (reportBytes ≤ length out₀) × Listed archive out₀ p at out
+    (pages ≡ pagesIn archive) × (pages ≤ archiveNodes) × (reportBytes ≤ length out₀) × Listed archive out₀ p at out
 
 abbrev μ-loop : tie.MeasureT-loop
 μ-loop archive out₀ pages root limit at₀ p₀ out at p = pages - p
