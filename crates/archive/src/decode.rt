@@ -1,22 +1,25 @@
 // What the bytes of an archive tell: the table of the tree and the marks of the plan, decoded in time that goes with the numbers of pages and
 // nodes, whatever the bytes are.
+use crate::fields::node_field;
+use crate::fields::page_field;
+use crate::fields::pages_in;
+use crate::fields::parent_in;
 use crate::onward::link_next;
 use crate::put::put_record;
 use crate::put::put_word;
 use judge::pages::SLOTS;
 use table::words::limit_of;
 use table::words::node_count;
-use table::words::word_at;
 ghost use mathlib.Core.Path.{_≡_};
 ghost use mathlib.Core.Bool.{true};
 ghost use mathlib.Core.List.{List};
-ghost use Prim.Native.Nat.{ℕ, _+_, _-_, _*_, _≤_, _<_};
+ghost use Prim.Native.Nat.{ℕ, _≤_, _<_};
 ghost use lib.Dec.{eqb};
 ghost use lib.ListN.{length, getD, take};
 ghost use Rattle.model.specs.Basics.{pick};
-ghost use Rattle.model.specs.Table.{wordAt, nodeCount, tableBytes};
+ghost use Rattle.model.specs.Table.{nodeCount, tableBytes};
 ghost use Rattle.model.specs.Plan.{begins, hasMark, runLast};
-ghost use Rattle.model.specs.Archive.{pagesIn, pageFieldIn, nodeFieldIn, parentIn, firstIn, tableIn, marksIn};
+ghost use Rattle.model.specs.Archive.{firstIn, tableIn, marksIn};
 ghost use Rattle.model.specs.Refusals.{isArchive};
 ghost use Rattle.theory.specs.Ranges.{Upto};
 ghost use Rattle.judge.specs.Rows.{slots};
@@ -24,43 +27,6 @@ ghost use Rattle.archive.specs.Size.{archiveNodes, longestTable};
 ghost use Rattle.archive.specs.Put.{Starts};
 ghost use Rattle.archive.specs.Decode.{Told, Loaded, fitted, treeUpto};
 ghost use Rattle.archive.specs.Ends.{runEnd, markFor, Guides, MarksRow};
-
-fn pages_in(archive: &[u8]) -> u16
-    ensures { λ r. ⌜ r ≡ pagesIn (now (archive .entry)) ⌝ }
-{
-    word_at(archive, 2)
-}
-
-// Word f of record i, counted from 1, after so many others.
-fn field_after(archive: &[u8], others: u16, i: u16, f: u8) -> u16
-    ensures { λ r. ⌜ r ≡ wordAt (now (archive .entry)) (3 + 4 * others + 4 * (i - 1) + f) ⌝ }
-{
-    let before = if i == 0 { 0 } else { i - 1 };
-    word_at(
-        archive,
-        3 + 4 * (others as u32) + 4 * (before as u32) + (f as u32),
-    )
-}
-
-// Word f of page q's record.
-fn page_field(archive: &[u8], q: u16, f: u8) -> u16
-    ensures { λ r. ⌜ r ≡ pageFieldIn (now (archive .entry)) q f ⌝ }
-{
-    field_after(archive, 0, q, f)
-}
-
-// Word f of node v's record.
-fn node_field(archive: &[u8], v: u16, f: u8) -> u16
-    ensures { λ r. ⌜ r ≡ nodeFieldIn (now (archive .entry)) v f ⌝ }
-{
-    field_after(archive, pages_in(archive), v, f)
-}
-
-fn parent_in(archive: &[u8], v: u16) -> u16
-    ensures { λ r. ⌜ r ≡ parentIn (now (archive .entry)) v ⌝ }
-{
-    node_field(archive, v, 2)
-}
 
 // Node v's first child is the node after it, if that has v for its parent.
 fn first_in(archive: &[u8], v: u16) -> u16

@@ -1,5 +1,6 @@
 // The archive: its writer and its reader. Refusals 12 and 13.
 mod decode;
+pub mod fields;
 pub mod film;
 mod onward;
 mod put;

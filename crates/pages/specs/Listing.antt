@@ -10,7 +10,7 @@ use mathlib.Core.List.{List, _++_, append-assoc}
 use lib.Dec.{eqb}
 use borrow.Author.Tests.{eq-eqb, ne-eqb}
 use Rattle.model.specs.Basics.{listTo}
-use Rattle.model.specs.Table.{wordAt, limitOf, Chain, treeOf}
+use Rattle.model.specs.Table.{limitOf, Chain, treeOf}
 use Rattle.model.specs.Plan.{pageCount, pageWeight, runLast}
 use Rattle.model.specs.Runs.{Run}
 use Rattle.model.specs.Archive.{archiveOf, pagesIn, pageFieldIn}
@@ -53,27 +53,6 @@ lines-more a n =
     rw (add-one n)
     (ap (λ (l : List ℕ). headIn a ++ l) (listTo-suc n (lineIn a))
     ∙ sym (append-assoc (headIn a) (listTo n (lineIn a)) (lineIn a (suc n))))
-
--- the words of page records, by the place where each starts
-pub field-word : (a : List ℕ) (p f i : ℕ) → i ≡ 3 + 4 * p + f → wordAt a i ≡ pageFieldIn a (p + 1) f
-unfolding pageFieldIn
-field-word a p f i e = ap (wordAt a) (omega arith)
-
-pub line-is : (a : List ℕ) (p : ℕ) {first last weight : ℕ} → first ≡ wordAt a (3 + 4 * p) → last ≡ wordAt a (3 + 4 * p + 1)
-    → weight ≡ wordAt a (3 + 4 * p + 2) → pageLine (p + 1) first last weight ≡ lineIn a (p + 1)
-unfolding lineIn
-line-is a p {weight} e f g =
-    ap₂ (λ x y. pageLine (p + 1) x y weight) (e ∙ field-word a p 0 (3 + 4 * p) (omega arith))
-    (f ∙ field-word a p 1 (3 + 4 * p + 1) (omega arith))
-    ∙ ap (pageLine (p + 1) (pageFieldIn a (p + 1) 0) (pageFieldIn a (p + 1) 1)) (g ∙ field-word a p 2 (3 + 4 * p + 2) (omega arith))
-
-pub head-is : (a : List ℕ) {pages root limit : ℕ} → pages ≡ wordAt a 2 → root ≡ wordAt a 5 → limit ≡ limitOf a
-    → headLine pages root limit ≡ linesUpto a 0
-unfolding pagesIn
-head-is a {limit} e f g =
-    ap₂ (λ n w. headLine n w limit) e (f ∙ field-word a 0 2 5 (omega arith))
-    ∙ ap (headLine (pagesIn a) (pageFieldIn a 1 2)) g
-    ∙ sym (lines-start a)
 
 -- the archive of a plan gives the plan's lines
 pub lines-back : {t m : List ℕ} → Planned t m → linesIn (archiveOf t m) ≡ planLines t m

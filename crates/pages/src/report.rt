@@ -2,6 +2,8 @@
 use crate::text::head_line;
 use crate::text::page_line;
 use crate::text::refusal_line;
+use archive::fields::page_field;
+use archive::fields::pages_in;
 use archive::size::MOST_BYTES;
 use archive::size::archive_bytes;
 use archive::write::write_archive;
@@ -9,7 +11,6 @@ use judge::pages::lay_plan;
 use planner::plan_best;
 use table::words::limit_of;
 use table::words::node_count;
-use table::words::word_at;
 ghost use mathlib.Core.Path.{_≡_};
 ghost use Prim.Native.Nat.{_≤_};
 ghost use lib.ListN.{length, take};
@@ -33,17 +34,16 @@ fn list_pages(archive: &[u8], out: &mut [u8]) -> usize
     ensures { λ r. ⌜ Filled (linesIn (now (archive .entry))) (now (out .exit)) r ⌝ }
     ensures { λ r. ⌜ r ≤ reportBytes ⌝ }
 {
-    let pages = word_at(archive, 2);
-    let root = word_at(archive, 5);
+    let pages = pages_in(archive);
+    let root = page_field(archive, 1, 2);
     let limit = limit_of(archive);
     let mut at = head_line(out, 0, pages as u32, root as u32, limit as u32);
     let mut p: u16 = 0;
     while p < pages {
-        let record = 3 + 4 * (p as u32);
         p += 1;
-        let first = word_at(archive, record);
-        let last = word_at(archive, record + 1);
-        let weight = word_at(archive, record + 2);
+        let first = page_field(archive, p, 0);
+        let last = page_field(archive, p, 1);
+        let weight = page_field(archive, p, 2);
         at = page_line(out, at, p as u32, first as u32, last as u32, weight as u32);
     }
     at

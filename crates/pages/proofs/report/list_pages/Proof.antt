@@ -18,11 +18,11 @@ Inv-loop archive out₀ pages root limit at₀ p₀ out at p =
 abbrev μ-loop : tie.MeasureT-loop
 μ-loop archive out₀ pages root limit at₀ p₀ out at p = pages - p
 
-word-at-requires : tie.Need-word-at-requires Inv-loop μ-loop
-word-at-requires c κs = search needs
+pages-in-requires : tie.Need-pages-in-requires Inv-loop μ-loop
+pages-in-requires c κs = search needs
 
-word-at-requires-2 : tie.Need-word-at-requires-2 Inv-loop μ-loop
-word-at-requires-2 c κs = search needs
+page-field-requires : tie.Need-page-field-requires Inv-loop μ-loop
+page-field-requires c κs = search needs
 
 limit-of-requires : tie.Need-limit-of-requires Inv-loop μ-loop
 limit-of-requires c κs = search needs
@@ -40,44 +40,28 @@ head-line-requires : tie.Need-head-line-requires Inv-loop μ-loop
 head-line-requires c κs = search needs
 
 loop-holds : tie.Need-loop-holds Inv-loop μ-loop
-unfolding pagesIn
 loop-holds c =
     let h = c .before .before in
     let l = h .before .before in
     let s = l .before .before .before .before .before in
-    let same : l .before .before .word-at .result ≡ pagesIn (s .args .archive .now) = l .before .before .word-at .ensures in (
-      same,
-      omega (arith, s .pre .0),
+    let count = l .before .before .pages-in .ensures in (
+      count,
+      omega (arith, count, s .pre .0),
       omega (arith, s .pre .1, h .head-line .kept .0),
-      listed-start (s .args .archive .now) (l .before .before .word-at .ensures) (l .before .word-at2 .ensures) (l .limit-of .ensures) (h .head-line .ensures .0) (h .head-line .ensures .1),
+      listed-start (s .args .archive .now) count (l .before .page-field .ensures) (l .limit-of .ensures) (h .head-line .ensures .0) (h .head-line .ensures .1),
     )
-
-cast-record : tie.Need-cast-record Inv-loop μ-loop
-cast-record c = search needs
-
-mul-record : tie.Need-mul-record Inv-loop μ-loop
-mul-record c = search needs
-
-add-record : tie.Need-add-record Inv-loop μ-loop
-add-record c = search needs
 
 add-p : tie.Need-add-p Inv-loop μ-loop
 add-p c = search needs
 
-word-at-requires-3 : tie.Need-word-at-requires-3 Inv-loop μ-loop
-word-at-requires-3 c κs = search needs
+page-field-requires-2 : tie.Need-page-field-requires-2 Inv-loop μ-loop
+page-field-requires-2 c κs = search needs
 
-add-word-at : tie.Need-add-word-at Inv-loop μ-loop
-add-word-at c = search needs
+page-field-requires-3 : tie.Need-page-field-requires-3 Inv-loop μ-loop
+page-field-requires-3 c κs = search needs
 
-word-at-requires-4 : tie.Need-word-at-requires-4 Inv-loop μ-loop
-word-at-requires-4 c κs = search needs
-
-add-word-at-2 : tie.Need-add-word-at-2 Inv-loop μ-loop
-add-word-at-2 c = search needs
-
-word-at-requires-5 : tie.Need-word-at-requires-5 Inv-loop μ-loop
-word-at-requires-5 c κs = search needs
+page-field-requires-4 : tie.Need-page-field-requires-4 Inv-loop μ-loop
+page-field-requires-4 c κs = search needs
 
 cast-page-line : tie.Need-cast-page-line Inv-loop μ-loop
 cast-page-line c = search needs
@@ -109,7 +93,7 @@ loop-again c =
       g .inv .0,
       g .inv .1,
       g .inv .2,
-      listed-turn _ (g .inv .3) (omega (arith, g .inv .0)) (e .before .before .word-at3 .ensures) (e .before .word-at4 .ensures) (e .word-at5 .ensures)
+      listed-turn _ (g .inv .3) (omega (arith, g .inv .0)) (e .before .before .page-field2 .ensures) (e .before .page-field3 .ensures) (e .page-field4 .ensures)
           (w .page-line .ensures .0) (w .page-line .ensures .1) (w .page-line .kept .0),
     )
 
@@ -132,23 +116,18 @@ list-pages-spec =
     (tie.spec
     Inv-loop
     μ-loop
-    word-at-requires
-    word-at-requires-2
+    pages-in-requires
+    page-field-requires
     limit-of-requires
     cast-head-line
     cast-head-line-2
     cast-head-line-3
     head-line-requires
     loop-holds
-    cast-record
-    mul-record
-    add-record
     add-p
-    word-at-requires-3
-    add-word-at
-    word-at-requires-4
-    add-word-at-2
-    word-at-requires-5
+    page-field-requires-2
+    page-field-requires-3
+    page-field-requires-4
     cast-page-line
     cast-page-line-2
     cast-page-line-3

@@ -1,7 +1,6 @@
 -- `pages::report::list_plan` meets its contract. Assumes nothing.
 use mathlib.Core.Path.{_≡_, sym, ap₂, _∙_}
 use Prim.Native.Nat.{ℕ}
-use native.Mathlib.Omega.{arith}
 use lib.ListN.{length, take, replicate}
 use Rattle.model.specs.Table.{nodeCount}
 use Rattle.model.specs.Plan.{pageCount}

@@ -1,8 +1,8 @@
--- `archive::decode::pages_in` meets its contract. Assumes nothing.
+-- `archive::fields::pages_in` meets its contract. Assumes nothing.
 use Rattle.model.specs.Archive.{pagesIn}
 use borrow.Author.Needs.{needs}
-use Rattle.archive.proofs.decode.pages_in.Statement.{statement}
-use Rattle.archive.proofs.decode.pages_in.Tie as tie
+use Rattle.archive.proofs.fields.pages_in.Statement.{statement}
+use Rattle.archive.proofs.fields.pages_in.Tie as tie
 
 word-at-requires : tie.Need-word-at-requires
 word-at-requires c κs = search needs

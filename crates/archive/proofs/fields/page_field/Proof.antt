@@ -1,8 +1,8 @@
--- `archive::decode::page_field` meets its contract. Assumes nothing.
+-- `archive::fields::page_field` meets its contract. Assumes nothing.
 use Rattle.model.specs.Archive.{pageFieldIn}
 use borrow.Author.Needs.{needs}
-use Rattle.archive.proofs.decode.page_field.Statement.{statement}
-use Rattle.archive.proofs.decode.page_field.Tie as tie
+use Rattle.archive.proofs.fields.page_field.Statement.{statement}
+use Rattle.archive.proofs.fields.page_field.Tie as tie
 
 field-after-requires : tie.Need-field-after-requires
 field-after-requires c κs = search needs

@@ -1,12 +1,12 @@
--- `archive::decode::field_after` meets its contract. Assumes nothing.
+-- `archive::fields::field_after` meets its contract. Assumes nothing.
 use mathlib.Core.Logic.{⊎-elim}
 use mathlib.Core.Path.{ap, _∙_}
 use Prim.Native.Nat.{_+_, _*_}
 use native.Mathlib.Omega.{arith}
 use Rattle.model.specs.Table.{wordAt}
 use borrow.Author.Needs.{needs}
-use Rattle.archive.proofs.decode.field_after.Statement.{statement}
-use Rattle.archive.proofs.decode.field_after.Tie as tie
+use Rattle.archive.proofs.fields.field_after.Statement.{statement}
+use Rattle.archive.proofs.fields.field_after.Tie as tie
 
 sub-before : tie.Need-sub-before
 sub-before c = search needs

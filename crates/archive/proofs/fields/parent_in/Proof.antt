@@ -1,8 +1,8 @@
--- `archive::decode::parent_in` meets its contract. Assumes nothing.
+-- `archive::fields::parent_in` meets its contract. Assumes nothing.
 use Rattle.model.specs.Archive.{parentIn}
 use borrow.Author.Needs.{needs}
-use Rattle.archive.proofs.decode.parent_in.Statement.{statement}
-use Rattle.archive.proofs.decode.parent_in.Tie as tie
+use Rattle.archive.proofs.fields.parent_in.Statement.{statement}
+use Rattle.archive.proofs.fields.parent_in.Tie as tie
 
 node-field-requires : tie.Need-node-field-requires
 node-field-requires c κs = search needs

@@ -1,11 +1,11 @@
--- `archive::decode::node_field` meets its contract. Assumes nothing.
+-- `archive::fields::node_field` meets its contract. Assumes nothing.
 use mathlib.Core.Path.{ap, _∙_}
 use Prim.Native.Nat.{_+_, _-_, _*_}
 use Rattle.model.specs.Table.{wordAt}
 use Rattle.model.specs.Archive.{nodeFieldIn}
 use borrow.Author.Needs.{needs}
-use Rattle.archive.proofs.decode.node_field.Statement.{statement}
-use Rattle.archive.proofs.decode.node_field.Tie as tie
+use Rattle.archive.proofs.fields.node_field.Statement.{statement}
+use Rattle.archive.proofs.fields.node_field.Tie as tie
 
 pages-in-requires : tie.Need-pages-in-requires
 pages-in-requires c κs = search needs
