@@ -11,17 +11,16 @@ use lib.Dec.{eqb, ltb}
 use borrow.Author.Tests.{eqb-true, eqb-false, eq-eqb, ne-eqb, lt-ltb, le-ltb}
 use Rattle.model.specs.Basics.{pick, sameList}
 use Rattle.model.specs.Table.{nodeCount, limitOf, tableBytes}
-use Rattle.model.specs.Plan.{begins, hasMark, runLast}
 use Rattle.model.specs.Refusals.{isArchive}
 use Rattle.model.specs.Archive.{parentIn, firstIn, tableIn, marksIn}
-use Rattle.theory.specs.Ranges.{Upto, pick-true, pick-false, bool-cases}
+use Rattle.theory.specs.Ranges.{pick-true, pick-false, bool-cases}
 use Rattle.theory.specs.ArchiveBack.{sameList-self, sameList-true}
 use Rattle.theory.specs.Siblings.{and-true, and-false-left, and-false-right}
 use Rattle.judge.specs.Rows.{slots}
 use Rattle.archive.specs.Put.{putWord, length-putWord, Starts, starts-none, starts-word}
-use Rattle.archive.specs.Onward.{nextWith}
+use Rattle.archive.specs.Onward.{Linked}
 use Rattle.archive.specs.Decode.{Told, told, told-nodes, Loaded, told-links, told-onward, treeUpto, length-treeUpto, tree-start, tree-told}
-use Rattle.archive.specs.Ends.{Guides, MarksRow, marks-told}
+use Rattle.archive.specs.Ends.{Lasts, Guides, MarksRow, marks-told}
 
 module _ (a : List ℕ) (v : ℕ) where
   test : Bool
@@ -61,8 +60,8 @@ tree-begin a l o o₁ o₂ n k e₁ e₂ n-is k-is room =
 
 -- what is decoded of an archive is what it tells
 pub decoded : (a parents links lasts tree plan : List ℕ) (n : ℕ) → n ≡ nodeCount a → Loaded a n parents
-    → Upto n (λ v. getD links v 0 ≡ nextWith (λ u. getD parents u 0) n v (getD parents v 0))
-    → ((t m : List ℕ) → Told a t m → Upto (nodeCount t) (λ v. getD lasts v 0 ≡ pick (hasMark m begins v) (runLast t m v) 0))
+    → Linked parents n links
+    → ((t m : List ℕ) → Told a t m → Lasts t m lasts)
     → Starts tree (treeUpto a links (nodeCount a)) → ((t m : List ℕ) → Guides t m lasts links n → MarksRow m n plan)
     → nodeCount a ≤ length plan → isArchive a ≡ true
     → (take (tableBytes (nodeCount a)) tree ≡ tableIn a) × (take (nodeCount a) plan ≡ marksIn a)
@@ -72,8 +71,8 @@ decoded a parents links lasts tree plan n n-is loaded linked lasts-are put marke
     let t : List ℕ = tableIn a in
     let m : List ℕ = marksIn a in
     let loaded′ : Loaded a (nodeCount a) parents = rw n-is at loaded in
-    let linked′ : Upto (nodeCount a) (λ v. getD links v 0 ≡ nextWith (λ u. getD parents u 0) (nodeCount a) v (getD parents v 0)) =
-    subst (λ k. Upto k (λ v. getD links v 0 ≡ nextWith (λ u. getD parents u 0) k v (getD parents v 0))) n-is linked in
+    let linked′ : Linked parents (nodeCount a) links =
+    subst (λ k. Linked parents k links) n-is linked in
     let size : tableBytes (nodeCount a) ≡ 2 * length (treeUpto a links (nodeCount a)) = omega (arith, length-treeUpto a links (nodeCount a)) in
     let same : nodeCount a ≡ nodeCount t = told-nodes w in
     let guides : Guides t m lasts links n =

@@ -16,12 +16,12 @@ use Rattle.theory.specs.JudgePages.{pageOf-le}
 use Rattle.theory.specs.Links.{next-later, next-le}
 use Rattle.theory.specs.Siblings.{and-true}
 use Rattle.theory.specs.RunMarks.{runLast-on, runLast-stop}
-use Rattle.theory.specs.Ranges.{Upto, countTo-yes, countTo-no}
+use Rattle.theory.specs.Ranges.{countTo-yes, countTo-no}
 use Rattle.theory.specs.Chosen.{countTo-mono}
 use native.Mathlib.Numerals.{add-one}
-use Rattle.judge.specs.Rows.{slots}
+use Rattle.judge.specs.Rows.{Row}
 use Rattle.archive.specs.Put.{putWord, length-putWord, putRecord, length-putRecord, Starts, starts-none, starts-word, starts-record}
-use Rattle.archive.specs.Onward.{nextWith, nextWith-cong}
+use Rattle.archive.specs.Onward.{nextWith, Linked, Fit, nextWith-cong}
 use Rattle.archive.specs.Sheets.{headWords, pagesUpto, length-pagesUpto, pages-no, pages-yes, NodesPut, nodes-turn}
 
 -- ---- Along a run
@@ -122,9 +122,9 @@ unfolding pageCount
 all-pages-length t m = length-pagesUpto t m (nodeCount t)
 
 -- the next node of the same page, from the pages of the nodes
-pub onward-is : (t m page onward : List ℕ) (n : ℕ) → n ≡ nodeCount t → Upto (nodeCount t) (λ v. getD page v 0 ≡ pageOf t m v)
-    → Upto n (λ v. getD onward v 0 ≡ nextWith (λ u. getD page u 0) n v (getD page v 0))
-    → Upto (nodeCount t) (λ v. getD onward v 0 ≡ nextOnPage t m v)
+pub onward-is : (t m page onward : List ℕ) (n : ℕ) → n ≡ nodeCount t → Row (nodeCount t) (pageOf t m) page
+    → Linked page n onward
+    → Row (nodeCount t) (nextOnPage t m) onward
 unfolding nextWith nextOnPage
 onward-is t m page onward n n-is row h v low high =
     h v low (omega arith)
@@ -132,6 +132,6 @@ onward-is t m page onward n n-is row h v low high =
     ∙ nextWith-cong (λ u. getD page u 0) (pageOf t m) (nodeCount t) v (getD page v 0) row
     ∙ ap (nextWith (pageOf t m) (nodeCount t) v) (row v low high)
 
-pub page-fits : {t : List ℕ} → AcceptedFacts t → (m page : List ℕ) → Upto (nodeCount t) (λ v. getD page v 0 ≡ pageOf t m v)
-    → Upto (nodeCount t) (λ v. getD page v 0 < slots)
+pub page-fits : {t : List ℕ} → AcceptedFacts t → (m page : List ℕ) → Row (nodeCount t) (pageOf t m) page
+    → Fit (nodeCount t) page
 page-fits {t} a m page row v low high = omega (arith, row v low high, pageOf-le t m v, a .sound .count-high)

@@ -22,7 +22,7 @@ use Rattle.theory.specs.ArchiveWords.{Page, length-fours, archive-nodes, archiv
 use Rattle.theory.specs.ArchiveBack.{Planned, feasible-planned, read-write, archive-next}
 use Rattle.judge.specs.Rows.{slots}
 use Rattle.archive.specs.Put.{putRecord, Starts, starts-record}
-use Rattle.archive.specs.Onward.{nextWith, nextWith-cong}
+use Rattle.archive.specs.Onward.{nextWith, Linked, nextWith-cong}
 
 -- an archive, and the tree and the plan that write it
 pub record Told (a t m : List ℕ) : Type 0 where
@@ -39,13 +39,13 @@ module _ {a t m : List ℕ} (w : Told a t m) where
   pub told-pages : pagesIn a ≡ pageCount t m
   told-pages = ap pagesIn (sym (w .same)) ∙ archive-pages t m
 
-  pub told-parent : (v : ℕ) → 1 ≤ v → v ≤ nodeCount t → parentIn a v ≡ parentAt t v
+  told-parent : (v : ℕ) → 1 ≤ v → v ≤ nodeCount t → parentIn a v ≡ parentAt t v
   told-parent v low high = ap (λ x. parentIn x v) (sym (w .same)) ∙ archive-parent t m v low high
 
-  pub told-small : (v : ℕ) → 1 ≤ v → v ≤ nodeCount t → parentIn a v < slots
+  told-small : (v : ℕ) → 1 ≤ v → v ≤ nodeCount t → parentIn a v < slots
   told-small v low high = omega (arith, told-parent v low high, parentAt-less t v low, w .plan .tree .sound .count-high)
 
-  pub told-next : (v : ℕ) → 1 ≤ v → v ≤ nodeCount t → nextIn a v ≡ nextAt t v
+  told-next : (v : ℕ) → 1 ≤ v → v ≤ nodeCount t → nextIn a v ≡ nextAt t v
   told-next v low high = ap (λ x. nextIn x v) (sym (w .same)) ∙ archive-next (w .plan) v low high
 
   pub told-first : (q b : ℕ) → 1 ≤ q → q ≤ pageCount t m → Page t m q b → pageFieldIn a q 0 ≡ b
@@ -104,8 +104,7 @@ loaded-turn a l v x h long less e u low high = go (eqb u (v + 1)) refl
         (omega (arith, old, r .0), λ k. old ∙ r .1 k)
 
 -- the links of the parents of an archive are its siblings
-pub told-links : {a t m : List ℕ} → Told a t m → (parents links : List ℕ) → Loaded a (nodeCount a) parents
-    → Upto (nodeCount a) (λ v. getD links v 0 ≡ nextWith (λ u. getD parents u 0) (nodeCount a) v (getD parents v 0))
+pub told-links : {a t m : List ℕ} → Told a t m → (parents links : List ℕ) → Loaded a (nodeCount a) parents → Linked parents (nodeCount a) links
     → (v : ℕ) → 1 ≤ v → v ≤ nodeCount a → pick (eqb v 1) 0 (getD links v 0) ≡ nextIn a v
 unfolding nextIn nextWith
 told-links {a} {t} {m} w parents links loaded linked v low high =
@@ -118,8 +117,7 @@ told-links {a} {t} {m} w parents links loaded linked v low high =
     is u one le = loaded u one le .1 (told-small w u one (omega (arith, told-nodes w)))
 
 -- for the marks: the link of node 1 is 0 too
-pub told-onward : {a t m : List ℕ} → Told a t m → (parents links : List ℕ) → Loaded a (nodeCount a) parents
-    → Upto (nodeCount a) (λ v. getD links v 0 ≡ nextWith (λ u. getD parents u 0) (nodeCount a) v (getD parents v 0))
+pub told-onward : {a t m : List ℕ} → Told a t m → (parents links : List ℕ) → Loaded a (nodeCount a) parents → Linked parents (nodeCount a) links
     → (v : ℕ) → 1 ≤ v → v ≤ nodeCount a → pick (eqb v 1) 0 (getD links v 0) ≡ nextAt t v
 told-onward w parents links loaded linked v low high =
     told-links w parents links loaded linked v low high ∙ told-next w v low (omega (arith, told-nodes w))

@@ -1,6 +1,6 @@
 -- The marks of a plan from its page records: the last of each run at its first node, carried from sibling to sibling. A node is in
 -- the run of the sibling before it where that run goes so far.
--- Defines endOf, dueAt, lastAt, runEnd, markFor. Assumes nothing.
+-- Defines endOf, dueAt, lastAt, runEnd, markFor, Lasts, Guides. Assumes nothing.
 use Prim.Native.Nat.{ℕ, zero, suc, _+_, _-_, _≤_, _<_}
 use native.Mathlib.Omega.{arith}
 use mathlib.Core.Bool.{Bool, true, false, _&&_, _||_}
@@ -24,7 +24,7 @@ use Rattle.theory.specs.RunMarks.{good-marks, runLast-on, runLast-stop, runLast
 use Rattle.theory.specs.ArchiveWords.{Page, page-first}
 use Rattle.theory.specs.ArchiveBack.{Planned}
 use Rattle.theory.specs.Judged.{pageCount-le}
-use Rattle.judge.specs.Rows.{slots}
+use Rattle.judge.specs.Rows.{slots, Row}
 use Rattle.archive.specs.Decode.{Told, told-pages, told-first, told-last, fitted, fitted-same, fitted-le}
 
 -- the last of the run that node u is in, or 0 where it is in none
@@ -70,7 +70,7 @@ module _ (t m : List ℕ) where
   abbrev pub DueRow : ℕ → List ℕ → Type 0
   DueRow v l = (w : ℕ) → v < w → w ≤ nodeCount t → getD l w 0 ≡ dueAt t m v w
 
-  pub due-start : (l : List ℕ) → ((k : ℕ) → k < slots → getD l k 0 ≡ 0) → nodeCount t ≤ maxNodes → DueRow 0 l
+  due-start : (l : List ℕ) → ((k : ℕ) → k < slots → getD l k 0 ≡ 0) → nodeCount t ≤ maxNodes → DueRow 0 l
   unfolding dueAt
   due-start l h few w less high = h w (omega arith) ∙ sym (go (leb (prevAt t w) 0) refl)
     where
@@ -80,14 +80,14 @@ module _ (t m : List ℕ) where
           pick-true (leb (prevAt t w) 0) (endOf t m (prevAt t w)) 0 e ∙ ap (endOf t m) z ∙ endOf-none
       go false e = pick-false (leb (prevAt t w) 0) (endOf t m (prevAt t w)) 0 e
 
-  pub due-here : (l : List ℕ) (v : ℕ) → DueRow v l → v < nodeCount t → getD l (v + 1) 0 ≡ endOf t m (prevAt t (v + 1))
+  due-here : (l : List ℕ) (v : ℕ) → DueRow v l → v < nodeCount t → getD l (v + 1) 0 ≡ endOf t m (prevAt t (v + 1))
   unfolding dueAt
   due-here l v h less =
       h (v + 1) (omega arith) (omega arith)
       ∙ pick-true (leb (prevAt t (v + 1)) v) (endOf t m (prevAt t (v + 1))) 0
       (le-leb (prevAt t (v + 1)) v (omega (arith, prevAt-less t (v + 1) (omega arith))))
 
-  pub due-turn : SoundFacts t → (l : List ℕ) (v x end : ℕ) → DueRow v l → length l ≡ slots → v < nodeCount t → nodeCount t ≤ maxNodes
+  due-turn : SoundFacts t → (l : List ℕ) (v x end : ℕ) → DueRow v l → length l ≡ slots → v < nodeCount t → nodeCount t ≤ maxNodes
       → x ≡ nextAt t (v + 1) → end ≡ endOf t m (v + 1) → DueRow (v + 1) (set l x end)
   unfolding dueAt
   due-turn s l v x end h long less few e q w later high = go (eqb w x) refl
@@ -174,7 +174,7 @@ module _ {t m : List ℕ} (p : Planned t m) (v last due : ℕ) (low : 1 ≤ v) (
       go (suc (suc zero)) e h = c e
       go (suc (suc (suc k))) e h = absurd (omega arith)
 
-  pub end-is : runEnd v last due ≡ endOf t m v
+  end-is : runEnd v last due ≡ endOf t m v
   unfolding runEnd
   end-is =
       by-mark
@@ -210,8 +210,12 @@ module _ {t m : List ℕ} (p : Planned t m) (v last due : ℕ) (low : 1 ≤ v) (
 
 -- ---- The last of each run, at its first node
 
+-- by node, the last of the run that it begins, or 0: of the pages 1 to q, and of all
 abbrev pub LastRow : List ℕ → List ℕ → ℕ → List ℕ → Type 0
-LastRow t m q l = Upto (nodeCount t) (λ v. getD l v 0 ≡ lastAt t m q v)
+LastRow t m q l = Row (nodeCount t) (lastAt t m q) l
+
+abbrev pub Lasts : List ℕ → List ℕ → List ℕ → Type 0
+Lasts t m l = Row (nodeCount t) (λ v. pick (hasMark m begins v) (runLast t m v) 0) l
 
 module _ {a t m : List ℕ} (w : Told a t m) where
   pub last-start : (l : List ℕ) → ((k : ℕ) → k < slots → getD l k 0 ≡ 0) → LastRow t m 0 l
@@ -225,7 +229,7 @@ module _ {a t m : List ℕ} (w : Told a t m) where
           (lt-leb (countTo v (hasMark m begins)) 0 (omega (arith, countTo-pass (hasMark m begins) v low e 0 low)))
       go false e = and-false-left (hasMark m begins v) (leb (countTo v (hasMark m begins)) 0) e
 
-  pub last-turn : (l : List ℕ) (q first last : ℕ) → LastRow t m q l → length l ≡ slots → q < pageCount t m
+  last-turn : (l : List ℕ) (q first last : ℕ) → LastRow t m q l → length l ≡ slots → q < pageCount t m
       → first ≡ pageFieldIn a (q + 1) 0 → last ≡ pageFieldIn a (q + 1) 1 → LastRow t m (q + 1) (set l first last)
   unfolding lastAt
   last-turn l q first last h long less f g = on (page-first t m (q + 1) (omega arith) (omega arith))
@@ -285,8 +289,7 @@ module _ {a t m : List ℕ} (w : Told a t m) where
               ∙ h v low high
               ∙ ap (λ y. pick y (runLast t m v) 0) (same-test (λ k. other (k ∙ sym here)) (hasMark m begins v) refl)
 
-  pub last-end : (l : List ℕ) (q : ℕ) → LastRow t m q l → pageCount t m ≤ q
-      → Upto (nodeCount t) (λ v. getD l v 0 ≡ pick (hasMark m begins v) (runLast t m v) 0)
+  last-end : (l : List ℕ) (q : ℕ) → LastRow t m q l → pageCount t m ≤ q → Lasts t m l
   unfolding lastAt pageCount
   last-end l q h all v low high = h v low high ∙ ap (λ y. pick y (runLast t m v) 0) (go (hasMark m begins v) refl)
     where
@@ -316,7 +319,7 @@ marks-told t m l long room h =
 pub record Guides (t m lasts links : List ℕ) (nodes : ℕ) : Type 0 where
   pub plan : Planned t m
   pub count : nodes ≡ nodeCount t
-  pub lasts-are : Upto (nodeCount t) (λ v. getD lasts v 0 ≡ pick (hasMark m begins v) (runLast t m v) 0)
+  pub lasts-are : Lasts t m lasts
   pub links-are : Upto (nodeCount t) (λ v. pick (eqb v 1) 0 (getD links v 0) ≡ nextAt t v)
 
 -- the marks of the nodes 1 to v
@@ -376,7 +379,7 @@ lasts-turn a l q first last pages h long less e f g t m w =
     last-turn w l q first last (h t m w) long within (f ∙ fitted-same (pageFieldIn a (q + 1) 0) small) g
 
 pub lasts-end : (a l : List ℕ) (q pages : ℕ) → LastsPass a q l → pages ≤ q → pages ≡ fitted (pagesIn a) → (t m : List ℕ) → Told a t m
-    → Upto (nodeCount t) (λ v. getD l v 0 ≡ pick (hasMark m begins v) (runLast t m v) 0)
+    → Lasts t m l
 lasts-end a l q pages h all e t m w =
     last-end w l q (h t m w)
     (omega (

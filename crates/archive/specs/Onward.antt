@@ -1,4 +1,4 @@
--- The next number with a key, and the pass from n down to 1 that finds it. Defines nextWith, Seen, LinkedFrom. Assumes nothing.
+-- The next number with a key, and the pass from n down to 1 that finds it. Defines nextWith, Linked, Fit, Seen, LinkedFrom. Assumes nothing.
 use Prim.Native.Nat.{ℕ, _-_, _≤_, _<_}
 use native.Mathlib.Omega.{arith}
 use mathlib.Core.Bool.{Bool, true, false, _&&_}
@@ -12,7 +12,7 @@ use borrow.Author.Tests.{eqb-true, eqb-false, eq-eqb, ne-eqb, lt-ltb, le-ltb}
 use Rattle.model.specs.Basics.{atPlace, firstTo}
 use Rattle.theory.specs.Ranges.{Upto, atPlace-at, atPlace-nowhere, place-cases, firstTo-none, firstTo-first, firstTo-cong, firstTo-at}
 use Rattle.theory.specs.Siblings.{and-true, and-false-left, and-false-right, order-cases}
-use Rattle.judge.specs.Rows.{slots}
+use Rattle.judge.specs.Rows.{slots, Row}
 use Rattle.model.specs.declared.Place.{Place}
 use Rattle.model.specs.declared.Place.the-variants.{At, Nowhere}
 
@@ -20,14 +20,22 @@ use Rattle.model.specs.declared.Place.the-variants.{At, Nowhere}
 unfoldable pub nextWith : (ℕ → ℕ) → ℕ → ℕ → ℕ → ℕ
 nextWith f n v k = atPlace (firstTo n (λ u. ltb v u && eqb (f u) k)) (λ u. u) 0
 
+-- the links of the numbers 1 to n: to the next with the same key
+abbrev pub Linked : List ℕ → ℕ → List ℕ → Type 0
+Linked keys n links = Row n (λ v. nextWith (λ u. getD keys u 0) n v (getD keys v 0)) links
+
+-- those of 1 to n are places of the arrays
+abbrev pub Fit : ℕ → List ℕ → Type 0
+Fit n l = Upto n (λ v. getD l v 0 < slots)
+
 module _ (f : ℕ → ℕ) (n : ℕ) where
-  pub nextWith-none : (k : ℕ) → nextWith f n n k ≡ 0
+  nextWith-none : (k : ℕ) → nextWith f n n k ≡ 0
   unfolding nextWith
   nextWith-none k =
       atPlace-nowhere (firstTo n (λ u. ltb n u && eqb (f u) k)) (λ u. u) 0
       (firstTo-none n (λ u. ltb n u && eqb (f u) k) (λ u low high. and-false-left (ltb n u) (eqb (f u) k) (le-ltb n u high)))
 
-  pub nextWith-here : (v : ℕ) → 1 ≤ v → v ≤ n → nextWith f n (v - 1) (f v) ≡ v
+  nextWith-here : (v : ℕ) → 1 ≤ v → v ≤ n → nextWith f n (v - 1) (f v) ≡ v
   unfolding nextWith
   nextWith-here v low high =
       atPlace-at (firstTo n (λ u. ltb (v - 1) u && eqb (f u) (f v))) v (λ u. u) 0
@@ -39,7 +47,7 @@ module _ (f : ℕ → ℕ) (n : ℕ) where
         before = λ u a b. and-false-left (ltb (v - 1) u) (eqb (f u) (f v)) (le-ltb (v - 1) u (omega arith));
       }))
 
-  pub nextWith-skip : (v k : ℕ) → 1 ≤ v → (f v ≡ k → ⊥) → nextWith f n (v - 1) k ≡ nextWith f n v k
+  nextWith-skip : (v k : ℕ) → 1 ≤ v → (f v ≡ k → ⊥) → nextWith f n (v - 1) k ≡ nextWith f n v k
   unfolding nextWith
   nextWith-skip v k low other =
       ap (λ (o : Place). atPlace o (λ u. u) 0)

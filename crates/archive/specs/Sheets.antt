@@ -1,5 +1,5 @@
 -- The words of an archive as the writer puts them: the head, the page records of the runs begun up to a node, and the node records.
--- Defines headWords, runsUpto, pagesUpto, nodeRow, Room. Assumes nothing.
+-- Defines headWords, runsUpto, pagesUpto, nodeRow, NodesPut. Proves all-put: these words are the archive. Assumes nothing.
 use Prim.Native.Nat.{ℕ, suc, _+_, _-_, _*_, _≤_}
 use native.Mathlib.Omega.{arith}
 use native.Mathlib.Numerals.{add-one}
@@ -15,6 +15,7 @@ use Rattle.model.specs.Archive.{nextPage, pageRecords, nextOnPage, nodeRecord, 
 use Rattle.theory.specs.Ranges.{Upto, listTo-zero, listTo-suc, listTo-cong, append-nil}
 use Rattle.theory.specs.Chosen.{chosen, chosen-yes, chosen-no, length-chosen}
 use Rattle.theory.specs.ArchiveWords.{pageRow, length-pageRecords, pageRecords-snoc, length-fours}
+use Rattle.judge.specs.Rows.{Row}
 use Rattle.archive.specs.Put.{putRecord, Starts, starts-record, starts-all}
 
 unfoldable pub headWords : List ℕ → List ℕ → List ℕ
@@ -114,8 +115,8 @@ module _ (t p o : List ℕ) where
       rw (more, ← append-assoc ws (listTo v (nodeRow t p o)) (nodeRow t p o (v + 1))) s
 
 -- all words: the archive
-pub all-put : (t m p o out : List ℕ) → Upto (nodeCount t) (λ v. getD p v 0 ≡ parentAt t v)
-    → Upto (nodeCount t) (λ v. getD o v 0 ≡ nextOnPage t m v) → length out ≡ archiveBytes (pageCount t m) (nodeCount t)
+pub all-put : (t m p o out : List ℕ) → Row (nodeCount t) (parentAt t) p
+    → Row (nodeCount t) (nextOnPage t m) o → length out ≡ archiveBytes (pageCount t m) (nodeCount t)
     → Starts out (pagesUpto t m (nodeCount t) ++ listTo (nodeCount t) (nodeRow t p o)) → out ≡ archiveOf t m
 unfolding archiveOf pagesUpto headWords runsOf
 all-put t m p o out parents onward long h =

@@ -1,5 +1,5 @@
-// What the bytes of an archive tell: the table of the tree and the marks of the plan, decoded in time that goes with the numbers of pages and
-// nodes, whatever the bytes are.
+// The tree and the plan that an archive tells, as a table and marks. The bytes may be anything: a number that is no place of an array is
+// taken for 0, and the time is in proportion to pages and nodes.
 use crate::fields::node_field;
 use crate::fields::page_field;
 use crate::fields::pages_in;
@@ -15,18 +15,17 @@ ghost use mathlib.Core.Bool.{true};
 ghost use mathlib.Core.List.{List};
 ghost use Prim.Native.Nat.{ℕ, _≤_, _<_};
 ghost use lib.Dec.{eqb};
-ghost use lib.ListN.{length, getD, take};
+ghost use lib.ListN.{length, take};
 ghost use Rattle.model.specs.Basics.{pick};
 ghost use Rattle.model.specs.Table.{nodeCount, tableBytes};
-ghost use Rattle.model.specs.Plan.{begins, hasMark, runLast};
 ghost use Rattle.model.specs.Archive.{firstIn, tableIn, marksIn};
 ghost use Rattle.model.specs.Refusals.{isArchive};
-ghost use Rattle.theory.specs.Ranges.{Upto};
 ghost use Rattle.judge.specs.Rows.{slots};
 ghost use Rattle.archive.specs.Size.{archiveNodes, longestTable};
 ghost use Rattle.archive.specs.Put.{Starts};
+ghost use Rattle.archive.specs.Onward.{Fit};
 ghost use Rattle.archive.specs.Decode.{Told, Loaded, fitted, treeUpto};
-ghost use Rattle.archive.specs.Ends.{runEnd, markFor, Guides, MarksRow};
+ghost use Rattle.archive.specs.Ends.{runEnd, markFor, Lasts, Guides, MarksRow};
 
 // Node v's first child is the node after it, if that has v for its parent.
 fn first_in(archive: &[u8], v: u16) -> u16
@@ -73,7 +72,7 @@ fn load_parents(archive: &[u8], nodes: u16) -> [u16; SLOTS]
 
 // For each node that begins a run, the last of the run, and 0 for the others.
 fn load_lasts(archive: &[u8]) -> [u16; SLOTS]
-    ensures { λ r. ⌜ ((t m : List ℕ) → Told (now (archive .entry)) t m → Upto (nodeCount t) (λ v. getD r v 0 ≡ pick (hasMark m begins v) (runLast t m v) 0)) ⌝ }
+    ensures { λ r. ⌜ ((t m : List ℕ) → Told (now (archive .entry)) t m → Lasts t m r) ⌝ }
 {
     let pages = fit(pages_in(archive));
     let mut lasts = [0u16; SLOTS];
@@ -87,7 +86,7 @@ fn load_lasts(archive: &[u8]) -> [u16; SLOTS]
     lasts
 }
 
-// The table of the tree.
+// The table of the tree, with these links to the next sibling.
 fn fill_tree(archive: &[u8], links: &[u16; SLOTS], tree: &mut [u8])
     requires { ⌜ (nodeCount (now archive) ≤ archiveNodes) × (length (now tree) ≡ longestTable) ⌝ }
     ensures { λ r. ⌜ Starts (now (tree .exit)) (treeUpto (now (archive .entry)) (now (links .entry)) (nodeCount (now (archive .entry)))) ⌝ }
@@ -117,6 +116,7 @@ fn run_end(v: u16, last: u16, due: u16) -> u16
     if v <= due { due } else { 0 }
 }
 
+// The mark of a node by the last of the run that it begins, and the last of the run that it is in.
 fn mark_for(last: u16, end: u16) -> u8
     ensures { λ r. ⌜ r ≡ markFor last end ⌝ }
 {
@@ -126,9 +126,9 @@ fn mark_for(last: u16, end: u16) -> u8
     if end == 0 { 0 } else { 2 }
 }
 
-// The marks of the plan.
+// The marks of the plan. A node's due is the last of the run that the sibling before it is in.
 fn fill_marks(nodes: u16, lasts: &[u16; SLOTS], links: &[u16; SLOTS], plan: &mut [u8])
-    requires { ⌜ (nodes ≤ archiveNodes) × Upto nodes (λ v. getD (now links) v 0 < slots) × (length (now plan) ≡ archiveNodes) ⌝ }
+    requires { ⌜ (nodes ≤ archiveNodes) × Fit nodes (now links) × (length (now plan) ≡ archiveNodes) ⌝ }
     ensures { λ r. ⌜ ((t m : List ℕ) → Guides t m (now (lasts .entry)) (now (links .entry)) nodes → MarksRow m nodes (now (plan .exit))) ⌝ }
 {
     let mut due = [0u16; SLOTS];

@@ -1,4 +1,4 @@
-// The archive: its writer and its reader. Refusals 12 and 13.
+// The archive: its writer and its reader, and the entries in turn. Refusals 12 and 13.
 mod decode;
 pub mod fields;
 pub mod film;

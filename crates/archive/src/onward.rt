@@ -1,15 +1,13 @@
-// The next of the numbers with the same key, by a pass from the last to the first that keeps the last one seen of each key.
+// The next number with the same key, for each number: the next node of the same page, and the next node with the same parent. One pass
+// from the last number to the first keeps the last one seen of each key.
 use judge::pages::SLOTS;
-ghost use mathlib.Core.Path.{_≡_};
 ghost use Prim.Native.Nat.{_<_};
-ghost use lib.ListN.{getD};
-ghost use Rattle.theory.specs.Ranges.{Upto};
 ghost use Rattle.judge.specs.Rows.{slots};
-ghost use Rattle.archive.specs.Onward.{nextWith};
+ghost use Rattle.archive.specs.Onward.{Linked, Fit};
 
 pub fn link_next(keys: &[u16; SLOTS], nodes: u16) -> [u16; SLOTS]
-    requires { ⌜ (nodes < slots) × Upto nodes (λ v. getD (now keys) v 0 < slots) ⌝ }
-    ensures { λ r. ⌜ Upto nodes (λ v. getD r v 0 ≡ nextWith (λ u. getD (now (keys .entry)) u 0) nodes v (getD (now (keys .entry)) v 0)) ⌝ }
+    requires { ⌜ (nodes < slots) × Fit nodes (now keys) ⌝ }
+    ensures { λ r. ⌜ Linked (now (keys .entry)) nodes r ⌝ }
 {
     let mut seen = [0u16; SLOTS];
     let mut next = [0u16; SLOTS];

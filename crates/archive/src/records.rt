@@ -1,4 +1,4 @@
-// The page records and the node records, put one after the other.
+// The page records and the node records of an archive, put into an output of its length.
 use crate::put::put_record;
 use judge::marks::mark_at;
 use judge::pages::SLOTS;
@@ -10,14 +10,13 @@ ghost use mathlib.Core.Path.{_≡_};
 ghost use mathlib.Core.Bool.{_&&_, not};
 ghost use Prim.Native.Nat.{_≤_, _<_};
 ghost use lib.Dec.{eqb};
-ghost use lib.ListN.{length, getD};
+ghost use lib.ListN.{length};
 ghost use Rattle.model.specs.Table.{nodeCount};
 ghost use Rattle.model.specs.Plan.{hasMark, continues, runLast, pageCount, pageWeight};
 ghost use Rattle.model.specs.Archive.{nextPage, archiveBytes};
-ghost use Rattle.theory.specs.Ranges.{Upto};
 ghost use Rattle.theory.specs.Sound.{SoundFacts};
 ghost use Rattle.theory.specs.ArchiveBack.{Planned};
-ghost use Rattle.judge.specs.Rows.{slots};
+ghost use Rattle.judge.specs.Rows.{slots, Row};
 ghost use Rattle.archive.specs.Put.{Starts};
 ghost use Rattle.archive.specs.Sheets.{headWords, pagesUpto, NodesPut};
 
@@ -53,7 +52,7 @@ fn page_after(p: u16, pages: u16) -> u16
 // The page records, after the head.
 pub fn put_pages(table: &[u8], marks: &[u8], weights: &[u32; SLOTS], pages: u16, out: &mut [u8])
     requires { ⌜ Planned (now table) (now marks) × (pages ≡ pageCount (now table) (now marks))
-        × Upto pages (λ q. getD (now weights) q 0 ≡ pageWeight (now table) (now marks) q)
+        × Row pages (pageWeight (now table) (now marks)) (now weights)
         × (length (now out) ≡ archiveBytes pages (nodeCount (now table)))
         × Starts (now out) (headWords (now table) (now marks)) ⌝ }
     ensures { λ r. ⌜ Starts (now (out .exit)) (pagesUpto (now (table .entry)) (now (marks .entry)) (nodeCount (now (table .entry)))) ⌝ }

@@ -1,4 +1,4 @@
-// The archive's writer.
+// The archive's writer. It judges the plan, lays it on pages, and puts head, page records and node records.
 use crate::onward::link_next;
 use crate::put::put_word;
 use crate::records::put_nodes;

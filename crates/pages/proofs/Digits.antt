@@ -52,7 +52,7 @@ digits-decimal (suc f) n (suc (suc j)) fits few =
 
 -- what the kit put at the start of its array
 module _ (n k : ℕ) (out : List ℕ) (low : n < 4294967296) (few : Fewest 10 1 n k) (is : take k out ≡ digits 10 k n) where
-  pub number-text : take k out ≡ decimal n
+  number-text : take k out ≡ decimal n
   unfolding decimal
   number-text = is ∙ digits-decimal 9 n k (omega arith) few
 

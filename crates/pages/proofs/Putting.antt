@@ -5,13 +5,10 @@ use native.Mathlib.Numerals.{add-one}
 use mathlib.Core.Path.{_≡_, _∙_, ap}
 use mathlib.Core.List.{List, _++_}
 use lib.ListN.{length, take, getD, set}
-use lib.Seq.{paste, paste-suc, length-paste, take-paste, take-all}
+use lib.Seq.{paste, paste-suc, take-paste, take-all}
 use Rattle.pages.specs.Appended.{Appended}
 
 module _ (out text : List ℕ) (at : ℕ) (room : at + length text ≤ length out) where
-  pub text-long : (i : ℕ) → i ≤ length text → length (paste out at text i) ≡ length out
-  text-long i high = length-paste out at text i (omega arith) high
-
   pub text-turn : (i : ℕ) → i < length text → set (paste out at text i) (at + i) (getD text i 0) ≡ paste out at text (i + 1)
   text-turn i less = rw (add-one i) (paste-suc out at text i 0 (omega arith) less)
 

@@ -1,11 +1,9 @@
 -- The lines of a plan, read off its archive; and that a planner's acceptance leaves a feasible plan.
 -- Defines lineIn, headIn, linesUpto, linesIn. Proves lines-back, made-planned. Assumes nothing.
-use Prim.Native.Nat.{ℕ, suc, _+_, _-_, _*_, _≤_}
+use Prim.Native.Nat.{ℕ, suc, _+_, _-_, _≤_}
 use native.Mathlib.Omega.{arith}
 use native.Mathlib.Numerals.{add-one}
-use mathlib.Core.Bool.{true, false, true≢false}
 use mathlib.Core.Path.{_≡_, sym, _∙_, ap, ap₂}
-use mathlib.Core.Logic.{_⊎_, inl, inr}
 use mathlib.Core.List.{List, _++_, append-assoc}
 use lib.Dec.{eqb}
 use borrow.Author.Tests.{eq-eqb, ne-eqb}
@@ -14,13 +12,11 @@ use Rattle.model.specs.Table.{limitOf, Chain, treeOf}
 use Rattle.model.specs.Plan.{pageCount, pageWeight, runLast}
 use Rattle.model.specs.Runs.{Run}
 use Rattle.model.specs.Archive.{archiveOf, pagesIn, pageFieldIn}
-use Rattle.model.specs.Refusals.{shortTable, badCount, badLimit, badLength, noWeight, badWalk, heavyNode, badMarks, shortScratch, formChecks, treeChecks, planChecks, passes, Planned as Left, planned}
+use Rattle.model.specs.Refusals.{Planned as Left, planned}
 use Rattle.model.specs.declared.Answer.{Answer}
-use Rattle.model.specs.declared.Verdict.the-variants.{NotJudged}
-use Rattle.theory.specs.Ranges.{Upto, pick-true, pick-false, bool-cases, listTo-zero, listTo-suc, listTo-cong, append-nil}
-use Rattle.theory.specs.Checks.{HasNumbers, accepted-pass}
+use Rattle.theory.specs.Ranges.{Upto, pick-true, pick-false, listTo-zero, listTo-suc, listTo-cong, append-nil}
 use Rattle.theory.specs.Pages.{pages-low}
-use Rattle.theory.specs.Promise.{planned-made, planned-judged, planned-refused}
+use Rattle.theory.specs.Promise.{plan-passes, planned-made, planned-judged}
 use Rattle.theory.specs.ArchiveWords.{Page, page-first, getD-runsOf, archive-pages, archive-limit, archive-page}
 use Rattle.theory.specs.ArchiveBack.{Planned, feasible-planned}
 use Rattle.theory.specs.ArchiveAnswers.{judge-feasible}
@@ -59,7 +55,7 @@ pub lines-back : {t m : List ℕ} → Planned t m → linesIn (archiveOf t m) �
 unfolding linesIn linesUpto lineIn planLines
 lines-back {t} {m} p =
     ap₂ (λ (h l : List ℕ). h ++ l) head
-    (ap (λ n. listTo n (lineIn a)) (archive-pages t m) ∙ listTo-cong (pageCount t m) (lineIn a) (planLine) line)
+    (ap (λ n. listTo n (lineIn a)) (archive-pages t m) ∙ listTo-cong (pageCount t m) (lineIn a) planLine line)
   where
     a : List ℕ
     a = archiveOf t m
@@ -89,32 +85,17 @@ lines-back {t} {m} p =
 
 -- ---- The planner's answer
 
-plan-numbers : (t m s : List ℕ) → HasNumbers (planChecks t m s)
-unfolding HasNumbers planChecks treeChecks formChecks shortTable badCount badLimit badLength noWeight badWalk heavyNode badMarks shortScratch
-plan-numbers t m s =
-    (omega arith, (omega arith, (omega arith, (omega arith, (omega arith, (omega arith, (omega arith, (omega arith, (omega arith, tt)))))))))
-
 module _ (steps : ℕ → Chain → List ℕ) (t m s : List ℕ) (r : Answer) (m′ s′ : List ℕ) (is : outcome r m′ s′ ≡ planned steps t m s) where
   -- acceptance leaves a feasible plan
   pub made-planned : r .number ≡ 0 → Planned t m′
-  made-planned z = go (bool-cases (passes (planChecks t m s)))
-    where
-      answer : r ≡ planned steps t m s .answer
-      answer = ap (λ (p : Left). p .answer) is
-
-      go : (passes (planChecks t m s) ≡ true) ⊎ (passes (planChecks t m s) ≡ false) → Planned t m′
-      go (inl e) =
-          let made : m′ ≡ steps (limitOf t) (treeOf t) = ap (λ (p : Left). p .marks) is ∙ planned-made steps t m s e in
-          rw made
-          (feasible-planned t (steps (limitOf t) (treeOf t))
-          (judge-feasible t (steps (limitOf t) (treeOf t)) (ap (λ (x : Answer). x .number) (sym (answer ∙ planned-judged steps t m s e)) ∙ z)))
-      go (inr e) =
-          absurd
-          (true≢false
-          (sym
-          (accepted-pass NotJudged (planChecks t m s) (plan-numbers t m s)
-          (ap (λ (x : Answer). x .number) (sym (answer ∙ planned-refused steps t m s e)) ∙ z))
-          ∙ e))
+  made-planned z =
+      let answer = ap (λ (p : Left). p .answer) is in
+      let pass = plan-passes steps t m s (ap (λ (x : Answer). x .number) (sym answer) ∙ z) in
+      let made : m′ ≡ steps (limitOf t) (treeOf t) = ap (λ (p : Left). p .marks) is ∙ planned-made steps t m s pass in
+      rw made
+      (feasible-planned t (steps (limitOf t) (treeOf t))
+      (judge-feasible t (steps (limitOf t) (treeOf t))
+      (ap (λ (x : Answer). x .number) (sym (answer ∙ planned-judged steps t m s pass)) ∙ z)))
 
 -- the lines of an answer, by its number
 module _ (t : List ℕ) (r : Answer) (m s : List ℕ) {made : Left} (is : outcome r m s ≡ made) where

@@ -1,5 +1,7 @@
 -- Document 01, the page program: what it writes for the bytes that it read, as one definition. A list of numbers is a string of bytes.
 use Prim.Native.Nat.{ℕ, zero, suc, _+_, _-_, _/_, _%_}
+use Prim.Native.Char.{code}
+use Prim.Native.String.{String, [] as ε, _∷_ as _∷ˢ_}
 use mathlib.Core.List.{List, [], _∷_, _++_}
 use lib.ListN.{getD, replicate}
 use lib.Dec.{eqb, ltb}
@@ -20,41 +22,12 @@ decimalTo (suc f) n = pick (ltb n 10) ((48 + n) ∷ []) (decimalTo f (n / 10) ++
 unfoldable pub decimal : ℕ → List ℕ
 decimal n = decimalTo 10 n
 
--- 'pages ', ' root ', ' limit '
-abbrev pub pagesWord : List ℕ
-pagesWord = 112 ∷ 97 ∷ 103 ∷ 101 ∷ 115 ∷ 32 ∷ []
+-- the bytes of a text, a byte a character
+abbrev pub bytes : String → List ℕ
+bytes ε = []
+bytes (c ∷ˢ s) = code c ∷ bytes s
 
-abbrev pub rootWord : List ℕ
-rootWord = 32 ∷ 114 ∷ 111 ∷ 111 ∷ 116 ∷ 32 ∷ []
-
-abbrev pub limitWord : List ℕ
-limitWord = 32 ∷ 108 ∷ 105 ∷ 109 ∷ 105 ∷ 116 ∷ 32 ∷ []
-
--- 'page ', ' first ', ' last ', ' weight '
-abbrev pub pageWord : List ℕ
-pageWord = 112 ∷ 97 ∷ 103 ∷ 101 ∷ 32 ∷ []
-
-abbrev pub firstWord : List ℕ
-firstWord = 32 ∷ 102 ∷ 105 ∷ 114 ∷ 115 ∷ 116 ∷ 32 ∷ []
-
-abbrev pub lastWord : List ℕ
-lastWord = 32 ∷ 108 ∷ 97 ∷ 115 ∷ 116 ∷ 32 ∷ []
-
-abbrev pub weightWord : List ℕ
-weightWord = 32 ∷ 119 ∷ 101 ∷ 105 ∷ 103 ∷ 104 ∷ 116 ∷ 32 ∷ []
-
--- 'refused ', ' at '
-abbrev pub refusedWord : List ℕ
-refusedWord = 114 ∷ 101 ∷ 102 ∷ 117 ∷ 115 ∷ 101 ∷ 100 ∷ 32 ∷ []
-
-abbrev pub atWord : List ℕ
-atWord = 32 ∷ 97 ∷ 116 ∷ 32 ∷ []
-
--- each line ends in one newline byte
-abbrev pub newline : List ℕ
-newline = 10 ∷ []
-
--- ---- Lines
+-- ---- Lines; each ends in one newline byte
 
 -- a word and the number after it
 unfoldable pub item : List ℕ → ℕ → List ℕ
@@ -62,16 +35,16 @@ item word n = word ++ decimal n
 
 -- 'pages 3 root 5 limit 5'
 unfoldable pub headLine : ℕ → ℕ → ℕ → List ℕ
-headLine pages root limit = item pagesWord pages ++ item rootWord root ++ item limitWord limit ++ newline
+headLine pages root limit = item (bytes "pages ") pages ++ item (bytes " root ") root ++ item (bytes " limit ") limit ++ bytes "\n"
 
 -- 'page 2 first 2 last 6 weight 4'
 unfoldable pub pageLine : ℕ → ℕ → ℕ → ℕ → List ℕ
 pageLine page first last weight =
-    item pageWord page ++ item firstWord first ++ item lastWord last ++ item weightWord weight ++ newline
+    item (bytes "page ") page ++ item (bytes " first ") first ++ item (bytes " last ") last ++ item (bytes " weight ") weight ++ bytes "\n"
 
 -- 'refused 7 at 1'
 unfoldable pub refusalLine : ℕ → ℕ → List ℕ
-refusalLine number place = item refusedWord number ++ item atWord place ++ newline
+refusalLine number place = item (bytes "refused ") number ++ item (bytes " at ") place ++ bytes "\n"
 
 -- ---- The report
 

@@ -26,6 +26,7 @@ ghost use Rattle.pages.specs.Listing.{linesIn};
 // As many marks as a word can ask for: N may be anything until it is checked.
 const MARKS: usize = 65535;
 
+// Serves N × (K + 3) up to 2,560.
 const SCRATCH_WORDS: usize = 10240;
 
 // The lines of the plan that an archive tells.

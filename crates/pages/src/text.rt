@@ -4,6 +4,7 @@ ghost use lib.ListN.{length};
 ghost use Rattle.pages.specs.Text.{item, headLine, pageLine, refusalLine};
 ghost use Rattle.pages.specs.Appended.{Appended, lineBytes};
 
+// A string of bytes.
 fn put_text(out: &mut [u8], at: usize, text: &[u8]) -> usize
     requires { ⌜ at + length (now text) ≤ length (now out) ⌝ }
     ensures { λ r. ⌜ Appended (now (out .entry)) at (now (text .entry)) (now (out .exit)) r ⌝ }
