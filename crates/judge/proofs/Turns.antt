@@ -10,7 +10,7 @@ use lib.ListN.{length, getD, set, replicate, getD-replicate}
 use lib.Seq.{getD-set-same, getD-set-other}
 use borrow.Author.Tests.{eqb-true, eqb-false, eq-eqb, ne-eqb}
 use Rattle.model.specs.Basics.{pick, when, atPlace, sumTo, countTo, firstTo, lastTo}
-use Rattle.model.specs.Table.{nodeCount, limitOf, weightAt, nextAt}
+use Rattle.model.specs.Table.{maxLimit, slots, nodeCount, limitOf, weightAt, nextAt}
 use Rattle.model.specs.Plan.{prevAt, parentAt, markAt, hasMark, begins, inRun, goodMark, pageOf, pageCount, pageWeight, badMark, heavyPage}
 use Rattle.model.specs.declared.Place.{Place}
 use Rattle.model.specs.declared.Place.the-variants.{At, Nowhere}
@@ -20,7 +20,7 @@ use Rattle.theory.specs.Links.{next-le, prevAt-less}
 use Rattle.theory.specs.JudgePages.{stepBack, back-less, pageOf-none, pageOf-le, pageOf-step, parentAt-step, sumTo-most}
 use Rattle.theory.specs.Judged.{pageCount-le}
 use Rattle.judge.specs.declared.pages.Layout.{Layout}
-use Rattle.judge.specs.Rows.{slots, Row, goodCase, Laid}
+use Rattle.judge.specs.Rows.{Row, goodCase, Laid}
 
 -- one more node
 row-add : (f : ℕ → ℕ) (l : List ℕ) (v x : ℕ) → Row v f l → v + 1 < length l → x ≡ f (v + 1) → Row (v + 1) f (set l (v + 1) x)
@@ -167,11 +167,11 @@ module _ {t : List ℕ} (a : AcceptedFacts t) where
   pick-most false x k h = omega arith
 
   -- a page weighs no more than the limit for each node
-  weight-most : (m : List ℕ) (v p : ℕ) → v ≤ nodeCount t → weightTo v t m p ≤ v * 1024
+  weight-most : (m : List ℕ) (v p : ℕ) → v ≤ nodeCount t → weightTo v t m p ≤ v * maxLimit
   unfolding weightTo
   weight-most m v p high =
-      sumTo-most v 1024 (λ u. pick (eqb (pageOf t m u) p) (weightAt t u) 0)
-      (λ u c d. pick-most (eqb (pageOf t m u) p) (weightAt t u) 1024 (omega (arith, a .light u c (omega arith), a .sound .limit-high)))
+      sumTo-most v maxLimit (λ u. pick (eqb (pageOf t m u) p) (weightAt t u) 0)
+      (λ u c d. pick-most (eqb (pageOf t m u) p) (weightAt t u) maxLimit (omega (arith, a .light u c (omega arith), a .sound .limit-high)))
 
 -- ---- Marks
 

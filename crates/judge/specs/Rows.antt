@@ -1,19 +1,16 @@
 -- Defines what the arrays of the judge hold, what its pass over a plan finds, and the test of a mark by numbers. Assumes nothing.
-use Prim.Native.Nat.{ℕ, _+_, _<_}
+use Prim.Native.Nat.{ℕ, _<_}
 use mathlib.Core.Path.{_≡_}
 use mathlib.Core.Bool.{Bool, not, _&&_, _||_}
 use mathlib.Core.List.{List}
 use lib.ListN.{getD}
 use lib.Dec.{eqb}
 use Rattle.model.specs.Basics.{pick}
-use Rattle.model.specs.Table.{maxNodes, nodeCount}
+use Rattle.model.specs.Table.{nodeCount}
+pub use Rattle.model.specs.Table.{slots}
 use Rattle.model.specs.Plan.{parentAt, pageOf, pageWeight, pageCount, badMark}
 use Rattle.theory.specs.Ranges.{Upto}
 use Rattle.judge.specs.declared.pages.Layout.{Layout}
-
--- a place for each node and for each page, by number, and one for 0
-abbrev pub slots : ℕ
-slots = maxNodes + 1
 
 -- the list has f v at v, for each of the nodes 1 to n
 abbrev pub Row : ℕ → (ℕ → ℕ) → List ℕ → Type 0

@@ -2,6 +2,7 @@
 use crate::marks::is_good;
 use crate::marks::mark_at;
 use model::Place;
+pub use table::SLOTS;
 use table::place_if;
 use table::words::next_at;
 use table::words::node_count;
@@ -11,11 +12,9 @@ ghost use Prim.Native.Nat.{_<_};
 ghost use lib.Dec.{ltb};
 ghost use lib.ListN.{getD};
 ghost use Rattle.model.specs.Basics.{pick, atPlace, firstTo};
+ghost use Rattle.model.specs.Table.{slots};
 ghost use Rattle.theory.specs.Sound.{AcceptedFacts};
-ghost use Rattle.judge.specs.Rows.{slots, Laid};
-
-// A place for each node and for each page, by number, and one for 0.
-pub const SLOTS: usize = 1025;
+ghost use Rattle.judge.specs.Rows.{Laid};
 
 // What the pass finds: by node its parent and its page, by page its weight, the number of pages, and the first bad mark.
 pub struct Layout {

@@ -8,11 +8,17 @@ use Rattle.model.specs.Basics.{pick, when}
 use Rattle.model.specs.declared.Place.{Place}
 use Rattle.model.specs.declared.Place.the-variants.{At}
 
+-- the most nodes that a table has
 abbrev pub maxNodes : ℕ
 maxNodes = 1024
 
+-- the highest page limit
 abbrev pub maxLimit : ℕ
 maxLimit = 1024
+
+-- a place for each node or page by number, and one for 0
+abbrev pub slots : ℕ
+slots = maxNodes + 1
 
 -- word i of a string of bytes, from 0: 16 bits, high byte first
 unfoldable pub wordAt : List ℕ → ℕ → ℕ

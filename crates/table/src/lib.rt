@@ -18,9 +18,14 @@ ghost use Rattle.model.specs.Table.{tableBytes, weightAt};
 ghost use Rattle.model.specs.Refusals.{refused, accepted, firstOf, readTree};
 ghost use Rattle.theory.specs.Checks.{headChecks};
 
-const MAX_NODES: u16 = 1024;
+// The most nodes that a table has.
+pub const MAX_NODES: u16 = 1024;
 
-const MAX_LIMIT: u16 = 1024;
+// The highest page limit.
+pub const MAX_LIMIT: u16 = 1024;
+
+// A place for each node or page by number, and one for 0.
+pub const SLOTS: usize = MAX_NODES as usize + 1;
 
 // A refusal. 10 and 11 are the judge's, and have their cause beside them.
 pub fn refuse(number: u32, place: u32) -> Answer

@@ -1,3 +1,4 @@
+-- `table::read_head` meets its contract. Assumes nothing.
 use mathlib.Core.Path.{ap, _∙_}
 use mathlib.Core.Bool.{not, _||_}
 use Prim.Native.Nat.{ℕ}

@@ -4,9 +4,9 @@ use Prim.Native.Nat.{_+_, _-_, _≤_, _<_}
 use native.Mathlib.Omega.{arith}
 use lib.ListN.{length, getD, length-set}
 use Rattle.model.specs.Basics.{atPlace}
+use Rattle.model.specs.Table.{slots}
 use Rattle.model.specs.Plan.{pageOf}
 use Rattle.model.specs.declared.Place.the-variants.{At}
-use Rattle.judge.specs.Rows.{slots}
 use Rattle.judge.proofs.Turns.{Pass, pass-start, u-fits, next-fits, count-fits, home-fits, page-here, page-fits, sum-fits, pass-turn, pass-end}
 use denote.Ref.{now}
 use borrow.Author.Needs.{needs}

@@ -1,10 +1,11 @@
+-- `table::walk::walk_from_root` meets its contract: what is still to be visited is a stack. Assumes nothing.
 use mathlib.Core.Path.{_≡_, refl, sym, _∙_}
 use mathlib.Core.List.{[], _∷_}
 use Prim.Native.Nat.{_+_, _-_, _*_, _≤_}
 use native.Mathlib.Omega.{arith}
 use borrow.Author.Needs.{needs}
 use lib.ListN.{length, length-set}
-use Rattle.model.specs.Table.{walkFrom}
+use Rattle.model.specs.Table.{slots, walkFrom}
 use Rattle.table.proofs.Pending.{pendingOf, fuel, walk-start, walk-whole, walk-short, turn-end, turn-met, turn-fails}
 use Rattle.table.proofs.walk.walk_from_root.Statement.{statement}
 use Rattle.table.proofs.walk.walk_from_root.Tie as tie
@@ -15,93 +16,73 @@ use Rattle.table.proofs.words.next_at.Reads as next-at-reads
 
 abbrev Inv-loop : tie.InvT-loop
 Inv-loop table nodes pending₀ height₀ met₀ pending height met =
-    (length pending ≡ 1025) × (height ≤ met + 1) × (met ≤ nodes)
+    (length pending ≡ slots) × (height ≤ met + 1) × (met ≤ nodes)
     × (walkFrom (2 * nodes + 2) table nodes 0 (1 ∷ []) ≡ walkFrom (fuel nodes met height) table nodes met (pendingOf pending height))
 
 abbrev μ-loop : tie.MeasureT-loop
 μ-loop table nodes pending₀ height₀ met₀ pending height met = 2 * (nodes - met) + height
 
--- src/walk.rt:16:5
 array-write-pending : tie.Need-array-write-pending Inv-loop μ-loop
 array-write-pending c = search needs
 
--- src/walk.rt:19:5
 loop-holds : tie.Need-loop-holds Inv-loop μ-loop
 loop-holds c = (refl, omega arith, omega arith, walk-start _ _ _ refl)
 
--- src/walk.rt:20:9
 sub-height : tie.Need-sub-height Inv-loop μ-loop
 sub-height c = search needs
 
--- src/walk.rt:21:17
 mul-v : tie.Need-mul-v Inv-loop μ-loop
 mul-v c = search needs
 
--- src/walk.rt:21:17
 array-read-v : tie.Need-array-read-v Inv-loop μ-loop
 array-read-v c = search needs
 
--- src/walk.rt:24:34
 cast-t15 : tie.Need-cast-t15 Inv-loop μ-loop
 cast-t15 c = search needs
 
--- src/walk.rt:24:17
 returns : tie.Need-returns Inv-loop μ-loop
 returns c =
     let l = c .before .before .before .loop in
     sym (l .inv .3 ∙ turn-fails _ _ _ _ _ (c .before .before .loop-test .taken) (c .before .if1 .taken) (λ e h. omega arith))
 
--- src/walk.rt:26:21
 add-if3 : tie.Need-add-if3 Inv-loop μ-loop
 add-if3 c = search needs
 
--- src/walk.rt:27:34
 cast-t17 : tie.Need-cast-t17 Inv-loop μ-loop
 cast-t17 c = search needs
 
--- src/walk.rt:27:17
 returns-2 : tie.Need-returns-2 Inv-loop μ-loop
 returns-2 c =
     let l = c .before .before .before .before .loop in
     sym (l .inv .3 ∙ turn-fails _ _ _ _ _ (c .before .before .before .loop-test .taken) (c .before .before .if1 .taken) (λ e h. c .if3 .taken e))
 
--- src/walk.rt:30:31
 next-at-requires : tie.Need-next-at-requires Inv-loop μ-loop
 next-at-requires c κs = search needs
 
--- src/walk.rt:30:13
 mul-pending : tie.Need-mul-pending Inv-loop μ-loop
 mul-pending c = search needs
 
--- src/walk.rt:30:13
 array-write-pending-2 : tie.Need-array-write-pending-2 Inv-loop μ-loop
 array-write-pending-2 c = search needs
 
--- src/walk.rt:31:35
 first-at-requires : tie.Need-first-at-requires Inv-loop μ-loop
 first-at-requires c κs = search needs
 
--- src/walk.rt:31:21
 add-pending : tie.Need-add-pending Inv-loop μ-loop
 add-pending c = search needs
 
--- src/walk.rt:31:13
 mul-pending-2 : tie.Need-mul-pending-2 Inv-loop μ-loop
 mul-pending-2 c = search needs
 
--- src/walk.rt:31:13
 array-write-pending-3 : tie.Need-array-write-pending-3 Inv-loop μ-loop
 array-write-pending-3 c = search needs
 
--- src/walk.rt:32:13
 add-height : tie.Need-add-height Inv-loop μ-loop
 add-height c = search needs
 
--- src/walk.rt:19:5
 loop-less : tie.Need-loop-less Inv-loop μ-loop
 loop-less c = search needs
 
--- src/walk.rt:19:5
 loop-again : tie.Need-loop-again Inv-loop μ-loop
 loop-again c =
     let l = c .before .before .before .before .before .before .loop in (
@@ -112,25 +93,20 @@ loop-again c =
           ∙ turn-met _ _ _ _ _ (omega arith) _ _ _ refl (c .before .next-at .ensures) (c .first-at .ensures) (omega arith) (omega arith) (omega arith),
     )
 
--- src/walk.rt:19:5
 loop-less-2 : tie.Need-loop-less-2 Inv-loop μ-loop
 loop-less-2 c = search needs
 
--- src/walk.rt:19:5
 loop-again-2 : tie.Need-loop-again-2 Inv-loop μ-loop
 loop-again-2 c =
     let l = c .before .before .loop in
     (l .inv .0, omega arith, l .inv .2, l .inv .3 ∙ turn-end _ _ _ _ _ (c .before .loop-test .taken) (c .if1 .left))
 
--- src/walk.rt:38:19
 cast-t26 : tie.Need-cast-t26 Inv-loop μ-loop
 cast-t26 c = search needs
 
--- src/walk.rt:11:1
 returns-3 : tie.Need-returns-3 Inv-loop μ-loop
 returns-3 c = sym (c .before .before .loop .inv .3 ∙ walk-whole _ _ _ _ _ (omega arith) (c .if4 .taken))
 
--- src/walk.rt:11:1
 returns-4 : tie.Need-returns-4 Inv-loop μ-loop
 returns-4 c = sym (c .before .before .loop .inv .3 ∙ walk-short _ _ _ _ _ (omega arith) (c .if4 .left))
 

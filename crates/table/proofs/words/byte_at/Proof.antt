@@ -1,3 +1,4 @@
+-- `table::words::byte_at` meets its contract. Assumes nothing.
 use denote.Ref.{now}
 use mathlib.Core.Path.{sym}
 use lib.ListN.{List·getD-eq-default}
@@ -7,15 +8,12 @@ use Rattle.table.proofs.words.byte_at.Tie as tie
 use Rattle.table.proofs.words.byte_at.Reads as reads
 use Rattle.table.proofs.words.byte_at.Lts as lts
 
--- src/words.rt:11:9
 shared-slice-read-result : tie.Need-shared-slice-read-result
 shared-slice-read-result c = search needs
 
--- src/words.rt:7:1
 returns : tie.Need-returns
 returns c = search needs
 
--- src/words.rt:7:1
 returns-2 : tie.Need-returns-2
 returns-2 c = sym (List·getD-eq-default (now (c .before .args .bytes)) 0 (c .if1 .left))
 

@@ -1,3 +1,4 @@
+-- `table::words::field_at` meets its contract. Assumes nothing.
 use mathlib.Core.Logic.{⊎-elim}
 use native.Mathlib.Omega.{arith}
 use denote.Ref.{now}
@@ -11,27 +12,21 @@ use Rattle.table.proofs.words.field_at.Reads as reads
 use Rattle.table.proofs.words.field_at.Lts as lts
 use Rattle.table.proofs.words.word_at.Reads as word-at-reads
 
--- src/words.rt:47:41
 sub-before : tie.Need-sub-before
 sub-before c = search needs
 
--- src/words.rt:48:24
 mul-word-at : tie.Need-mul-word-at
 mul-word-at c = search needs
 
--- src/words.rt:48:20
 add-word-at : tie.Need-add-word-at
 add-word-at c = search needs
 
--- src/words.rt:48:20
 add-word-at-2 : tie.Need-add-word-at-2
 add-word-at-2 c = search needs
 
--- src/words.rt:48:5
 word-at-requires : tie.Need-word-at-requires
 word-at-requires c κs = search needs
 
--- src/words.rt:44:1
 returns : tie.Need-returns
 unfolding fieldAt
 returns c =

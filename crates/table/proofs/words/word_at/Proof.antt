@@ -1,3 +1,4 @@
+-- `table::words::word_at` meets its contract. Assumes nothing.
 use Rattle.model.specs.Table.{wordAt}
 use borrow.Author.Needs.{needs}
 use Rattle.table.proofs.words.word_at.Statement.{statement}
@@ -7,27 +8,21 @@ use Rattle.table.proofs.words.word_at.Lts as lts
 use Rattle.table.proofs.words.byte_at.Reads as byte-at-reads
 use Rattle.table.proofs.words.word_of.Reads as word-of-reads
 
--- src/words.rt:27:14
 mul-at : tie.Need-mul-at
 mul-at c = search needs
 
--- src/words.rt:28:13
 byte-at-requires : tie.Need-byte-at-requires
 byte-at-requires c κs = search needs
 
--- src/words.rt:28:48
 add-byte-at : tie.Need-add-byte-at
 add-byte-at c = search needs
 
--- src/words.rt:28:33
 byte-at-requires-2 : tie.Need-byte-at-requires-2
 byte-at-requires-2 c κs = search needs
 
--- src/words.rt:28:5
 word-of-requires : tie.Need-word-of-requires
 word-of-requires c κs = search needs
 
--- src/words.rt:24:1
 returns : tie.Need-returns
 unfolding wordAt
 returns c = search needs
