@@ -11,6 +11,7 @@ use lib.ListN.{length, getD, set, length-set, replicate, length-replicate}
 use lib.Dec.{eqb, leb}
 use borrow.Author.Tests.{eqb-true, eqb-false, leb-true, le-leb, lt-leb}
 use Rattle.model.specs.Basics.{pick}
+use Rattle.model.specs.Table.{maxNodes, maxLimit}
 use Rattle.model.specs.Steps.{Child, runOf}
 use Rattle.theory.specs.ReduceCount.{figuresOf}
 use Rattle.theory.specs.Cells.{Cell, page, noWord, lower, tryRun, stayCell, cellAt, onward}
@@ -42,11 +43,12 @@ use Rattle.theory.specs.CellsRun.{
   back-le,
   block-apart,
   ColumnWords,
+  wordEnd,
   word-small,
   Fillable,
 }
 use Rattle.best.specs.declared.run.Sums.{Sums}
-use Rattle.best.specs.Run.{joined}
+use Rattle.best.specs.Run.{gainSlots, joined}
 
 -- the last n of the children up to node c, the earliest first
 unfoldable pub lastOf : List ℕ → List ℕ → List ℕ → ℕ → ℕ → List Child
@@ -59,7 +61,7 @@ pub record Stretch (K start c : ℕ) (rests gains prevs xs : List ℕ) (leads : 
   pub next-is : next ≡ back prevs (sums .len) c
   pub short : sums .len + next ≤ c
   pub kept : Kept K (lastOf rests gains prevs (sums .len) c) (sums .len) (sums .total) (sums .gained) (sums .top) counts
-  pub wide : length counts ≡ 1025
+  pub wide : length counts ≡ gainSlots
   pub long : length ys ≡ length xs
   pub below : (i : ℕ) → i < blockAt K c → getD ys i 0 ≡ getD xs i 0
   pub above : (i : ℕ) → blockAt K c + 2 * (K + 1) ≤ i → getD ys i 0 ≡ getD xs i 0
@@ -114,7 +116,7 @@ module _ {K start c : ℕ} {rests gains prevs xs : List ℕ} (f : Fillable K sta
           omega (arith, f .earlier (back prevs n c) (omega arith))
 
   pub stay-ready : (here first : ℕ) → here ≡ blockAt K c → first ≡ blockAt K (getD prevs c 0) → start ≤ K
-      → (K ≤ 1024) × (getD rests c 0 ≤ 1024) × (start ≤ 1024) × (first + 2 * (K + 1) ≤ here) × (here + 2 * (K + 1) ≤ length xs)
+      → (K ≤ maxLimit) × (getD rests c 0 ≤ maxLimit) × (start ≤ maxLimit) × (first + 2 * (K + 1) ≤ here) × (here + 2 * (K + 1) ≤ length xs)
   stay-ready here first e d h = (
     f .limit-high,
     omega (arith, f .good c .light, f .limit-high),
@@ -141,15 +143,15 @@ module _ {K start c : ℕ} {rests gains prevs xs : List ℕ} (f : Fillable K sta
             columns = λ n s p q. w .below (blockAt K (back prevs (suc n) c) + s) (omega (arith, block-apart K (back prevs (suc n) c) c (back-less n))) ∙ f .columns n s p q;
           }
 
-      pub stretch-start : Stretch K start c rests gains prevs ys (Joins K) ys (replicate 1025 0) (record { len = 0; total = 0; gained = 0; top = 0 }) c
+      pub stretch-start : Stretch K start c rests gains prevs ys (Joins K) ys (replicate gainSlots 0) (record { len = 0; total = 0; gained = 0; top = 0 }) c
       unfolding lastOf back joins cellAt
       stretch-start =
           let w = rw (e, d) at swept in
           record {
             next-is = refl;
             short = omega arith;
-            kept = kept-none K 1025;
-            wide = length-replicate {A = ℕ} 1025 0;
+            kept = kept-none K gainSlots;
+            wide = length-replicate {A = ℕ} gainSlots 0;
             long = refl;
             below = λ i p. refl;
             above = λ i p. refl;
@@ -179,12 +181,12 @@ module _ {K start c : ℕ} {rests gains prevs xs : List ℕ} (f : Fillable K sta
         }
 
     module _ (low : 1 ≤ next) where
-      pub joins-fits : (getD gains next 0 < 1025) × (getD counts (getD gains next 0) 0 < 65535) × (sums .len < 4294967295)
+      pub joins-fits : (getD gains next 0 ≤ maxLimit) × (getD counts (getD gains next 0) 0 < 65535) × (sums .len < 4294967295)
           × (sums .total + getD rests next 0 < 4294967296) × (sums .gained + getD gains next 0 < 4294967296)
       joins-fits =
           let good = f .good next in
           let total = kept-total (t .kept) (f .limit-high) in
-          let small : sums .len ≤ 1024 = omega (arith, t .short, f .node-high) in (
+          let small : sums .len ≤ maxNodes = omega (arith, t .short, f .node-high) in (
             omega (arith, good .light, good .fits, f .limit-high),
             omega (arith, kept-count (t .kept) (getD gains next 0)),
             omega arith,
@@ -222,12 +224,12 @@ module _ {K start c : ℕ} {rests gains prevs xs : List ℕ} (f : Fillable K sta
 
   -- the run is tried
   module _ {ys counts : List ℕ} {sums : Sums} {next : ℕ} (t : Stretch K start c rests gains prevs xs (Tries K) ys counts sums next) where
-    pub count-small : (h : ℕ) → getD counts h 0 ≤ 1024
+    pub count-small : (h : ℕ) → getD counts h 0 ≤ maxNodes
     count-small h = omega (arith, kept-count (t .kept) h, t .short, f .node-high)
 
-    pub total-small : (sums .gained ≤ sums .total) × (sums .total ≤ 1048576)
+    pub total-small : (sums .gained ≤ sums .total) × (sums .total ≤ maxNodes * maxLimit)
     total-small =
-        let small : sums .len ≤ 1024 = omega (arith, t .short, f .node-high) in
+        let small : sums .len ≤ maxNodes = omega (arith, t .short, f .node-high) in
         (kept-gained (t .kept), omega (arith, kept-total (t .kept) (f .limit-high)))
 
     pub taking-start : Taking K c rests gains prevs counts sums (sums .total) 0 (sums .top) (getD counts (sums .top) 0)
@@ -270,7 +272,7 @@ module _ {K start c : ℕ} {rests gains prevs xs : List ℕ} (f : Fillable K sta
         last-figures : figuresOf (runOf K (run (sums .len))) ≡ record { sum = sum; count = taken }
         last-figures = w .figures ∙ choosing-room gain left (countsOf counts) K (record { sum = sum; count = taken }) high
 
-        pub taken-small : taken ≤ 1024
+        pub taken-small : taken ≤ maxNodes
         taken-small = omega (arith, run-taken-le (t .kept) sum taken last-figures, t .short, f .node-high)
 
         apart : blockAt K next + 2 * (K + 1) ≤ blockAt K c
@@ -282,8 +284,8 @@ module _ {K start c : ℕ} {rests gains prevs xs : List ℕ} (f : Fillable K sta
             t .below (blockAt K next + s) (omega (arith, apart)) ∙ words s p q
 
         module _ (here before : ℕ) (e : here ≡ blockAt K c) (d : before ≡ blockAt K next) where
-          pub relax-ready : start ≤ K → (K ≤ 1024) × (start ≤ 1024) × (before + 2 * (K + 1) ≤ here) × (here + 2 * (K + 1) ≤ length ys)
-              × ((s : ℕ) → start ≤ s → s ≤ K → getD ys (before + s) 0 + (1 + taken) * 65536 < 4294967296)
+          pub relax-ready : start ≤ K → (K ≤ maxLimit) × (start ≤ maxLimit) × (before + 2 * (K + 1) ≤ here) × (here + 2 * (K + 1) ≤ length ys)
+              × ((s : ℕ) → start ≤ s → s ≤ K → getD ys (before + s) 0 + (1 + taken) * page < 4294967296)
           relax-ready h = (
             f .limit-high,
             omega (arith, f .limit-high),
@@ -292,13 +294,13 @@ module _ {K start c : ℕ} {rests gains prevs xs : List ℕ} (f : Fillable K sta
             λ s p q. rw d (omega (arith, word-is s p q, taken-small, small s q)),
           )
             where
-              small : (s : ℕ) → s ≤ K → cellAt K (front next) s .word < 200000000
+              small : (s : ℕ) → s ≤ K → cellAt K (front next) s .word < wordEnd
               small s q =
                   word-small K (f .limit-high) (front next) s q (front-good K rests gains prevs (f .good) next)
                   (omega (arith, front-length rests gains prevs (f .earlier) next, t .short, f .node-high))
 
           module _ (zs : List ℕ)
-              (swept : Swept K start here (λ s. lower (getD ys (before + s) 0 + (1 + taken) * 65536) (sums .len) (cellIn ys K here s)) ys zs)
+              (swept : Swept K start here (λ s. lower (getD ys (before + s) 0 + (1 + taken) * page) (sums .len) (cellIn ys K here s)) ys zs)
             where
               tried : Stretch K start c rests gains prevs xs (Tried K) zs counts sums next
               tried =

@@ -11,7 +11,7 @@ use lib.Seq.{getD-set-same}
 use lib.Dec.{eqb, leb}
 use borrow.Author.Tests.{eqb-true, eqb-false, leb-true}
 use Rattle.model.specs.Basics.{pick}
-use Rattle.model.specs.Table.{nodeCount, limitOf, weightAt, firstAt, treeOf}
+use Rattle.model.specs.Table.{slots, nodeCount, limitOf, weightAt, firstAt, treeOf}
 use Rattle.model.specs.Plan.{prevAt, parentAt, begins}
 use Rattle.model.specs.Steps.{Child, Choice, entryAt, secondStart, gainOf, childOf, childrenOf, choicesOf, layMarks, rootChoice}
 use Rattle.theory.specs.Reduce.{sumOf}
@@ -70,7 +70,7 @@ figure-rest t g v = refl
 -- the children of the nodes up to v are laid
 pub record Laying (t rests gains prevs lasts marks seconds : List ℕ) (v : ℕ) : Type 0 where
   pub long : length marks ≡ nodeCount t
-  pub slots : length seconds ≡ 1025
+  pub wide : length seconds ≡ slots
   pub high : v ≤ nodeCount t
   pub root : chosenIn marks seconds 1 ≡ record { mark = begins; second = false }
   pub gainful : Gainful gains seconds
@@ -78,16 +78,16 @@ pub record Laying (t rests gains prevs lasts marks seconds : List ℕ) (v : ℕ)
       ≡ entryAt (limitOf t) (frontOf rests gains prevs (getD lasts w 0))
       (startOf (limitOf t) (weightAt t w) (getD rests w 0) (chosenIn marks seconds w .second)) .choices
 
-zeros : (u : ℕ) → _≡_ {A = ℕ} (getD (replicate 1025 0) u 0) 0
+zeros : (u : ℕ) → _≡_ {A = ℕ} (getD (replicate slots 0) u 0) 0
 unfolding countGain sumOf
-zeros u = sym (kept-none 0 1025 .counts-are u)
+zeros u = sym (kept-none 0 slots .counts-are u)
 
 pub laying-start : (t rests gains prevs lasts marks : List ℕ) → length marks ≡ nodeCount t → 1 ≤ nodeCount t
-    → Laying t rests gains prevs lasts (set marks 0 1) (replicate 1025 0) 0
+    → Laying t rests gains prevs lasts (set marks 0 1) (replicate slots 0) 0
 laying-start t rests gains prevs lasts marks long low =
     record {
       long = simp length-set long;
-      slots = length-replicate {A = ℕ} 1025 0;
+      wide = length-replicate {A = ℕ} slots 0;
       high = omega arith;
       root = ap₂ (λ x y. record { mark = x; second = eqb y 1 }) (getD-set-same marks 0 1 0 (omega (arith, long))) (zeros 1);
       gainful = λ u e. absurd (omega (arith, zeros u));
@@ -119,7 +119,7 @@ module _ {t rests gains prevs lasts xs marks seconds : List ℕ} {v : ℕ} (l : 
               let some : 1 ≤ figureAt t g w .gain = omega (arith, ap (λ k. k .gain) figure) in
               rw (ap (λ k. k .rest) figure) (figure-starts t g w some);
           long = l .long;
-          slots = l .slots;
+          wide = l .wide;
           gainful = l .gainful;
         }
 
@@ -166,7 +166,7 @@ module _ {t rests gains prevs lasts xs marks seconds : List ℕ} {v : ℕ} (l : 
       laying-turn =
           record {
             long = d .long ∙ l .long;
-            slots = d .slots;
+            wide = d .wide;
             high = node .high;
             root = settled 1 (omega arith) (omega arith) ∙ l .root;
             gainful = d .gainful;

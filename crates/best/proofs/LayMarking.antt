@@ -11,6 +11,7 @@ use lib.ListN.{length, getD, set, length-set}
 use lib.Dec.{eqb, ltb, leb}
 use borrow.Author.Tests.{eqb-true, eqb-false, eq-eqb, ne-eqb, ltb-true}
 use Rattle.model.specs.Basics.{pick}
+use Rattle.model.specs.Table.{maxNodes, maxLimit, slots}
 use Rattle.model.specs.Plan.{begins}
 use Rattle.model.specs.Steps.{Choice, runChoices}
 use Rattle.theory.specs.ReduceCount.{countGain}
@@ -123,15 +124,15 @@ pub record Marking (rests gains prevs : List ℕ) (c n g t : ℕ) (marks seconds
   pub rest : choices ++ backRun g t before left (frontOf rests gains prevs next)
       ≡ backRun g t (countGain g (members (pulled n [] (frontOf rests gains prevs c)))) n (frontOf rests gains prevs c)
   pub gainful : Gainful gains seconds′
-  pub slots : length seconds′ ≡ 1025
+  pub wide : length seconds′ ≡ slots
 
 module _ {K c n : ℕ} {rests gains prevs marks seconds : List ℕ} (ready : RunReady K c n rests gains prevs marks seconds) where
   module _ {total gained top : ℕ} {counts : List ℕ} (kept : Kept K (pulled n [] (frontOf rests gains prevs c)) n total gained top counts) (g t : ℕ)
       (gain-is : g ≡ levelFrom top (countsOf counts) K total .gain) (times-is : t ≡ levelFrom top (countsOf counts) K total .times)
     where
-      pub level-small : (g ≤ 1024) × ((h : ℕ) → getD counts h 0 ≤ 1024)
+      pub level-small : (g ≤ maxLimit) × ((h : ℕ) → getD counts h 0 ≤ maxNodes)
       level-small =
-          let few : n ≤ 1024 = omega (arith, ready .within, front-length rests gains prevs (ready .earlier) c, ready .high, ready .short) in
+          let few : n ≤ maxNodes = omega (arith, ready .within, front-length rests gains prevs (ready .earlier) c, ready .high, ready .short) in
           (omega (arith, gain-is, level-le top (countsOf counts) K total, kept .top-high, ready .limit-high), λ h. omega (arith, kept-count kept h))
 
       pub marking-start : Marking rests gains prevs c n g t marks seconds marks seconds (getD counts g 0) n c
@@ -148,7 +149,7 @@ module _ {K c n : ℕ} {rests gains prevs marks seconds : List ℕ} (ready : Run
             laid = laid-none prevs c marks seconds;
             rest = ap (λ k. backRun g t k n (frontOf rests gains prevs c)) same;
             gainful = ready .gainful;
-            slots = ready .slots;
+            wide = ready .wide;
           }
 
       module _ {marks′ seconds′ : List ℕ} {before left next : ℕ} (m : Marking rests gains prevs c n g t marks seconds marks′ seconds′ before left next) where
@@ -184,7 +185,7 @@ module _ {K c n : ℕ} {rests gains prevs marks seconds : List ℕ} (ready : Run
               let gain : ℕ = getD gains next 0 in
               let ch : Choice = record { mark = lastMark (left - 1); second = takes g t before′ gain } in
               let laid-ch : Choice = record { mark = mark; second = eqb second 1 } in
-              let short : next < length seconds′ = omega (arith, m .slots, marking-high, ready .short) in
+              let short : next < length seconds′ = omega (arith, m .wide, marking-high, ready .short) in
               let same : laid-ch ≡ ch = choice-is mark second (lastMark (left - 1)) (takes g t before′ gain) a s in
               let alone : LaidRun prevs 1 next (laid-ch ∷ []) marks′ seconds′ (set marks′ (next - 1) mark) (set seconds′ next second) =
               laid-one prevs next marks′ seconds′ mark second marking-low (omega (arith, m .laid .long, marking-high)) short in
@@ -208,7 +209,7 @@ module _ {K c n : ℕ} {rests gains prevs marks seconds : List ℕ} (ready : Run
                     ∙ ap (λ l. m .choices ++ l) step
                     ∙ m .rest;
                 gainful = gainful-set gains seconds′ next second short (m .gainful) (λ e. takes-gain g t before′ gain none (second-taken (takes g t before′ gain) (sym s ∙ e)));
-                slots = simp length-set (m .slots);
+                wide = simp length-set (m .wide);
               }
 
         pub marking-end : left ≡ 0 → RunDone K c n rests gains prevs marks seconds marks′ seconds′ next
@@ -224,7 +225,7 @@ module _ {K c n : ℕ} {rests gains prevs marks seconds : List ℕ} (ready : Run
             ∙ ap (λ ms. reverse (runChoices begins ms)) (sym (run-level kept)) in
             record {
               laid = rw (all, whole) at (m .laid);
-              slots = m .slots;
+              wide = m .wide;
               gainful = m .gainful;
               next = rw all at (m .at);
             }

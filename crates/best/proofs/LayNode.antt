@@ -11,7 +11,7 @@ use lib.ListN.{length, getD, set, drop, length-drop, length-set}
 use lib.Dec.{eqb}
 use borrow.Author.Tests.{eqb-true}
 use Rattle.model.specs.Basics.{pick}
-use Rattle.model.specs.Table.{nodeCount, limitOf, weightAt}
+use Rattle.model.specs.Table.{maxNodes, maxLimit, slots, nodeCount, limitOf, weightAt}
 use Rattle.model.specs.Plan.{parentAt}
 use Rattle.model.specs.Steps.{Child, Choice, entryAt, secondStart}
 use Rattle.theory.specs.Cells.{pulled, rebuilt, Sane, Agrees, stayChoice, cellAt, cell-entry}
@@ -84,13 +84,13 @@ pub record Walking (t : List ℕ) (v : ℕ) (rests gains prevs lasts marks secon
   pub low : weightAt t v ≤ start
   pub high : start ≤ limitOf t
   pub gainful : Gainful gains seconds′
-  pub slots : length seconds′ ≡ 1025
+  pub wide : length seconds′ ≡ slots
 
 module _ {t : List ℕ} {v : ℕ} {rests gains prevs lasts xs marks seconds : List ℕ} (node : NodeReady t v rests gains prevs lasts xs marks seconds) where
-  pub limit-small : limitOf t ≤ 1024
+  pub limit-small : limitOf t ≤ maxLimit
   limit-small = node .ready .accepted .sound .limit-high
 
-  pub count-small : nodeCount t ≤ 1024
+  pub count-small : nodeCount t ≤ maxNodes
   count-small = node .ready .accepted .sound .count-high
 
   start-within : (b : Bool) → eqb (getD seconds v 0) 1 ≡ b
@@ -115,7 +115,7 @@ module _ {t : List ℕ} {v : ℕ} {rests gains prevs lasts xs marks seconds : Li
         low = s .0;
         high = s .1;
         gainful = node .gainful;
-        slots = node .slots;
+        wide = node .wide;
       }
 
   -- from the start as it is found
@@ -147,11 +147,11 @@ module _ {t : List ℕ} {v : ℕ} {rests gains prevs lasts xs marks seconds : Li
         let here : block ≡ blockAt (limitOf t) child = f ∙ ap (λ k. blockAt k child) e in
         omega (arith, block-apart (limitOf t) child (nodeCount t + 1) (omega (arith, walk-high)), node .ready .room, w .high, here, e)
 
-    pub block-small : (K block : ℕ) → K ≡ limitOf t → block ≡ blockAt K child → block + (K + 1) + start < 2200000
+    pub block-small : (K block : ℕ) → K ≡ limitOf t → block ≡ blockAt K child → block + (K + 1) + start < blockAt maxLimit slots
     block-small K block e f =
         let here : block ≡ blockAt (limitOf t) child = f ∙ ap (λ k. blockAt k child) e in
-        let most : child * (2 * (limitOf t + 1)) ≤ 1024 * 2050 =
-        mul-le-mul {n₁ = child} {m₁ = 2 * (limitOf t + 1)} {n₂ = 1024} {m₂ = 2050} (omega (arith, walk-high, count-small)) (omega (arith, limit-small)) in
+        let most : child * (2 * (limitOf t + 1)) ≤ maxNodes * (2 * (maxLimit + 1)) =
+        mul-le-mul {n₁ = child} {m₁ = 2 * (limitOf t + 1)} {n₂ = maxNodes} {m₂ = 2 * (maxLimit + 1)} (omega (arith, walk-high, count-small)) (omega (arith, limit-small)) in
         omega (arith, here, e, most, w .high, limit-small)
 
     real : (k : ℕ) → w .walked + k ≤ length (frontOf rests gains prevs (getD lasts v 0)) → Real prevs (w .walked + k) (getD lasts v 0)
@@ -214,7 +214,7 @@ module _ {t : List ℕ} {v : ℕ} {rests gains prevs lasts xs marks seconds : Li
               (chosen
               ∙ ap₂ (λ r ks. rebuilt (limitOf t) r ks start) zeroed shape
               ∙ rebuilt-stay (limitOf t) start (record { rest = getD rests child 0; gain = getD gains child 0 }) (frontOf rests gains prevs (getD prevs child 0))) in
-              let short : child < length seconds′ = omega (arith, walk-high, count-small, w .slots) in
+              let short : child < length seconds′ = omega (arith, walk-high, count-small, w .wide) in
               let fits : w .walked + 1 ≤ length (frontOf rests gains prevs (getD lasts v 0)) = omega (arith, left-long, ap length shape) in
               record {
                 walked = w .walked + 1;
@@ -228,7 +228,7 @@ module _ {t : List ℕ} {v : ℕ} {rests gains prevs lasts xs marks seconds : Li
                 low = omega (arith, w .low);
                 high = stay-fits;
                 gainful = gainful-set gains seconds′ child 0 short (w .gainful) (λ e. absurd (omega arith));
-                slots = simp length-set (w .slots);
+                wide = simp length-set (w .wide);
               }
 
         module _ (run : len ≡ 0 → ⊥) where
@@ -242,7 +242,7 @@ module _ {t : List ℕ} {v : ℕ} {rests gains prevs lasts xs marks seconds : Li
                 limit-high = limit-small;
                 high = omega (arith, walk-high, node .long, w .laid .long);
                 short = omega (arith, count-small, node .long, w .laid .long);
-                slots = w .slots;
+                wide = w .wide;
                 earlier = node .ready .earlier;
                 none = node .ready .none;
                 good = node .ready .good;
@@ -281,7 +281,7 @@ module _ {t : List ℕ} {v : ℕ} {rests gains prevs lasts xs marks seconds : Li
                   low = w .low;
                   high = w .high;
                   gainful = done .gainful;
-                  slots = done .slots;
+                  wide = done .wide;
                 }
 
     pub walk-end : child ≡ 0 → NodeDone t v rests gains prevs lasts marks seconds marks′ seconds′
@@ -294,7 +294,7 @@ module _ {t : List ℕ} {v : ℕ} {rests gains prevs lasts xs marks seconds : Li
         (λ j l. front-real rests gains prevs (node .ready .earlier) j (getD lasts v 0) (omega (arith, w .within))) in
         record {
           long = w .laid .long;
-          slots = w .slots;
+          wide = w .wide;
           gainful = w .gainful;
           chosen = sym all ∙ w .laid .chosen ∙ sym (append-nil (w .choices)) ∙ ap (λ l. w .choices ++ l) (sym none) ∙ w .rest;
           others = λ u low h. w .laid .others u low (λ i l e. h (parent u low i (kin-back t prevs (node .ready .before) (node .ready .none) v i (getD lasts v 0) (node .kin)) e));

@@ -5,11 +5,12 @@ use mathlib.Core.Path.{_≡_, refl, sym, _∙_, ap}
 use mathlib.Core.List.{List, [], _∷_}
 use native.Mathlib.Omega.{arith}
 use lib.ListN.{length, getD, set, drop, replicate, length-set, length-replicate}
+use Rattle.model.specs.Table.{maxNodes, maxLimit}
 use Rattle.theory.specs.Cells.{pulled, pulled-one}
 use Rattle.theory.specs.CellsFront.{frontOf, EachGood, childIn, front-cons, front-length}
 use Rattle.theory.specs.CellsRun.{Kept, kept-none, kept-more, kept-count, kept-gained, kept-total, back, back-le}
 use Rattle.best.specs.declared.run.Sums.{Sums}
-use Rattle.best.specs.Run.{joined}
+use Rattle.best.specs.Run.{gainSlots, joined}
 use Rattle.best.specs.Lay.{SumReady}
 use Rattle.best.proofs.LayRuns.{front-back, front-real}
 
@@ -17,45 +18,45 @@ use Rattle.best.proofs.LayRuns.{front-back, front-real}
 pub record Summing (rests gains prevs : List ℕ) (c n len total gained top : ℕ) (counts : List ℕ) (next : ℕ) : Type 0 where
   pub at : next ≡ back prevs len c
   pub below : len ≤ n
-  pub slots : length counts ≡ 1025
+  pub wide : length counts ≡ gainSlots
   pub kept : (K : ℕ) → EachGood K rests gains → Kept K (pulled len [] (frontOf rests gains prevs c)) len total gained top counts
 
 -- what joining the next member asks for
 pub record Room (rests gains : List ℕ) (len total gained : ℕ) (counts : List ℕ) (next : ℕ) : Type 0 where
   pub low : 1 ≤ next
-  pub high : next ≤ 1024
-  pub gain-high : getD gains next 0 < 1025
+  pub high : next ≤ maxNodes
+  pub gain-high : getD gains next 0 ≤ maxLimit
   pub count-high : getD counts (getD gains next 0) 0 < 65535
   pub len-high : len < 4294967295
   pub total-high : total + getD rests next 0 < 4294967296
   pub gained-high : gained + getD gains next 0 < 4294967296
 
 module _ {rests gains prevs : List ℕ} {c n : ℕ} (ready : SumReady c n rests gains prevs) where
-  pub sum-start : (counts : List ℕ) → counts ≡ replicate 1025 0 → Summing rests gains prevs c n 0 0 0 0 counts c
+  pub sum-start : (counts : List ℕ) → counts ≡ replicate gainSlots 0 → Summing rests gains prevs c n 0 0 0 0 counts c
   unfolding pulled back
   sum-start counts e =
       rw e
       (record {
         at = refl;
         below = omega arith;
-        slots = length-replicate {A = ℕ} 1025 0;
-        kept = λ K good. kept-none K 1025;
+        wide = length-replicate {A = ℕ} gainSlots 0;
+        kept = λ K good. kept-none K gainSlots;
       })
 
   module _ {len total gained top : ℕ} {counts : List ℕ} {next : ℕ} (s : Summing rests gains prevs c n len total gained top counts next) where
-    front-high : length (frontOf rests gains prevs c) ≤ 1024
+    front-high : length (frontOf rests gains prevs c) ≤ maxNodes
     front-high = omega (arith, front-length rests gains prevs (ready .earlier) c, ready .high)
 
-    pub next-high : next ≤ 1024
+    pub next-high : next ≤ maxNodes
     next-high = omega (arith, s .at, back-le prevs (ready .earlier) (ready .none) len c, ready .high)
 
     pub sum-room : len < n → Room rests gains len total gained counts next
     sum-room h =
-        let k = s .kept 1024 (ready .good) in
+        let k = s .kept maxLimit (ready .good) in
         let g = ready .good next in
-        let small : len ≤ 1024 = omega (arith, front-high, ready .within) in
+        let small : len ≤ maxNodes = omega (arith, front-high, ready .within) in
         let count = kept-count k (getD gains next 0) in
-        let sum : total ≤ len * 1024 = kept-total k (omega arith) in
+        let sum : total ≤ len * maxLimit = kept-total k (omega arith) in
         let gained-le : gained ≤ total = kept-gained k in
         let real : 1 ≤ next = rw (s .at) (front-real rests gains prevs (ready .earlier) len c (omega (arith, ready .within))) in
         record {
@@ -84,9 +85,9 @@ module _ {rests gains prevs : List ℕ} {c n : ℕ} (ready : SumReady c n rests 
         record {
           at = rw one (ap (λ u. getD prevs u 0) (s .at));
           below = omega arith;
-          slots = simp length-set (s .slots);
+          wide = simp length-set (s .wide);
           kept = λ K good.
-              let more = kept-more (s .kept K good) (childIn rests gains next) (good next) (omega (arith, r .gain-high, s .slots)) in
+              let more = kept-more (s .kept K good) (childIn rests gains next) (good next) (omega (arith, r .gain-high, s .wide)) in
               rw (ap (λ k. pulled k [] (frontOf rests gains prevs c)) one ∙ pull) more;
         }
 

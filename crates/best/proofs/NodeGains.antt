@@ -10,7 +10,7 @@ use lib.ListN.{length, getD, set}
 use lib.Dec.{ltb}
 use borrow.Author.Tests.{ltb-true, ltb-false, le-leb, lt-leb}
 use Rattle.model.specs.Basics.{pick}
-use Rattle.model.specs.Table.{nodeCount, limitOf, weightAt}
+use Rattle.model.specs.Table.{slots, nodeCount, limitOf, weightAt}
 use Rattle.model.specs.Steps.{secondStart}
 use Rattle.theory.specs.Cells.{page, GoodChild}
 use Rattle.theory.specs.CellsRun.{blockAt, block-apart}
@@ -63,6 +63,6 @@ module _ {t rests gains prevs lasts xs ys : List ℕ} {g : Bool} {v r : ℕ} (lo
         pub gain-fits : (gain : ℕ) → Gain gain → gain ≤ rest
         gain-fits gain e = good gain e .fits
 
-        pub node-planned : (gain : ℕ) → Gain gain → length rests ≡ 1025 → length gains ≡ 1025 → length lasts ≡ 1025
+        pub node-planned : (gain : ℕ) → Gain gain → length rests ≡ slots → length gains ≡ slots → length lasts ≡ slots
             → Planned t g (v - 1) (set rests v rest) (set gains v gain) prevs (set lasts v r) ys
         node-planned gain e = planned-step low high p f rest gain (figure gain e)

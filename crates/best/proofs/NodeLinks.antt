@@ -9,7 +9,7 @@ use lib.ListN.{length, getD, set, replicate, length-set, length-replicate}
 use lib.Seq.{getD-set-same, getD-set-other}
 use lib.Dec.{eqb}
 use borrow.Author.Tests.{eqb-true, eqb-false}
-use Rattle.model.specs.Table.{nodeCount, nextAt}
+use Rattle.model.specs.Table.{slots, nodeCount, nextAt}
 use Rattle.model.specs.Plan.{prevAt}
 use Rattle.theory.specs.Sound.{AcceptedFacts}
 use Rattle.theory.specs.Links.{prevAt-less, prevAt-next, next-prev, next-later, next-le}
@@ -23,20 +23,20 @@ zeros n u = let l : getD {A = ℕ} (replicate n 0) u 0 ≤ 0 = kept-count (kept-
 
 -- the links from the nodes 1 to v are kept
 pub record Linking (t : List ℕ) (v : ℕ) (prevs : List ℕ) : Type 0 where
-  pub long : length prevs ≡ 1025
+  pub long : length prevs ≡ slots
   pub seen : (u : ℕ) → 1 ≤ u → u ≤ nodeCount t → prevAt t u ≤ v → getD prevs u 0 ≡ prevAt t u
   pub earlier : Earlier prevs
 
-pub linking-start : (t : List ℕ) → Linking t 0 (replicate 1025 0)
+pub linking-start : (t : List ℕ) → Linking t 0 (replicate slots 0)
 linking-start t =
     record {
-      long = length-replicate {A = ℕ} 1025 0;
-      seen = λ u low high h. let z : prevAt t u ≡ 0 = omega arith in zeros 1025 u ∙ sym z;
-      earlier = λ u low. omega (arith, zeros 1025 u);
+      long = length-replicate {A = ℕ} slots 0;
+      seen = λ u low high h. let z : prevAt t u ≡ 0 = omega arith in zeros slots u ∙ sym z;
+      earlier = λ u low. omega (arith, zeros slots u);
     }
 
 module _ {t : List ℕ} (a : AcceptedFacts t) where
-  pub next-fits : (v : ℕ) → 1 ≤ v → v ≤ nodeCount t → nextAt t v < 1025
+  pub next-fits : (v : ℕ) → 1 ≤ v → v ≤ nodeCount t → nextAt t v < slots
   next-fits v low high = omega (arith, next-le (a .sound) v low high, a .sound .count-high)
 
   pub linking-turn : (v x : ℕ) (prevs : List ℕ) → v < nodeCount t → x ≡ nextAt t (v + 1) → Linking t v prevs

@@ -6,7 +6,7 @@ use mathlib.Core.List.{List, []}
 use native.Mathlib.Omega.{arith}
 use native.Mathlib.Nat.{mul-le-mul}
 use lib.ListN.{length, replicate}
-use Rattle.model.specs.Table.{nodeCount, limitOf}
+use Rattle.model.specs.Table.{slots, nodeCount, limitOf}
 use Rattle.model.specs.Refusals.{scratchWords}
 use Rattle.theory.specs.Sound.{AcceptedFacts}
 use Rattle.theory.specs.Cells.{cellAt}
@@ -29,11 +29,11 @@ first-fits N K low =
     omega (arith, m, scratch-fits N K low)
 
 pub starts-ready : {t prevs xs ys : List ℕ} (K : ℕ) → AcceptedFacts t → scratchWords (nodeCount t) (limitOf t) ≤ length xs → Linked t prevs → K ≡ limitOf t
-    → Swept K 0 0 (λ s. cellAt K [] s) xs ys → Ready t (replicate 1025 0) (replicate 1025 0) prevs ys
+    → Swept K 0 0 (λ s. cellAt K [] s) xs ys → Ready t (replicate slots 0) (replicate slots 0) prevs ys
 starts-ready {t} K a words l limit w =
     record {
       accepted = a;
-      good = λ u. record { light = omega (arith, zeros 1025 u); fits = omega (arith, zeros 1025 u) };
+      good = λ u. record { light = omega (arith, zeros slots u); fits = omega (arith, zeros slots u) };
       before = l .before;
       earlier = l .earlier;
       none = l .none;

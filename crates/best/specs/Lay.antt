@@ -7,7 +7,7 @@ use mathlib.Core.List.{List, [], reverse}
 use lib.ListN.{length, getD}
 use lib.Dec.{eqb}
 use Rattle.model.specs.Basics.{pick}
-use Rattle.model.specs.Table.{nodeCount, limitOf, weightAt}
+use Rattle.model.specs.Table.{maxNodes, maxLimit, slots, nodeCount, limitOf, weightAt}
 use Rattle.model.specs.Plan.{begins, parentAt}
 use Rattle.model.specs.Steps.{Child, Choice, runOf, runChoices, entryAt, secondStart}
 use Rattle.theory.specs.Cells.{pulled}
@@ -29,17 +29,17 @@ Gainful gains seconds = (u : ℕ) → getD seconds u 0 ≡ 1 → 1 ≤ getD gain
 
 -- node c has n - 1 siblings before it, at least
 pub record SumReady (c n : ℕ) (rests gains prevs : List ℕ) : Type 0 where
-  pub high : c ≤ 1024
+  pub high : c ≤ maxNodes
   pub earlier : Earlier prevs
   pub none : getD prevs 0 0 ≡ 0
-  pub good : EachGood 1024 rests gains
+  pub good : EachGood maxLimit rests gains
   pub within : n ≤ length (frontOf rests gains prevs c)
 
 pub record RunReady (K c n : ℕ) (rests gains prevs marks seconds : List ℕ) : Type 0 where
-  pub limit-high : K ≤ 1024
+  pub limit-high : K ≤ maxLimit
   pub high : c ≤ length marks
-  pub short : length marks ≤ 1024
-  pub slots : length seconds ≡ 1025
+  pub short : length marks ≤ maxNodes
+  pub wide : length seconds ≡ slots
   pub earlier : Earlier prevs
   pub none : getD prevs 0 0 ≡ 0
   pub good : EachGood K rests gains
@@ -49,7 +49,7 @@ pub record RunReady (K c n : ℕ) (rests gains prevs marks seconds : List ℕ) :
 -- the run is laid, and r is the sibling before it
 pub record RunDone (K c n : ℕ) (rests gains prevs marks seconds marks′ seconds′ : List ℕ) (r : ℕ) : Type 0 where
   pub laid : LaidRun prevs n c (runBack K n (frontOf rests gains prevs c)) marks seconds marks′ seconds′
-  pub slots : length seconds′ ≡ 1025
+  pub wide : length seconds′ ≡ slots
   pub gainful : Gainful gains seconds′
   pub next : r ≡ back prevs n c
 
@@ -68,13 +68,13 @@ pub record NodeReady (t : List ℕ) (v : ℕ) (rests gains prevs lasts xs marks 
   pub columns : ColumnsBack (limitOf t) (weightAt t v) rests gains prevs xs (getD lasts v 0)
   pub second : 1 ≤ getD gains v 0 → secondStart (limitOf t) (weightAt t v) (getD rests v 0) ≤ limitOf t
   pub long : length marks ≡ nodeCount t
-  pub slots : length seconds ≡ 1025
+  pub wide : length seconds ≡ slots
   pub gainful : Gainful gains seconds
 
 -- what becomes of v's children is what its plan chose, and nothing else is changed
 pub record NodeDone (t : List ℕ) (v : ℕ) (rests gains prevs lasts marks seconds marks′ seconds′ : List ℕ) : Type 0 where
   pub long : length marks′ ≡ length marks
-  pub slots : length seconds′ ≡ 1025
+  pub wide : length seconds′ ≡ slots
   pub gainful : Gainful gains seconds′
   pub chosen : choicesBack t (chosenIn marks′ seconds′) (getD lasts v 0)
       ≡ entryAt (limitOf t) (frontOf rests gains prevs (getD lasts v 0))

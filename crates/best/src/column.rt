@@ -1,17 +1,17 @@
 // The column of a child: at each start the best of the candidates, in the listed order. A word has a count and a rest, and a smaller
 // word is a smaller count, or the same count and a smaller rest. Beside each word stands the length of the run that won, 0 where the
 // child stays.
+use crate::run::GAINS;
 use crate::run::Sums;
 use crate::run::join;
+use table::SLOTS;
 ghost use mathlib.Core.Path.{_≡_};
 ghost use Prim.Native.Nat.{ℕ, _+_, _*_, _≤_, _<_};
 ghost use lib.ListN.{length, getD};
+ghost use Rattle.model.specs.Table.{maxNodes, maxLimit};
 ghost use Rattle.theory.specs.Cells.{cellAt, lower, stayCell};
 ghost use Rattle.theory.specs.CellsFront.{cellIn, frontOf, Swept};
 ghost use Rattle.theory.specs.CellsRun.{blockAt, Fillable};
-
-// A place for each node by number, and one for 0.
-pub const SLOTS: usize = 1025;
 
 // What one page counts in a word.
 pub const PAGE: u32 = 65536;
@@ -21,7 +21,7 @@ const NO_WORD: u32 = 4294967295;
 
 // Where the block of node v begins.
 pub fn block_at(limit: usize, v: usize) -> usize
-    requires { ⌜ (limit ≤ 1024) × (v ≤ 1025) ⌝ }
+    requires { ⌜ (limit ≤ maxLimit) × (v ≤ maxNodes) ⌝ }
     ensures { λ r. ⌜ r ≡ blockAt limit v ⌝ }
 {
     v * (2 * (limit + 1))
@@ -29,7 +29,7 @@ pub fn block_at(limit: usize, v: usize) -> usize
 
 // The child stays, where start and rest are at most the limit: `before` is the block of the children before it.
 fn stay(words: &mut [u32], here: usize, before: usize, start: usize, limit: usize, rest: usize)
-    requires { ⌜ (limit ≤ 1024) × (rest ≤ 1024) × (start ≤ 1024) × (before + 2 * (limit + 1) ≤ here) × (here + 2 * (limit + 1) ≤ length (now words)) ⌝ }
+    requires { ⌜ (limit ≤ maxLimit) × (rest ≤ maxLimit) × (start ≤ maxLimit) × (before + 2 * (limit + 1) ≤ here) × (here + 2 * (limit + 1) ≤ length (now words)) ⌝ }
     ensures { λ r. ⌜ Swept limit start here (λ s. stayCell limit s rest (getD (now (words .entry)) (before + (s + rest)) 0)) (now (words .entry)) (now (words .exit)) ⌝ }
 {
     let mut s = start;
@@ -55,7 +55,7 @@ fn relax(
     added: u32,
     len: u32,
 )
-    requires { ⌜ (limit ≤ 1024) × (start ≤ 1024) × (before + 2 * (limit + 1) ≤ here) × (here + 2 * (limit + 1) ≤ length (now words))
+    requires { ⌜ (limit ≤ maxLimit) × (start ≤ maxLimit) × (before + 2 * (limit + 1) ≤ here) × (here + 2 * (limit + 1) ≤ length (now words))
         × ((s : ℕ) → start ≤ s → s ≤ limit → getD (now words) (before + s) 0 + added < 4294967296) ⌝ }
     ensures { λ r. ⌜ Swept limit start here (λ s. lower (getD (now (words .entry)) (before + s) 0 + added) len (cellIn (now (words .entry)) limit here s)) (now (words .entry)) (now (words .exit)) ⌝ }
 {
@@ -86,7 +86,7 @@ pub fn fill_column(
     let here = block_at(limit, child);
     let first = block_at(limit, prevs[child] as usize);
     stay(words, here, first, start, limit, rests[child] as usize);
-    let mut counts = [0u16; SLOTS];
+    let mut counts = [0u16; GAINS];
     let mut sums = Sums {
         len: 0,
         total: 0,

@@ -1,8 +1,9 @@
 // Marks are laid from the root down: a child follows its second plan where a chosen run took it, else its best plan.
-use crate::column::SLOTS;
 use crate::column::block_at;
+use crate::run::GAINS;
 use crate::run::Sums;
 use crate::run::join;
+use table::SLOTS;
 use table::words::limit_of;
 use table::words::node_count;
 use table::words::weight_at;
@@ -13,7 +14,7 @@ ghost use Prim.Native.Nat.{ℕ, _≤_};
 ghost use lib.Dec.{eqb};
 ghost use lib.ListN.{length, getD, replicate};
 ghost use Rattle.model.specs.Basics.{pick};
-ghost use Rattle.model.specs.Table.{nodeCount, limitOf, weightAt, treeOf};
+ghost use Rattle.model.specs.Table.{maxNodes, maxLimit, nodeCount, limitOf, weightAt, treeOf};
 ghost use Rattle.model.specs.Steps.{layMarks, rootChoice};
 ghost use Rattle.theory.specs.Cells.{pulled};
 ghost use Rattle.theory.specs.CellsFront.{frontOf, EachGood};
@@ -21,6 +22,7 @@ ghost use Rattle.theory.specs.CellsLay.{takes, lastMark};
 ghost use Rattle.theory.specs.CellsPlan.{Planned};
 ghost use Rattle.theory.specs.CellsRun.{countsOf, Kept};
 ghost use Rattle.theory.specs.ReduceLevel.{levelFrom};
+ghost use Rattle.best.specs.Run.{gainSlots};
 ghost use Rattle.best.specs.Lay.{SumReady, RunReady, RunDone, startOf, NodeReady, NodeDone};
 
 // Of a run's gains those above `gain` are taken, and of those at `gain` the earliest `times`.
@@ -30,8 +32,8 @@ struct Level {
 }
 
 // The level at which the sum of a run has room, from how many members have each gain.
-fn find_level(counts: &[u16; SLOTS], top: u16, total: u32, limit: u32) -> Level
-    requires { ⌜ (top ≤ limit) × (limit ≤ 1024) × ((h : ℕ) → getD (now counts) h 0 ≤ 1024) ⌝ }
+fn find_level(counts: &[u16; GAINS], top: u16, total: u32, limit: u32) -> Level
+    requires { ⌜ (top ≤ limit) × (limit ≤ maxLimit) × ((h : ℕ) → getD (now counts) h 0 ≤ maxNodes) ⌝ }
     ensures { λ r. ⌜ (r .gain ≡ levelFrom top (countsOf (now (counts .entry))) limit total .gain) × (r .times ≡ levelFrom top (countsOf (now (counts .entry))) limit total .times) ⌝ }
 {
     let mut gain = top;
@@ -60,11 +62,11 @@ fn sum_run(
     prevs: &[u16; SLOTS],
     rests: &[u16; SLOTS],
     gains: &[u16; SLOTS],
-    counts: &mut [u16; SLOTS],
+    counts: &mut [u16; GAINS],
     child: usize,
     len: u32,
 ) -> Sums
-    requires { ⌜ SumReady child len (now rests) (now gains) (now prevs) × (now counts ≡ replicate 1025 0) ⌝ }
+    requires { ⌜ SumReady child len (now rests) (now gains) (now prevs) × (now counts ≡ replicate gainSlots 0) ⌝ }
     ensures { λ r. ⌜ ((K : ℕ) → EachGood K (now (rests .entry)) (now (gains .entry))
         → Kept K (pulled len [] (frontOf (now (rests .entry)) (now (gains .entry)) (now (prevs .entry)) child)) len (r .total) (r .gained) (r .top) (now (counts .exit))) ⌝ }
 {
@@ -116,7 +118,7 @@ fn lay_run(
     requires { ⌜ RunReady limit child len (now rests) (now gains) (now prevs) (now marks) (now seconds) ⌝ }
     ensures { λ r. ⌜ RunDone limit child len (now (rests .entry)) (now (gains .entry)) (now (prevs .entry)) (now (marks .entry)) (now (seconds .entry)) (now (marks .exit)) (now (seconds .exit)) r ⌝ }
 {
-    let mut counts = [0u16; SLOTS];
+    let mut counts = [0u16; GAINS];
     let sums = sum_run(prevs, rests, gains, &mut counts, child, len);
     let level = find_level(&counts, sums.top, sums.total, limit as u32);
     let mut before = counts[level.gain as usize];
@@ -143,7 +145,7 @@ fn start_of(
     limit: usize,
     v: u16,
 ) -> usize
-    requires { ⌜ (limit ≤ 1024) × (v ≤ 1024) × (getD (now rests) v 0 ≤ limit) ⌝ }
+    requires { ⌜ (limit ≤ maxLimit) × (v ≤ maxNodes) × (getD (now rests) v 0 ≤ limit) ⌝ }
     ensures { λ r. ⌜ r ≡ startOf limit (weightAt (now (table .entry)) v) (getD (now (rests .entry)) v 0) (eqb (getD (now (seconds .entry)) v 0) 1) ⌝ }
 {
     let weight = weight_at(table, v) as usize;

@@ -4,11 +4,11 @@ mod lay;
 mod node;
 mod run;
 
-use column::SLOTS;
 use lay::lay_nodes;
 use node::link_before;
 use node::open_block;
 use node::plan_nodes;
+use table::SLOTS;
 use table::words::limit_of;
 ghost use mathlib.Core.Path.{_≡_};
 ghost use Prim.Native.Nat.{_≤_};

@@ -1,8 +1,8 @@
 // The nodes from the last to the first: the columns of each node's children, and the figures that its parent sees.
 use crate::column::PAGE;
-use crate::column::SLOTS;
 use crate::column::block_at;
 use crate::column::fill_column;
+use table::SLOTS;
 use table::words::first_at;
 use table::words::limit_of;
 use table::words::next_at;
@@ -12,7 +12,7 @@ ghost use mathlib.Core.Path.{_≡_};
 ghost use mathlib.Core.List.{[]};
 ghost use Prim.Native.Nat.{_+_, _-_, _*_, _%_, _≤_};
 ghost use lib.ListN.{length, getD};
-ghost use Rattle.model.specs.Table.{nodeCount};
+ghost use Rattle.model.specs.Table.{maxLimit, slots, nodeCount};
 ghost use Rattle.model.specs.Steps.{secondStart};
 ghost use Rattle.theory.specs.Sound.{AcceptedFacts};
 ghost use Rattle.theory.specs.Cells.{page, cellAt};
@@ -39,7 +39,7 @@ pub fn link_before(table: &[u8]) -> [u16; SLOTS]
 
 // The column of no child: nothing is counted, and the rest is the start.
 pub fn open_block(words: &mut [u32], limit: usize)
-    requires { ⌜ (limit ≤ 1024) × (2 * (limit + 1) ≤ length (now words)) ⌝ }
+    requires { ⌜ (limit ≤ maxLimit) × (2 * (limit + 1) ≤ length (now words)) ⌝ }
     ensures { λ r. ⌜ Swept limit 0 0 (λ s. cellAt limit [] s) (now (words .entry)) (now (words .exit)) ⌝ }
 {
     let mut s: usize = 0;
@@ -90,7 +90,7 @@ fn gain_in(
     weight: usize,
     rest: usize,
 ) -> usize
-    requires { ⌜ (limit ≤ 1024) × (weight ≤ limit) × (rest ≤ limit) × (here + 2 * (limit + 1) ≤ length (now words)) ⌝ }
+    requires { ⌜ (limit ≤ maxLimit) × (weight ≤ limit) × (rest ≤ limit) × (here + 2 * (limit + 1) ≤ length (now words)) ⌝ }
     ensures { λ r. ⌜ r ≡ gainFrom gainful limit weight rest (getD (now (words .entry)) (here + secondStart limit weight rest) 0 % page) ⌝ }
 {
     let second = weight + (limit - rest) + 1;
@@ -113,9 +113,9 @@ fn plan_node(
     v: u16,
 )
     requires { ⌜ Planned (now table) gainful v (now rests) (now gains) (now prevs) (now lasts) (now words) × (1 ≤ v) × (v ≤ nodeCount (now table))
-        × (length (now rests) ≡ 1025) × (length (now gains) ≡ 1025) × (length (now lasts) ≡ 1025) ⌝ }
+        × (length (now rests) ≡ slots) × (length (now gains) ≡ slots) × (length (now lasts) ≡ slots) ⌝ }
     ensures { λ r. ⌜ Planned (now (table .entry)) gainful (v - 1) (now (rests .exit)) (now (gains .exit)) (now (prevs .entry)) (now (lasts .exit)) (now (words .exit))
-        × (length (now (rests .exit)) ≡ 1025) × (length (now (gains .exit)) ≡ 1025) × (length (now (lasts .exit)) ≡ 1025) ⌝ }
+        × (length (now (rests .exit)) ≡ slots) × (length (now (gains .exit)) ≡ slots) × (length (now (lasts .exit)) ≡ slots) ⌝ }
 {
     let limit = limit_of(table) as usize;
     let weight = weight_at(table, v) as usize;
@@ -139,7 +139,7 @@ pub fn plan_nodes(
     words: &mut [u32],
 )
     requires { ⌜ Ready (now table) (now rests) (now gains) (now prevs) (now words)
-        × (length (now rests) ≡ 1025) × (length (now gains) ≡ 1025) × (length (now lasts) ≡ 1025) ⌝ }
+        × (length (now rests) ≡ slots) × (length (now gains) ≡ slots) × (length (now lasts) ≡ slots) ⌝ }
     ensures { λ r. ⌜ Planned (now (table .entry)) gainful 0 (now (rests .exit)) (now (gains .exit)) (now (prevs .entry)) (now (lasts .exit)) (now (words .exit)) ⌝ }
 {
     let mut v = node_count(table);

@@ -10,7 +10,7 @@ use lib.ListN.{length, getD, set, replicate, getD-replicate}
 use lib.Seq.{getD-set-same, getD-set-other}
 use borrow.Author.Tests.{eqb-true, eqb-false, eq-eqb, ne-eqb}
 use Rattle.model.specs.Basics.{pick, when, atPlace, sumTo, countTo, firstTo, lastTo}
-use Rattle.model.specs.Table.{maxLimit, slots, nodeCount, limitOf, weightAt, nextAt}
+use Rattle.model.specs.Table.{maxNodes, maxLimit, slots, nodeCount, limitOf, weightAt, nextAt}
 use Rattle.model.specs.Plan.{prevAt, parentAt, markAt, hasMark, begins, inRun, goodMark, pageOf, pageCount, pageWeight, badMark, heavyPage}
 use Rattle.model.specs.declared.Place.{Place}
 use Rattle.model.specs.declared.Place.the-variants.{At, Nowhere}
@@ -254,7 +254,7 @@ module _ {t m : List ℕ} {v : ℕ} {before parents page weights : List ℕ} {pa
   pub page-fits : (p : ℕ) → p ≡ pageOf t m (v + 1) → p < slots
   page-fits p e = omega (arith, e, pageOf-le t m (v + 1), a .sound .count-high)
 
-  pub sum-fits : (p : ℕ) → p ≡ pageOf t m (v + 1) → getD weights p 0 ≤ 1048576
+  pub sum-fits : (p : ℕ) → p ≡ pageOf t m (v + 1) → getD weights p 0 ≤ maxNodes * maxLimit
   sum-fits p e = omega (arith, h .weighed p (page-fits p e), weight-most a m v p (omega arith), a .sound .count-high)
 
   pub pass-turn : (mark parent next p w x : ℕ) (good : Bool) (prior : ℕ) (bad′ : Place) → length before ≡ slots → length parents ≡ slots

@@ -13,6 +13,7 @@ use lib.ListN.{length, length-map, length-drop, drop}
 use lib.Dec.{eqb, ltb, leb}
 use borrow.Author.Tests.{ltb-true, ltb-false, leb-true, leb-false, eqb-true, eqb-false, lt-ltb, le-ltb, le-leb, eq-eqb, ne-eqb}
 use Rattle.model.specs.Basics.{pick}
+use Rattle.model.specs.Table.{maxNodes}
 use Rattle.model.specs.Plan.{stays, begins}
 use Rattle.model.specs.Steps.{
   Member,
@@ -328,11 +329,11 @@ pulled-within r js k ks e = omega (arith, ap length e, length-drop r js)
 -- ---- The cell of an entry
 
 abbrev CellEntry : ℕ → List Child → Type 0
-CellEntry K ks = (s : ℕ) → s ≤ K → Good K ks → length ks ≤ 1024 → Agrees K s ks (entryAt K ks s) (cellAt K ks s)
+CellEntry K ks = (s : ℕ) → s ≤ K → Good K ks → length ks ≤ maxNodes → Agrees K s ks (entryAt K ks s) (cellAt K ks s)
 
 abbrev OnwardEntry : ℕ → List Child → Type 0
 OnwardEntry K ks =
-    (s : ℕ) → s ≤ K → Good K ks → length ks ≤ 1024 → (first : Child) (before : List Child) (r : ℕ) (run : List Child) (e : Entry) (c : Cell)
+    (s : ℕ) → s ≤ K → Good K ks → length ks ≤ maxNodes → (first : Child) (before : List Child) (r : ℕ) (run : List Child) (e : Entry) (c : Cell)
     → Pulled first before r run ks → Agrees K s (first ∷ before) e c
     → Agrees K s (first ∷ before) (leastOf e (stretched K s run ks)) (onward K s run (suc r) ks c)
 
@@ -366,7 +367,7 @@ stayed f = record { count = f .count; rest = f .rest; choices = stayChoice ∷ f
 ran : List Member → Entry → Entry
 ran ms f = record { count = f .count + 1 + takenCount ms; rest = f .rest; choices = reverse (runChoices begins ms) ++ f .choices }
 
-module _ (K : ℕ) (small : K < page) (k : Child) (ks : List Child) (s : ℕ) (high : s ≤ K) (light : k .rest ≤ K) (short : length (k ∷ ks) ≤ 1024) where
+module _ (K : ℕ) (small : K < page) (k : Child) (ks : List Child) (s : ℕ) (high : s ≤ K) (light : k .rest ≤ K) (short : length (k ∷ ks) ≤ maxNodes) where
   alone : Pulled k ks 0 (k ∷ []) ks
   unfolding pulled
   alone = record { gone = refl; left = refl }
@@ -450,6 +451,6 @@ module _ (K : ℕ) (small : K < page) where
               (run-agrees K s (first ∷ before) (runOf K (k ∷ run)) (suc (suc r)) (entryAt K ks s) (cellAt K ks s .word) small (base .word) (base .high)
               (chosen-run K s (suc r) first before (k ∷ run) ks next) (pulled-within r before k ks (p .left)) e c a))
 
-pub cell-entry : (K : ℕ) → K < page → (ks : List Child) (s : ℕ) → s ≤ K → Good K ks → length ks ≤ 1024
+pub cell-entry : (K : ℕ) → K < page → (ks : List Child) (s : ℕ) → s ≤ K → Good K ks → length ks ≤ maxNodes
     → Agrees K s ks (entryAt K ks s) (cellAt K ks s)
 cell-entry K small ks = both-cells K small ks .0

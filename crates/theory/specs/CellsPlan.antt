@@ -13,7 +13,7 @@ use lib.Seq.{getD-set-same, getD-set-other}
 use lib.Dec.{eqb, leb}
 use borrow.Author.Tests.{eqb-true, eqb-false, leb-true}
 use Rattle.model.specs.Basics.{pick}
-use Rattle.model.specs.Table.{nodeCount, limitOf, weightAt, firstAt}
+use Rattle.model.specs.Table.{maxNodes, maxLimit, slots, nodeCount, limitOf, weightAt, firstAt}
 use Rattle.model.specs.Plan.{parentFrom, parentAt}
 use Rattle.model.specs.Steps.{Child, Entry, entryAt, secondStart, gainOf, childOf, childrenOf}
 use Rattle.theory.specs.Sound.{SoundFacts, AcceptedFacts}
@@ -73,7 +73,7 @@ module _ {t rests gains prevs lasts xs ys : List ℕ} {g : Bool} {v r : ℕ} (lo
     light : weightAt t v ≤ limitOf t
     light = p .ready .accepted .light v low high
 
-    small : limitOf t ≤ 1024
+    small : limitOf t ≤ maxLimit
     small = p .ready .accepted .sound .limit-high
 
     same-front : (u : ℕ) → Kin t v u → frontOf rests gains prevs u ≡ frontAt t g u
@@ -86,7 +86,7 @@ module _ {t rests gains prevs lasts xs ys : List ℕ} {g : Bool} {v r : ℕ} (lo
     good-front : Good (limitOf t) (frontAt t g r)
     good-front = rw (same-front r (f .kin)) at (front-good (limitOf t) rests gains prevs (p .ready .good) r)
 
-    short-front : length (frontAt t g r) ≤ 1024
+    short-front : length (frontAt t g r) ≤ maxNodes
     short-front =
         let l : length (frontOf rests gains prevs r) ≤ r = front-length rests gains prevs (p .ready .earlier) r in
         let m : length (frontAt t g r) ≤ r = rw (same-front r (f .kin)) at l in
@@ -141,9 +141,9 @@ parent-none t = refl
 module _ {t rests gains prevs lasts xs ys : List ℕ} {g : Bool} {v r : ℕ} (low : 1 ≤ v) (high : v ≤ nodeCount t)
     (p : Planned t g v rests gains prevs lasts xs) (f : Filled t rests gains prevs v r xs ys)
     (rest gain : ℕ) (figure : record { rest = rest; gain = gain } ≡ figureAt t g v)
-    (long-rests : length rests ≡ 1025) (long-gains : length gains ≡ 1025) (long-lasts : length lasts ≡ 1025)
+    (long-rests : length rests ≡ slots) (long-gains : length gains ≡ slots) (long-lasts : length lasts ≡ slots)
   where
-    below : v < 1025
+    below : v < slots
     below = omega (arith, p .ready .accepted .sound .count-high)
 
     child-is : (u : ℕ) → childIn (set rests v rest) (set gains v gain) u ≡ pick (eqb u v) (record { rest = rest; gain = gain }) (childIn rests gains u)

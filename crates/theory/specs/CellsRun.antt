@@ -14,6 +14,7 @@ use lib.Seq.{getD-set-same, getD-set-other}
 use lib.Dec.{eqb, leb}
 use borrow.Author.Tests.{eqb-true, eqb-false, leb-true, leb-false, le-leb, lt-leb, eq-eqb, ne-eqb}
 use Rattle.model.specs.Basics.{pick}
+use Rattle.model.specs.Table.{maxNodes, maxLimit}
 use Rattle.model.specs.Steps.{Member, Child, restSum, gainSum, takenCount, largestGain, asMember, runOf, reduce, lightest, stopsAt, entryAt}
 use Rattle.theory.specs.Ranges.{pick-true, pick-false}
 use Rattle.theory.specs.Reduce.{Each, GainFits, sumOf, leastSum, reduce-least, least-gain}
@@ -106,10 +107,10 @@ module _ {K : ℕ} {run : List Child} {len total gained top : ℕ} {counts : Lis
   pub kept-gained : gained ≤ total
   kept-gained = omega (arith, total-high K run (kept .good) .0, kept .total-is, kept .gained-is)
 
-  pub kept-total : K ≤ 1024 → total ≤ len * 1024
+  pub kept-total : K ≤ maxLimit → total ≤ len * maxLimit
   kept-total h =
       let a : restSum (members run) ≤ length run * K = total-high K run (kept .good) .1 in
-      let b : K * length run ≤ 1024 * length run = mul-le-mul-right (length run) h in
+      let b : K * length run ≤ maxLimit * length run = mul-le-mul-right (length run) h in
       omega (arith, a, b, kept .total-is, kept .long)
 
   -- one more child on the left
@@ -280,8 +281,11 @@ back-le prevs earlier z (suc n) u = go (eqb (back prevs n u) 0) refl (back-le pr
 abbrev pub ColumnWords : ℕ → ℕ → List ℕ → ℕ → List Child → Type 0
 ColumnWords K start xs here ks = (s : ℕ) → start ≤ s → s ≤ K → getD xs (here + s) 0 ≡ cellAt K ks s .word
 
--- a cell's word leaves room for what a run adds
-pub word-small : (K : ℕ) → K ≤ 1024 → (ks : List Child) (s : ℕ) → s ≤ K → Good K ks → length ks ≤ 1024 → cellAt K ks s .word < 200000000
+-- above the word of every cell: at most two pages a child, and a rest below a page
+abbrev pub wordEnd : ℕ
+wordEnd = (2 * maxNodes + 1) * page
+
+pub word-small : (K : ℕ) → K ≤ maxLimit → (ks : List Child) (s : ℕ) → s ≤ K → Good K ks → length ks ≤ maxNodes → cellAt K ks s .word < wordEnd
 word-small K h ks s high good short =
     let a = cell-entry K (omega arith) ks s high good short in
     omega (arith, a .word, a .high, entry-within K ks s high .count-high)
@@ -289,8 +293,8 @@ word-small K h ks s high good short =
 -- the columns of the siblings before node c are in the block of each, and the block of c is within the words
 pub record Fillable (K start c : ℕ) (rests gains prevs xs : List ℕ) : Type 0 where
   pub node-low : 1 ≤ c
-  pub node-high : c ≤ 1024
-  pub limit-high : K ≤ 1024
+  pub node-high : c ≤ maxNodes
+  pub limit-high : K ≤ maxLimit
   pub room : blockAt K c + 2 * (K + 1) ≤ length xs
   pub earlier : Earlier prevs
   pub none : getD prevs 0 0 ≡ 0

@@ -5,6 +5,7 @@ use Rattle.best.proofs.column.block_at.Tie as tie
 use Prim.Native.Nat.{ℕ, _+_, _*_, _≤_}
 use native.Mathlib.Omega.{arith}
 use native.Mathlib.Nat.{mul-le-mul}
+use Rattle.model.specs.Table.{maxNodes, maxLimit}
 
 add-result : tie.Need-add-result
 add-result c = search needs
@@ -16,7 +17,7 @@ mul-result-2 : tie.Need-mul-result-2
 mul-result-2 c =
     let k : ℕ = c .args .limit in
     let v : ℕ = c .args .v in
-    let fits : v * (2 * (k + 1)) ≤ 1025 * 2050 = mul-le-mul {n₁ = v} {m₁ = 2 * (k + 1)} {n₂ = 1025} {m₂ = 2050} (omega arith) (omega arith) in
+    let fits : v * (2 * (k + 1)) ≤ maxNodes * (2 * (maxLimit + 1)) = mul-le-mul {n₁ = v} {m₁ = 2 * (k + 1)} {n₂ = maxNodes} {m₂ = 2 * (maxLimit + 1)} (omega arith) (omega arith) in
     search needs
 
 returns : tie.Need-returns

@@ -5,6 +5,7 @@ use borrow.Author.Needs.{needs}
 use native.Mathlib.Omega.{arith}
 use Prim.Native.Nat.{ℕ, _+_, _-_, _*_, _≤_}
 use lib.ListN.{getD}
+use Rattle.model.specs.Table.{slots}
 use Rattle.best.proofs.ColumnRuns.{
   Stretch,
   Joins,
@@ -39,7 +40,7 @@ Inv-loop words rests gains prevs child start limit here first counts sums next s
 
 abbrev μ-loop : tie.MeasureT-loop
 μ-loop words rests gains prevs child start limit here first counts sums next sum₀ taken₀ gain₀ left₀ sum taken gain left =
-    gain * 1025 + left
+    gain * slots + left
 
 abbrev Inv-stretch : tie.InvT-stretch
 Inv-stretch words₀ rests gains prevs child start limit here first counts₀ sums₀ next₀ words counts sums next =

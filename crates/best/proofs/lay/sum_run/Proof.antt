@@ -6,6 +6,7 @@ use Prim.Native.Nat.{_-_, _≤_, _<_}
 use mathlib.Core.Path.{ap}
 use lib.ListN.{getD}
 use native.Mathlib.Omega.{arith}
+use Rattle.model.specs.Table.{maxNodes}
 use Rattle.best.proofs.LaySums.{Summing, sum-start, next-high, sum-room, sum-next, sum-end}
 
 abbrev Inv-loop : tie.InvT-loop
@@ -65,7 +66,7 @@ cast-next c =
     let l = c .before .before .before .before .before .before .before in
     let r = sum-room (l .before .pre .0) (l .loop .inv) (c .before .before .before .before .before .if1 .taken) in
     let small : getD (l .before .args .prevs .now) (l .loop .next) 0 < l .loop .next = l .before .pre .0 .earlier (l .loop .next) (r .low) in
-    let high : l .loop .next ≤ 1024 = r .high in
+    let high : l .loop .next ≤ maxNodes = r .high in
     search needs
 
 loop-less : tie.Need-loop-less Inv-loop μ-loop
