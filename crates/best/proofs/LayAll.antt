@@ -14,13 +14,11 @@ use Rattle.model.specs.Basics.{pick}
 use Rattle.model.specs.Table.{slots, nodeCount, limitOf, weightAt, firstAt, treeOf}
 use Rattle.model.specs.Plan.{prevAt, parentAt, begins}
 use Rattle.model.specs.Steps.{Child, Choice, entryAt, secondStart, gainOf, childOf, childrenOf, choicesOf, layMarks, rootChoice}
-use Rattle.theory.specs.Reduce.{sumOf}
-use Rattle.theory.specs.ReduceCount.{countGain}
 use Rattle.theory.specs.Links.{prevAt-less, parentAt-less}
 use Rattle.theory.specs.ChainAt.{chainAt}
 use Rattle.theory.specs.Cells.{cellAt}
 use Rattle.theory.specs.CellsFront.{frontOf, childIn}
-use Rattle.theory.specs.CellsRun.{back, kept-none}
+use Rattle.theory.specs.CellsRun.{zeros, back}
 use Rattle.theory.specs.CellsNode.{figureAt, frontAt, front-same, Kin, kin-back, Before}
 use Rattle.theory.specs.CellsPlan.{Planned}
 use Rattle.theory.specs.CellsMarks.{choicesBack, choices-back-none, choices-back-cons, back-along, LaidBelow, laid-marks}
@@ -78,10 +76,6 @@ pub record Laying (t rests gains prevs lasts marks seconds : List ℕ) (v : ℕ)
       ≡ entryAt (limitOf t) (frontOf rests gains prevs (getD lasts w 0))
       (startOf (limitOf t) (weightAt t w) (getD rests w 0) (chosenIn marks seconds w .second)) .choices
 
-zeros : (u : ℕ) → _≡_ {A = ℕ} (getD (replicate slots 0) u 0) 0
-unfolding countGain sumOf
-zeros u = sym (kept-none 0 slots .counts-are u)
-
 pub laying-start : (t rests gains prevs lasts marks : List ℕ) → length marks ≡ nodeCount t → 1 ≤ nodeCount t
     → Laying t rests gains prevs lasts (set marks 0 1) (replicate slots 0) 0
 laying-start t rests gains prevs lasts marks long low =
@@ -89,8 +83,8 @@ laying-start t rests gains prevs lasts marks long low =
       long = simp length-set long;
       wide = length-replicate {A = ℕ} slots 0;
       high = omega arith;
-      root = ap₂ (λ x y. record { mark = x; second = eqb y 1 }) (getD-set-same marks 0 1 0 (omega (arith, long))) (zeros 1);
-      gainful = λ u e. absurd (omega (arith, zeros u));
+      root = ap₂ (λ x y. record { mark = x; second = eqb y 1 }) (getD-set-same marks 0 1 0 (omega (arith, long))) (zeros slots 1);
+      gainful = λ u e. absurd (omega (arith, zeros slots u));
       done = λ w p q. absurd (omega arith);
     }
 

@@ -17,7 +17,7 @@ use Rattle.model.specs.Steps.{Child, Choice, entryAt, secondStart}
 use Rattle.theory.specs.Cells.{pulled, rebuilt, Sane, Agrees, stayChoice, cellAt, cell-entry}
 use Rattle.theory.specs.CellsFront.{frontOf, front-none, front-cons, front-length, front-good}
 use Rattle.theory.specs.CellsRun.{back, back-le, blockAt, block-apart}
-use Rattle.theory.specs.CellsNode.{Kin, kin-back, back-shift, Before}
+use Rattle.theory.specs.CellsNode.{Kin, kin-high, kin-back, back-shift, Before}
 use Rattle.theory.specs.CellsMarks.{choicesBack, choices-back-none, choices-back-cons}
 use Rattle.theory.specs.CellsChosen.{chosenIn, choicesFor, LaidRun}
 use Rattle.best.specs.Lay.{runBack, Gainful, RunReady, RunDone, startOf, NodeReady, NodeDone}
@@ -124,22 +124,14 @@ module _ {t : List ℕ} {v : ℕ} {rests gains prevs lasts xs marks seconds : Li
   walk-from K start e f = rw (f, e) walk-start
 
   pub last-high : getD lasts v 0 ≤ nodeCount t
-  last-high = go (node .kin)
-    where
-      go : Kin t v (getD lasts v 0) → getD lasts v 0 ≤ nodeCount t
-      go (inl e) = omega arith
-      go (inr q) = q .1
+  last-high = kin-high t v (getD lasts v 0) (node .kin)
 
   module _ {marks′ seconds′ : List ℕ} {start child : ℕ} (w : Walking t v rests gains prevs lasts marks seconds marks′ seconds′ start child) where
     child-kin : Kin t v child
     child-kin = rw (w .at) (kin-back t prevs (node .ready .before) (node .ready .none) v (w .walked) (getD lasts v 0) (node .kin))
 
     pub walk-high : child ≤ nodeCount t
-    walk-high = go child-kin
-      where
-        go : Kin t v child → child ≤ nodeCount t
-        go (inl e) = omega arith
-        go (inr q) = q .1
+    walk-high = kin-high t v child child-kin
 
     -- the length of the run is within the words
     pub walk-reads : (K block : ℕ) → K ≡ limitOf t → block ≡ blockAt K child → block + (K + 1) + start < length xs

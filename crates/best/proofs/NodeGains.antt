@@ -4,7 +4,6 @@ use Prim.Native.Nat.{ℕ, _+_, _-_, _*_, _%_, _≤_}
 use mathlib.Core.Path.{_≡_, refl, _∙_, ap}
 use mathlib.Core.Bool.{Bool, true, false, not, _||_, true≢false}
 use mathlib.Core.List.{List}
-use mathlib.Core.Logic.{inl, inr}
 use native.Mathlib.Omega.{arith}
 use lib.ListN.{length, getD, set}
 use lib.Dec.{ltb}
@@ -14,7 +13,7 @@ use Rattle.model.specs.Table.{slots, nodeCount, limitOf, weightAt}
 use Rattle.model.specs.Steps.{secondStart}
 use Rattle.theory.specs.Cells.{page, GoodChild}
 use Rattle.theory.specs.CellsRun.{blockAt, block-apart}
-use Rattle.theory.specs.CellsNode.{Kin, Filled, figureAt, figure-good}
+use Rattle.theory.specs.CellsNode.{kin-high, Filled, figureAt, figure-good}
 use Rattle.theory.specs.CellsPlan.{Planned, gainFrom, node-figures, planned-step}
 
 -- there is no second plan
@@ -33,11 +32,7 @@ module _ {t rests gains prevs lasts xs ys : List ℕ} {g : Bool} {v r : ℕ} (lo
     (p : Planned t g v rests gains prevs lasts xs) (f : Filled t rests gains prevs v r xs ys)
   where
     pub last-high : r ≤ nodeCount t
-    last-high = go (f .kin)
-      where
-        go : Kin t v r → r ≤ nodeCount t
-        go (inl e) = omega arith
-        go (inr q) = q .1
+    last-high = kin-high t v r (f .kin)
 
     pub block-fits : blockAt (limitOf t) r + 2 * (limitOf t + 1) ≤ length ys
     block-fits =

@@ -15,11 +15,7 @@ use Rattle.theory.specs.Sound.{AcceptedFacts}
 use Rattle.theory.specs.Links.{prevAt-less, prevAt-next, next-prev, next-later, next-le}
 use Rattle.theory.specs.CellsFront.{Earlier}
 use Rattle.theory.specs.CellsNode.{Linked}
-use Rattle.theory.specs.CellsRun.{kept-none, kept-count}
-
--- an array of zeros has 0 everywhere, as no member of an empty run has a gain
-pub zeros : (n u : ℕ) → getD {A = ℕ} (replicate n 0) u 0 ≡ 0
-zeros n u = let l : getD {A = ℕ} (replicate n 0) u 0 ≤ 0 = kept-count (kept-none 0 n) u in omega arith
+use Rattle.theory.specs.CellsRun.{zeros}
 
 -- the links from the nodes 1 to v are kept
 pub record Linking (t : List ℕ) (v : ℕ) (prevs : List ℕ) : Type 0 where

@@ -11,9 +11,8 @@ use Rattle.model.specs.Refusals.{scratchWords}
 use Rattle.theory.specs.Sound.{AcceptedFacts}
 use Rattle.theory.specs.Cells.{cellAt}
 use Rattle.theory.specs.CellsFront.{Swept}
-use Rattle.theory.specs.CellsRun.{blockAt}
+use Rattle.theory.specs.CellsRun.{zeros, blockAt}
 use Rattle.theory.specs.CellsNode.{Linked, Ready}
-use Rattle.best.proofs.NodeLinks.{zeros}
 
 -- a block for each node, and one for none
 pub scratch-fits : (N K : ℕ) → 1 ≤ N → blockAt K (N + 1) ≤ scratchWords N K

@@ -17,7 +17,7 @@ use Rattle.theory.specs.Reduce.{sumOf}
 use Rattle.theory.specs.ReduceCount.{hasGain, countGain, countGain-cons, Counted}
 use Rattle.theory.specs.ReduceLevel.{Level, takenOff, cutAt, cutAt-above, cutAt-under, cutAt-at, cutAt-past, levelHere, levelFrom, cutBy, reduce-level}
 use Rattle.theory.specs.Cells.{pulled}
-use Rattle.theory.specs.CellsRun.{members, members-sound, Kept, countsOf}
+use Rattle.theory.specs.CellsRun.{members, members-length, members-sound, Kept, countsOf}
 
 -- ---- The last member
 
@@ -140,10 +140,6 @@ pub members-snoc : (run : List Child) (k : Child) → members (run ++ (k ∷ [])
 members-snoc [] k = refl
 members-snoc (x ∷ run) k = ap (λ l. asMember x ∷ l) (members-snoc run k)
 
-members-long : (run : List Child) → length (members run) ≡ length run
-members-long [] = refl
-members-long (k ∷ run) = ap suc (members-long run)
-
 pub count-snoc : (g : ℕ) (ms : List Member) (m : Member) → countGain g (ms ++ (m ∷ [])) ≡ countGain g ms + hasGain g m
 unfolding countGain sumOf
 count-snoc g [] m = omega arith
@@ -180,7 +176,7 @@ back-run g t (suc r) (k ∷ ks) h =
     let whole : members (pulled r (k ∷ []) ks) ≡ members P ++ (asMember k ∷ []) = ap members (pulled-append r (k ∷ []) ks) ∙ members-snoc P k in
     let count : countGain g (members (pulled r (k ∷ []) ks)) - pick (eqb (k .gain) g) 1 0 ≡ n =
     omega (arith, ap (countGain g) whole, count-snoc g (members P) (asMember k)) in
-    let long : length ms ≡ r = cut-length g t (members P) ∙ members-long P ∙ pulled-length r ks (omega arith) in
+    let long : length ms ≡ r = cut-length g t (members P) ∙ members-length P ∙ pulled-length r ks (omega arith) in
     let cut : cutAt g t (members (pulled r (k ∷ []) ks)) ≡ ms ++ (last ∷ []) = ap (cutAt g t) whole ∙ cutAt-snoc g t (members P) (asMember k) in
     let laid : reverse (runChoices begins (cutAt g t (members (pulled r (k ∷ []) ks))))
     ≡ record { mark = lastMark r; second = takes g t n (k .gain) } ∷ reverse (runChoices begins ms) =

@@ -19,7 +19,7 @@ use Rattle.theory.specs.Sound.{SoundFacts}
 use Rattle.theory.specs.Numbered.{Numbered, none, some, numbered-le, sound-tree}
 use Rattle.theory.specs.Links.{prevAt-less, prevAt-next, parentAt-later, parentAt-less, parent-first}
 use Rattle.theory.specs.ChainAt.{chainAt, chain-is}
-use Rattle.theory.specs.CellsNode.{Kin, afterAt}
+use Rattle.theory.specs.CellsNode.{Kin, prev-kin, afterAt}
 
 -- what becomes of node u and of the siblings before it; f bounds them
 unfoldable pub choicesBackFrom : ℕ → List ℕ → (ℕ → Choice) → ℕ → List Choice
@@ -82,16 +82,6 @@ module _ {t : List ℕ} (s : SoundFacts t) (ch : ℕ → Choice) (v : ℕ) (low 
           let d : prevAt t u ≡ 0 → ⊥ = eqb-false (prevAt t u) 0 q in
           rw q (prevAt-next t u (omega arith))
 
-  kin-prev : (u : ℕ) → 1 ≤ u → u ≤ nodeCount t → parentAt t u ≡ v → Kin t v (prevAt t u)
-  kin-prev u one high e = go (eqb (prevAt t u) 0) refl
-    where
-      go : (b : Bool) → eqb (prevAt t u) 0 ≡ b → Kin t v (prevAt t u)
-      go true q = inl (eqb-true (prevAt t u) 0 q)
-      go false q =
-          let d : prevAt t u ≡ 0 → ⊥ = eqb-false (prevAt t u) 0 q in
-          let p : 1 ≤ prevAt t u = omega arith in
-          inr (p, omega (arith, prevAt-less t u one), sym (parentAt-later t u one p) ∙ e)
-
   back-along-from : (f u c : ℕ) (ds : List Choice) → u ≤ f → Kin t v u → afterAt t v u ≡ c → Along t ch c ds
       → Along t ch (firstAt t v) (reverseAux (choicesBackFrom f t ch u) ds)
   unfolding choicesBackFrom pick
@@ -105,7 +95,7 @@ module _ {t : List ℕ} (s : SoundFacts t) (ch : ℕ → Choice) (v : ℕ) (low 
       let here : Along t ch (suc u) (ch (suc u) ∷ ds) = alongSome {v = suc u} {cs = ds} (q .0) (rw next a) in
       back-along-from f (prevAt t (suc u)) (suc u) (ch (suc u) ∷ ds)
       (omega (arith, prevAt-less t (suc u) (q .0)))
-      (kin-prev (suc u) (q .0) (q .1) (q .2))
+      (prev-kin t v (suc u) (q .0) (q .1) (q .2))
       (link-before (suc u) (q .0) (q .1) (q .2))
       here
 

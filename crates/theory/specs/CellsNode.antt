@@ -84,7 +84,7 @@ figure-good t gains v h =
 abbrev pub Kin : List ℕ → ℕ → ℕ → Type 0
 Kin t v u = (u ≡ 0) ⊎ ((1 ≤ u) × (u ≤ nodeCount t) × (parentAt t u ≡ v))
 
-prev-kin : (t : List ℕ) (v u : ℕ) → 1 ≤ u → u ≤ nodeCount t → parentAt t u ≡ v → Kin t v (prevAt t u)
+pub prev-kin : (t : List ℕ) (v u : ℕ) → 1 ≤ u → u ≤ nodeCount t → parentAt t u ≡ v → Kin t v (prevAt t u)
 prev-kin t v u low high e = go (eqb (prevAt t u) 0) refl
   where
     go : (b : Bool) → eqb (prevAt t u) 0 ≡ b → Kin t v (prevAt t u)
@@ -93,6 +93,10 @@ prev-kin t v u low high e = go (eqb (prevAt t u) 0) refl
         let d : prevAt t u ≡ 0 → ⊥ = eqb-false (prevAt t u) 0 q in
         let one : 1 ≤ prevAt t u = omega arith in
         inr (one, omega (arith, prevAt-less t u low), sym (parentAt-later t u low one) ∙ e)
+
+pub kin-high : (t : List ℕ) (v u : ℕ) → Kin t v u → u ≤ nodeCount t
+kin-high t v u (inl e) = omega arith
+kin-high t v u (inr q) = q .1
 
 -- the sibling before is kept
 abbrev pub Before : List ℕ → List ℕ → Type 0

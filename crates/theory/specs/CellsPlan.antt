@@ -21,7 +21,7 @@ use Rattle.theory.specs.ChainAt.{chainAt}
 use Rattle.theory.specs.Cells.{Cell, page, wordOf, cellAt, GoodChild, Good, cell-entry}
 use Rattle.theory.specs.CellsFront.{childIn, frontOf, front-good, front-length, EachGood, cellIn}
 use Rattle.theory.specs.CellsRun.{back, blockAt}
-use Rattle.theory.specs.CellsNode.{figureAt, frontAt, figure-good, Kin, kin-back, front-same, afterAt, Ready, Filled}
+use Rattle.theory.specs.CellsNode.{figureAt, frontAt, figure-good, Kin, kin-high, kin-back, front-same, afterAt, Ready, Filled}
 
 -- the figures, last children and columns of the nodes after v
 pub record Planned (t : List ℕ) (g : Bool) (v : ℕ) (rests gains prevs lasts xs : List ℕ) : Type 0 where
@@ -79,10 +79,6 @@ module _ {t rests gains prevs lasts xs ys : List ℕ} {g : Bool} {v r : ℕ} (lo
     same-front : (u : ℕ) → Kin t v u → frontOf rests gains prevs u ≡ frontAt t g u
     same-front = front-same t rests gains prevs g v (p .ready .before) (p .figures)
 
-    kin-high : Kin t v r → r ≤ nodeCount t
-    kin-high (inl e) = omega arith
-    kin-high (inr q) = q .1
-
     good-front : Good (limitOf t) (frontAt t g r)
     good-front = rw (same-front r (f .kin)) at (front-good (limitOf t) rests gains prevs (p .ready .good) r)
 
@@ -90,7 +86,7 @@ module _ {t rests gains prevs lasts xs ys : List ℕ} {g : Bool} {v r : ℕ} (lo
     short-front =
         let l : length (frontOf rests gains prevs r) ≤ r = front-length rests gains prevs (p .ready .earlier) r in
         let m : length (frontAt t g r) ≤ r = rw (same-front r (f .kin)) at l in
-        omega (arith, kin-high (f .kin), p .ready .accepted .sound .count-high)
+        omega (arith, kin-high t v r (f .kin), p .ready .accepted .sound .count-high)
 
     rest-at : (s : ℕ) → weightAt t v ≤ s → s ≤ limitOf t
         → getD ys (blockAt (limitOf t) r + s) 0 % page ≡ entryAt (limitOf t) (childrenOf g (limitOf t) (chainAt t (firstAt t v))) s .rest

@@ -1,7 +1,7 @@
 -- A run as it is stretched to the left, child by child: what is kept of its members, which second plans it takes by how many members
 -- have each gain, and what it makes of a cell.
--- Defines Kept, choosing, joins, back, blockAt, ColumnWords. Proves kept-none, kept-more; choosing-start, choosing-take, choosing-down,
--- choosing-room (one choice a turn); run-fits, run-over, run-stops; back-less, block-apart. Assumes nothing.
+-- Defines Kept, choosing, joins, back, blockAt, ColumnWords, wordEnd, Fillable. Proves zeros; kept-none, kept-more; choosing-start, choosing-take,
+-- choosing-down, choosing-room (one choice a turn); run-fits, run-over, run-stops; back-le, block-apart, word-small. Assumes nothing.
 use Prim.Native.Nat.{ℕ, zero, suc, _+_, _-_, _*_, _≤_, _<_, max}
 use mathlib.Core.Path.{_≡_, refl, sym, _∙_, ap}
 use mathlib.Core.Bool.{Bool, true, false}
@@ -38,22 +38,19 @@ pub record Kept (K : ℕ) (run : List Child) (len total gained top : ℕ) (count
   pub top-high : top ≤ K
   pub good : Good K run
 
-nulls : ℕ → List ℕ
-nulls n = replicate n 0
-
-zeros : (n h : ℕ) → getD (nulls n) h 0 ≡ 0
-unfolding nulls
+-- an array of zeros has 0 everywhere
+pub zeros : (n h : ℕ) → getD {A = ℕ} (replicate n 0) h 0 ≡ 0
 zeros n h = go (leb (suc h) n) refl
   where
-    go : (b : Bool) → leb (suc h) n ≡ b → getD (nulls n) h 0 ≡ 0
+    go : (b : Bool) → leb (suc h) n ≡ b → getD {A = ℕ} (replicate n 0) h 0 ≡ 0
     go true e = getD-replicate n h 0 0 (leb-true (suc h) n e)
     go false e =
         let l : n < suc h = leb-false (suc h) n e in
-        let m : length (nulls n) ≤ h = omega (arith, length-replicate {A = ℕ} n 0) in
-        List·getD-eq-default (nulls n) 0 m
+        let m : length {A = ℕ} (replicate n 0) ≤ h = omega (arith, length-replicate {A = ℕ} n 0) in
+        List·getD-eq-default (replicate n 0) 0 m
 
 pub kept-none : (K n : ℕ) → Kept K [] 0 0 0 0 (replicate n 0)
-unfolding restSum gainSum largestGain countGain sumOf Good nulls
+unfolding restSum gainSum largestGain countGain sumOf Good
 kept-none K n =
     record {
       long = refl;
@@ -74,7 +71,7 @@ count-le-length h (m ∷ ms) = go (eqb (m .gain) h) (count-le-length h ms)
     go true p = omega arith
     go false p = omega arith
 
-members-length : (run : List Child) → length (members run) ≡ length run
+pub members-length : (run : List Child) → length (members run) ≡ length run
 members-length [] = refl
 members-length (k ∷ run) = ap suc (members-length run)
 
