@@ -21,27 +21,9 @@ use Rattle.theory.specs.CellsFront.{frontOf, childIn}
 use Rattle.theory.specs.CellsRun.{zeros, back}
 use Rattle.theory.specs.CellsNode.{figureAt, frontAt, front-same, Kin, kin-back, Before}
 use Rattle.theory.specs.CellsPlan.{Planned}
-use Rattle.theory.specs.CellsMarks.{choicesBack, choices-back-none, choices-back-cons, back-along, LaidBelow, laid-marks}
+use Rattle.theory.specs.CellsMarks.{choicesBack, choices-back-same, back-along, LaidBelow, laid-marks}
 use Rattle.theory.specs.CellsChosen.{chosenIn}
 use Rattle.best.specs.Lay.{Gainful, startOf, NodeReady, NodeDone}
-
--- ---- Children of another node
-
--- where the children of node w are the same
-choices-back-same : (t prevs : List ℕ) (ch ch′ : ℕ → Choice) (w : ℕ) → Before t prevs → getD prevs 0 0 ≡ 0
-    → ((x : ℕ) → 1 ≤ x → parentAt t x ≡ w → ch x ≡ ch′ x) → (f u : ℕ) → u ≤ f → Kin t w u → choicesBack t ch u ≡ choicesBack t ch′ u
-unfolding back
-choices-back-same t prevs ch ch′ w before none same zero u h (inl z) = rw z (choices-back-none t ch ∙ sym (choices-back-none t ch′))
-choices-back-same t prevs ch ch′ w before none same (suc f) u h (inl z) = rw z (choices-back-none t ch ∙ sym (choices-back-none t ch′))
-choices-back-same t prevs ch ch′ w before none same zero u h (inr q) = absurd (omega (arith, q .0))
-choices-back-same t prevs ch ch′ w before none same (suc f) u h (inr q) =
-    let e : getD prevs u 0 ≡ prevAt t u = before u (q .0) (q .1) in
-    choices-back-cons t ch u (q .0)
-    ∙ ap₂ _∷_ (same u (q .0) (q .2))
-    (choices-back-same t prevs ch ch′ w before none same f (prevAt t u)
-    (omega (arith, prevAt-less t u (q .0)))
-    (rw e at (kin-back t prevs before none w 1 u (inr q))))
-    ∙ sym (choices-back-cons t ch′ u (q .0))
 
 -- ---- A node with a gain has a second plan
 
@@ -175,8 +157,7 @@ module _ {t rests gains prevs lasts xs marks seconds : List ℕ} {v : ℕ} (l : 
               rw (start-same w low h, q) (d .chosen)
           go w low h false e =
               let n : w ≡ v + 1 → ⊥ = eqb-false w (v + 1) e in
-              choices-back-same t prevs (chosenIn marks′ seconds′) (chosenIn marks seconds) w (node .ready .before) (node .ready .none)
-              (λ x one f. d .others x one (λ y. n (sym f ∙ y)))
-              (getD lasts w 0) (getD lasts w 0) (omega arith) (kins w low (omega (arith, node .high)))
+              choices-back-same t (chosenIn marks′ seconds′) (chosenIn marks seconds) w (λ x one f. d .others x one (λ y. n (sym f ∙ y)))
+              (getD lasts w 0) (kins w low (omega (arith, node .high)))
               ∙ l .done w low (omega arith)
               ∙ ap (λ s. entryAt (limitOf t) (frontOf rests gains prevs (getD lasts w 0)) s .choices) (sym (start-same w low h))

@@ -1,7 +1,7 @@
 -- A node's children as they stand in arrays of rests, gains and siblings before, and the cells of a child as they stand in a block
 -- of words: K + 1 words of cells, then K + 1 lengths of runs.
--- Defines frontOf, cellIn, Swept, Sweeping. Proves front-cons, and sweep-none, sweep-turn, sweep-end: a sweep over the starts of a block, one
--- store of a cell a turn. Assumes nothing.
+-- Defines listBack (a list from the last back), frontOf, cellIn, Swept, Sweeping. Proves list-cons, list-length, list-same; front-cons,
+-- front-length, front-good; and sweep-none, sweep-turn, sweep-end: a sweep over the starts of a block, one store of a cell a turn. Assumes nothing.
 use Prim.Native.Nat.{ℕ, zero, suc, _+_, _*_, _≤_, _<_}
 use mathlib.Core.Path.{_≡_, refl, sym, _∙_, ap, ap₂}
 use mathlib.Core.Bool.{Bool, true, false}
@@ -15,21 +15,76 @@ use borrow.Author.Tests.{eqb-true, eqb-false}
 use Rattle.model.specs.Steps.{Child}
 use Rattle.theory.specs.Cells.{Cell, GoodChild, Good}
 
+-- ---- A list from the last back
+
+-- what x gives for place u and for those before it by p, the last first; f bounds them, and 0 is none
+unfoldable pub backFrom : {A : Type 0} → ℕ → (ℕ → A) → (ℕ → ℕ) → ℕ → List A
+backFrom zero x p u = []
+backFrom (suc f) x p zero = []
+backFrom (suc f) x p (suc u) = x (suc u) ∷ backFrom f x p (p (suc u))
+
+unfoldable pub listBack : {A : Type 0} → (ℕ → A) → (ℕ → ℕ) → ℕ → List A
+listBack x p u = backFrom u x p u
+
+pub list-none : {A : Type 0} (x : ℕ → A) (p : ℕ → ℕ) → listBack x p 0 ≡ []
+unfolding listBack backFrom
+list-none x p = refl
+
+module _ {A : Type 0} (x : ℕ → A) (p : ℕ → ℕ) (less : (u : ℕ) → 1 ≤ u → p u < u) where
+  back-enough : (f g u : ℕ) → u ≤ f → u ≤ g → backFrom f x p u ≡ backFrom g x p u
+  unfolding backFrom
+  back-enough zero zero u a b = refl
+  back-enough zero (suc g) zero a b = refl
+  back-enough zero (suc g) (suc u) a b = absurd (omega arith)
+  back-enough (suc f) zero zero a b = refl
+  back-enough (suc f) zero (suc u) a b = absurd (omega arith)
+  back-enough (suc f) (suc g) zero a b = refl
+  back-enough (suc f) (suc g) (suc u) a b =
+      let l : p (suc u) < suc u = less (suc u) (omega arith) in
+      ap (λ xs. x (suc u) ∷ xs) (back-enough f g (p (suc u)) (omega arith) (omega arith))
+
+  pub list-cons : (u : ℕ) → 1 ≤ u → listBack x p u ≡ x u ∷ listBack x p (p u)
+  unfolding listBack backFrom
+  list-cons zero a = absurd (omega arith)
+  list-cons (suc u) a =
+      let l : p (suc u) < suc u = less (suc u) (omega arith) in
+      ap (λ xs. x (suc u) ∷ xs) (back-enough u (p (suc u)) (p (suc u)) (omega arith) (omega arith))
+
+  back-length : (f u : ℕ) → length (backFrom f x p u) ≤ u
+  unfolding backFrom
+  back-length zero u = omega arith
+  back-length (suc f) zero = omega arith
+  back-length (suc f) (suc u) = omega (arith, back-length f (p (suc u)), less (suc u) (omega arith))
+
+  pub list-length : (u : ℕ) → length (listBack x p u) ≤ u
+  unfolding listBack
+  list-length u = back-length u u
+
+-- it is the same where it is the same at each place
+module _ {A : Type 0} {x y : ℕ → A} {p q : ℕ → ℕ} (In : ℕ → Type 0)
+    (step : (u : ℕ) → 1 ≤ u → In u → (x u ≡ y u) × (p u ≡ q u) × In (q u))
+  where
+    back-same : (f u : ℕ) → In u → backFrom f x p u ≡ backFrom f y q u
+    unfolding backFrom
+    back-same zero u i = refl
+    back-same (suc f) zero i = refl
+    back-same (suc f) (suc u) i =
+        let s = step (suc u) (omega arith) i in
+        ap₂ _∷_ (s .0) (ap (backFrom f x p) (s .1) ∙ back-same f (q (suc u)) (s .2))
+
+    pub list-same : (u : ℕ) → In u → listBack x p u ≡ listBack y q u
+    unfolding listBack
+    list-same u i = back-same u u i
+
 -- ---- Children in arrays
 
 -- child u by its rest and its gain
 abbrev pub childIn : List ℕ → List ℕ → ℕ → Child
 childIn rests gains u = record { rest = getD rests u 0; gain = getD gains u 0 }
 
--- the children up to u, the last first; f bounds the siblings before it, and 0 is none
-unfoldable pub frontFrom : ℕ → List ℕ → List ℕ → List ℕ → ℕ → List Child
-frontFrom zero rests gains prevs u = []
-frontFrom (suc f) rests gains prevs zero = []
-frontFrom (suc f) rests gains prevs (suc u) =
-    childIn rests gains (suc u) ∷ frontFrom f rests gains prevs (getD prevs (suc u) 0)
-
+-- the children up to u, the last first
 unfoldable pub frontOf : List ℕ → List ℕ → List ℕ → ℕ → List Child
-frontOf rests gains prevs u = frontFrom u rests gains prevs u
+frontOf rests gains prevs u = listBack (childIn rests gains) (λ v. getD prevs v 0) u
 
 -- the sibling before a node comes before it
 abbrev pub Earlier : List ℕ → Type 0
@@ -40,50 +95,27 @@ abbrev pub EachGood : ℕ → List ℕ → List ℕ → Type 0
 EachGood K rests gains = (u : ℕ) → GoodChild K (childIn rests gains u)
 
 module _ (rests gains prevs : List ℕ) (earlier : Earlier prevs) where
-  front-enough : (f g u : ℕ) → u ≤ f → u ≤ g → frontFrom f rests gains prevs u ≡ frontFrom g rests gains prevs u
-  unfolding frontFrom
-  front-enough zero zero u p q = refl
-  front-enough zero (suc g) zero p q = refl
-  front-enough zero (suc g) (suc u) p q = absurd (omega arith)
-  front-enough (suc f) zero zero p q = refl
-  front-enough (suc f) zero (suc u) p q = absurd (omega arith)
-  front-enough (suc f) (suc g) zero p q = refl
-  front-enough (suc f) (suc g) (suc u) p q =
-      ap (λ ks. childIn rests gains (suc u) ∷ ks)
-      (front-enough f g (getD prevs (suc u) 0) (omega (arith, earlier (suc u) (omega arith))) (omega (arith, earlier (suc u) (omega arith))))
-
   pub front-none : frontOf rests gains prevs 0 ≡ []
-  unfolding frontOf frontFrom
-  front-none = refl
+  unfolding frontOf
+  front-none = list-none (childIn rests gains) (λ v. getD prevs v 0)
 
   pub front-cons : (u : ℕ) → 1 ≤ u
       → frontOf rests gains prevs u ≡ childIn rests gains u ∷ frontOf rests gains prevs (getD prevs u 0)
-  unfolding frontOf frontFrom
-  front-cons zero p = absurd (omega arith)
-  front-cons (suc u) p =
-      let before : ℕ = getD prevs (suc u) 0 in
-      ap (λ ks. childIn rests gains (suc u) ∷ ks)
-      (front-enough u before before (omega (arith, earlier (suc u) (omega arith))) (omega arith))
-
-  front-length-from : (f u : ℕ) → length (frontFrom f rests gains prevs u) ≤ u
-  unfolding frontFrom
-  front-length-from zero u = omega arith
-  front-length-from (suc f) zero = omega arith
-  front-length-from (suc f) (suc u) =
-      omega (arith, front-length-from f (getD prevs (suc u) 0), earlier (suc u) (omega arith))
+  unfolding frontOf
+  front-cons = list-cons (childIn rests gains) (λ v. getD prevs v 0) earlier
 
   pub front-length : (u : ℕ) → length (frontOf rests gains prevs u) ≤ u
   unfolding frontOf
-  front-length u = front-length-from u u
+  front-length = list-length (childIn rests gains) (λ v. getD prevs v 0) earlier
 
-front-good-from : (K : ℕ) (rests gains prevs : List ℕ) → EachGood K rests gains → (f u : ℕ) → Good K (frontFrom f rests gains prevs u)
-unfolding frontFrom Good
+front-good-from : (K : ℕ) (rests gains prevs : List ℕ) → EachGood K rests gains → (f u : ℕ) → Good K (backFrom f (childIn rests gains) (λ v. getD prevs v 0) u)
+unfolding backFrom Good
 front-good-from K rests gains prevs h zero u = tt
 front-good-from K rests gains prevs h (suc f) zero = tt
 front-good-from K rests gains prevs h (suc f) (suc u) = (h (suc u), front-good-from K rests gains prevs h f (getD prevs (suc u) 0))
 
 pub front-good : (K : ℕ) (rests gains prevs : List ℕ) → EachGood K rests gains → (u : ℕ) → Good K (frontOf rests gains prevs u)
-unfolding frontOf
+unfolding frontOf listBack
 front-good K rests gains prevs h u = front-good-from K rests gains prevs h u u
 
 -- ---- Cells in a block

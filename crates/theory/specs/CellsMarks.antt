@@ -1,6 +1,6 @@
 -- Marks laid node by node, in any order: where what becomes of each node's children is what its plan chose, the marks are those that
 -- are laid from the root down.
--- Defines choicesBack, Along, LaidBelow. Proves choices-back-cons, back-along, lay-numbered and laid-marks. Assumes nothing.
+-- Defines choicesBack, Along, LaidBelow. Proves choices-back-cons, choices-back-same, back-along, lay-numbered and laid-marks. Assumes nothing.
 use Prim.Native.Nat.{ℕ, zero, suc, _+_, _-_, _≤_, _<_}
 use mathlib.Core.Path.{_≡_, refl, sym, _∙_, ap, ap₂}
 use mathlib.Core.Bool.{Bool, true, false}
@@ -19,39 +19,30 @@ use Rattle.theory.specs.Sound.{SoundFacts}
 use Rattle.theory.specs.Numbered.{Numbered, none, some, numbered-le, sound-tree}
 use Rattle.theory.specs.Links.{prevAt-less, prevAt-next, parentAt-later, parentAt-less, parent-first}
 use Rattle.theory.specs.ChainAt.{chainAt, chain-is}
+use Rattle.theory.specs.CellsFront.{backFrom, listBack, list-none, list-cons, list-same}
 use Rattle.theory.specs.CellsNode.{Kin, prev-kin, afterAt}
 
--- what becomes of node u and of the siblings before it; f bounds them
-unfoldable pub choicesBackFrom : ℕ → List ℕ → (ℕ → Choice) → ℕ → List Choice
-choicesBackFrom zero t ch u = []
-choicesBackFrom (suc f) t ch zero = []
-choicesBackFrom (suc f) t ch (suc u) = ch (suc u) ∷ choicesBackFrom f t ch (prevAt t (suc u))
-
+-- what becomes of node u and of the siblings before it
 unfoldable pub choicesBack : List ℕ → (ℕ → Choice) → ℕ → List Choice
-choicesBack t ch u = choicesBackFrom u t ch u
-
-choices-back-enough : (t : List ℕ) (ch : ℕ → Choice) (f g u : ℕ) → u ≤ f → u ≤ g → choicesBackFrom f t ch u ≡ choicesBackFrom g t ch u
-unfolding choicesBackFrom
-choices-back-enough t ch zero zero u p q = refl
-choices-back-enough t ch zero (suc g) zero p q = refl
-choices-back-enough t ch zero (suc g) (suc u) p q = absurd (omega arith)
-choices-back-enough t ch (suc f) zero zero p q = refl
-choices-back-enough t ch (suc f) zero (suc u) p q = absurd (omega arith)
-choices-back-enough t ch (suc f) (suc g) zero p q = refl
-choices-back-enough t ch (suc f) (suc g) (suc u) p q =
-    let less : prevAt t (suc u) < suc u = prevAt-less t (suc u) (omega arith) in
-    ap (λ cs. ch (suc u) ∷ cs) (choices-back-enough t ch f g (prevAt t (suc u)) (omega arith) (omega arith))
+choicesBack t ch u = listBack ch (prevAt t) u
 
 pub choices-back-none : (t : List ℕ) (ch : ℕ → Choice) → choicesBack t ch 0 ≡ []
-unfolding choicesBack choicesBackFrom
-choices-back-none t ch = refl
+unfolding choicesBack
+choices-back-none t ch = list-none ch (prevAt t)
 
 pub choices-back-cons : (t : List ℕ) (ch : ℕ → Choice) (u : ℕ) → 1 ≤ u → choicesBack t ch u ≡ ch u ∷ choicesBack t ch (prevAt t u)
-unfolding choicesBack choicesBackFrom
-choices-back-cons t ch zero p = absurd (omega arith)
-choices-back-cons t ch (suc u) p =
-    let less : prevAt t (suc u) < suc u = prevAt-less t (suc u) (omega arith) in
-    ap (λ cs. ch (suc u) ∷ cs) (choices-back-enough t ch u (prevAt t (suc u)) (prevAt t (suc u)) (omega arith) (omega arith))
+unfolding choicesBack
+choices-back-cons t ch = list-cons ch (prevAt t) (prevAt-less t)
+
+-- it is the same where it is the same for each child of node v
+pub choices-back-same : (t : List ℕ) (ch ch′ : ℕ → Choice) (v : ℕ) → ((u : ℕ) → 1 ≤ u → parentAt t u ≡ v → ch u ≡ ch′ u)
+    → (u : ℕ) → Kin t v u → choicesBack t ch u ≡ choicesBack t ch′ u
+unfolding choicesBack
+choices-back-same t ch ch′ v same = list-same (Kin t v) step
+  where
+    step : (u : ℕ) → 1 ≤ u → Kin t v u → (ch u ≡ ch′ u) × (prevAt t u ≡ prevAt t u) × Kin t v (prevAt t u)
+    step u low (inl e) = absurd (omega arith)
+    step u low (inr q) = (same u low (q .2), refl, prev-kin t v u low (q .1) (q .2))
 
 -- what becomes of the nodes from a link on
 pub data Along (t : List ℕ) (ch : ℕ → Choice) : ℕ → List Choice → Type 0 where
@@ -83,8 +74,8 @@ module _ {t : List ℕ} (s : SoundFacts t) (ch : ℕ → Choice) (v : ℕ) (low 
           rw q (prevAt-next t u (omega arith))
 
   back-along-from : (f u c : ℕ) (ds : List Choice) → u ≤ f → Kin t v u → afterAt t v u ≡ c → Along t ch c ds
-      → Along t ch (firstAt t v) (reverseAux (choicesBackFrom f t ch u) ds)
-  unfolding choicesBackFrom pick
+      → Along t ch (firstAt t v) (reverseAux (backFrom f ch (prevAt t) u) ds)
+  unfolding backFrom pick
   back-along-from zero zero c ds p k e a = rw (e) a
   back-along-from zero (suc u) c ds p k e a = absurd (omega arith)
   back-along-from (suc f) zero c ds p k e a = rw (e) a
@@ -100,7 +91,7 @@ module _ {t : List ℕ} (s : SoundFacts t) (ch : ℕ → Choice) (v : ℕ) (low 
       here
 
   pub back-along : (u : ℕ) → Kin t v u → afterAt t v u ≡ 0 → Along t ch (firstAt t v) (reverse (choicesBack t ch u))
-  unfolding choicesBack
+  unfolding choicesBack listBack
   back-along u k e = back-along-from u u 0 [] (omega arith) k e alongNone
 
 -- what becomes of the children of node u is what its plan chose

@@ -18,7 +18,7 @@ use Rattle.theory.specs.Sound.{SoundFacts, AcceptedFacts}
 use Rattle.theory.specs.Links.{prevAt-less, parentAt-later, parentAt-less, first-le, next-le, first-prev, next-prev, first-parent, next-parent}
 use Rattle.theory.specs.ChainAt.{chainAt, chain-none, node-at}
 use Rattle.theory.specs.Cells.{Cell, cellAt, GoodChild, Good, entry-within}
-use Rattle.theory.specs.CellsFront.{childIn, frontFrom, frontOf, Earlier, EachGood, cellIn}
+use Rattle.theory.specs.CellsFront.{listBack, list-none, list-cons, list-same, childIn, frontOf, Earlier, EachGood, cellIn}
 use Rattle.theory.specs.CellsRun.{back, blockAt}
 
 -- ---- Figures and children by number
@@ -27,37 +27,17 @@ use Rattle.theory.specs.CellsRun.{back, blockAt}
 unfoldable pub figureAt : List ℕ → Bool → ℕ → Child
 figureAt t gains v = childOf gains (limitOf t) (weightAt t v) (childrenOf gains (limitOf t) (chainAt t (firstAt t v)))
 
--- the children up to node u, the last first; f bounds them
-unfoldable pub frontAtFrom : ℕ → List ℕ → Bool → ℕ → List Child
-frontAtFrom zero t gains u = []
-frontAtFrom (suc f) t gains zero = []
-frontAtFrom (suc f) t gains (suc u) = figureAt t gains (suc u) ∷ frontAtFrom f t gains (prevAt t (suc u))
-
+-- the children up to node u, the last first
 unfoldable pub frontAt : List ℕ → Bool → ℕ → List Child
-frontAt t gains u = frontAtFrom u t gains u
-
-front-at-enough : (t : List ℕ) (gains : Bool) (f g u : ℕ) → u ≤ f → u ≤ g → frontAtFrom f t gains u ≡ frontAtFrom g t gains u
-unfolding frontAtFrom
-front-at-enough t gains zero zero u p q = refl
-front-at-enough t gains zero (suc g) zero p q = refl
-front-at-enough t gains zero (suc g) (suc u) p q = absurd (omega arith)
-front-at-enough t gains (suc f) zero zero p q = refl
-front-at-enough t gains (suc f) zero (suc u) p q = absurd (omega arith)
-front-at-enough t gains (suc f) (suc g) zero p q = refl
-front-at-enough t gains (suc f) (suc g) (suc u) p q =
-    let less : prevAt t (suc u) < suc u = prevAt-less t (suc u) (omega arith) in
-    ap (λ ks. figureAt t gains (suc u) ∷ ks) (front-at-enough t gains f g (prevAt t (suc u)) (omega arith) (omega arith))
+frontAt t gains u = listBack (figureAt t gains) (prevAt t) u
 
 pub front-at-none : (t : List ℕ) (gains : Bool) → frontAt t gains 0 ≡ []
-unfolding frontAt frontAtFrom
-front-at-none t gains = refl
+unfolding frontAt
+front-at-none t gains = list-none (figureAt t gains) (prevAt t)
 
 pub front-at-cons : (t : List ℕ) (gains : Bool) (u : ℕ) → 1 ≤ u → frontAt t gains u ≡ figureAt t gains u ∷ frontAt t gains (prevAt t u)
-unfolding frontAt frontAtFrom
-front-at-cons t gains zero p = absurd (omega arith)
-front-at-cons t gains (suc u) p =
-    let less : prevAt t (suc u) < suc u = prevAt-less t (suc u) (omega arith) in
-    ap (λ ks. figureAt t gains (suc u) ∷ ks) (front-at-enough t gains u (prevAt t (suc u)) (prevAt t (suc u)) (omega arith) (omega arith))
+unfolding frontAt
+front-at-cons t gains = list-cons (figureAt t gains) (prevAt t) (prevAt-less t)
 
 -- ---- A node's figures
 
@@ -120,20 +100,14 @@ back-shift prevs (suc n) u = ap (λ w. getD prevs w 0) (back-shift prevs n u)
 module _ (t rests gains prevs : List ℕ) (g : Bool) (v : ℕ) (before : Before t prevs)
     (figures : (u : ℕ) → v < u → u ≤ nodeCount t → childIn rests gains u ≡ figureAt t g u)
   where
-    front-same-from : (f u : ℕ) → Kin t v u → frontFrom f rests gains prevs u ≡ frontAtFrom f t g u
-    unfolding frontFrom frontAtFrom
-    front-same-from zero u k = refl
-    front-same-from (suc f) zero k = refl
-    front-same-from (suc f) (suc u) (inl e) = absurd (omega arith)
-    front-same-from (suc f) (suc u) (inr q) =
-        let later : v < suc u = omega (arith, parentAt-less t (suc u) (q .0), q .2) in
-        let same : getD prevs (suc u) 0 ≡ prevAt t (suc u) = before (suc u) (q .0) (q .1) in
-        ap₂ _∷_ (figures (suc u) later (q .1))
-        (ap (frontFrom f rests gains prevs) same ∙ front-same-from f (prevAt t (suc u)) (prev-kin t v (suc u) (q .0) (q .1) (q .2)))
+    same-step : (u : ℕ) → 1 ≤ u → Kin t v u → (childIn rests gains u ≡ figureAt t g u) × (getD prevs u 0 ≡ prevAt t u) × Kin t v (prevAt t u)
+    same-step u low (inl e) = absurd (omega arith)
+    same-step u low (inr q) =
+        (figures u (omega (arith, parentAt-less t u low, q .2)) (q .1), before u low (q .1), prev-kin t v u low (q .1) (q .2))
 
     pub front-same : (u : ℕ) → Kin t v u → frontOf rests gains prevs u ≡ frontAt t g u
     unfolding frontOf frontAt
-    front-same u k = front-same-from u u k
+    front-same = list-same (Kin t v) same-step
 
 -- ---- A walk over the children of node v
 
