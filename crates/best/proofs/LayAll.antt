@@ -1,10 +1,9 @@
 -- The marks of all nodes, parents before children. Defines Laying. Proves laying-start, laying-ready, laying-turn and laying-end.
 -- Assumes nothing.
-use Prim.Native.Nat.{ℕ, zero, suc, _+_, _≤_, _<_}
+use Prim.Native.Nat.{ℕ, _+_, _≤_, _<_}
 use mathlib.Core.Path.{_≡_, refl, sym, _∙_, ap, ap₂}
 use mathlib.Core.Bool.{Bool, true, false}
-use mathlib.Core.List.{List, [], _∷_, reverse}
-use mathlib.Core.Logic.{inl, inr}
+use mathlib.Core.List.{List, reverse}
 use native.Mathlib.Omega.{arith}
 use lib.ListN.{length, getD, set, replicate, length-set, length-replicate}
 use lib.Seq.{getD-set-same}
@@ -12,14 +11,14 @@ use lib.Dec.{eqb, leb}
 use borrow.Author.Tests.{eqb-true, eqb-false, leb-true}
 use Rattle.model.specs.Basics.{pick}
 use Rattle.model.specs.Table.{slots, nodeCount, limitOf, weightAt, firstAt, treeOf}
-use Rattle.model.specs.Plan.{prevAt, parentAt, begins}
-use Rattle.model.specs.Steps.{Child, Choice, entryAt, secondStart, gainOf, childOf, childrenOf, choicesOf, layMarks, rootChoice}
-use Rattle.theory.specs.Links.{prevAt-less, parentAt-less}
+use Rattle.model.specs.Plan.{begins}
+use Rattle.model.specs.Steps.{Child, entryAt, secondStart, gainOf, childOf, childrenOf, choicesOf, layMarks, rootChoice}
+use Rattle.theory.specs.Links.{parentAt-less}
 use Rattle.theory.specs.ChainAt.{chainAt}
 use Rattle.theory.specs.Cells.{cellAt}
 use Rattle.theory.specs.CellsFront.{frontOf, childIn}
 use Rattle.theory.specs.CellsRun.{zeros, back}
-use Rattle.theory.specs.CellsNode.{figureAt, frontAt, front-same, Kin, kin-back, Before}
+use Rattle.theory.specs.CellsNode.{figureAt, frontAt, front-same, Kin, kin-back}
 use Rattle.theory.specs.CellsPlan.{Planned}
 use Rattle.theory.specs.CellsMarks.{choicesBack, choices-back-same, back-along, LaidBelow, laid-marks}
 use Rattle.theory.specs.CellsChosen.{chosenIn}

@@ -13,7 +13,6 @@ use lib.Seq.{getD-set-same, getD-set-other}
 use borrow.Author.Tests.{eq-eqb, ne-eqb, lt-ltb, le-ltb}
 use Rattle.model.specs.Basics.{pick, when}
 use Rattle.model.specs.Table.{firstAt, nextAt, walkFrom}
-use Rattle.model.specs.declared.Place.{Place}
 use Rattle.model.specs.declared.Place.the-variants.{At, Nowhere}
 
 -- the pending links of a stack of height h, its top first

@@ -4,14 +4,13 @@
 -- Proves word-order, entry-within (bounds of an entry) and cell-entry: a cell has its entry's word, and the entry's choices are
 -- rebuilt from the run's length. Assumes nothing.
 use Prim.Native.Nat.{ℕ, zero, suc, _+_, _*_, _≤_, _<_}
-use mathlib.Core.Path.{_≡_, refl, sym, _∙_, ap}
+use mathlib.Core.Path.{_≡_, refl, _∙_, ap}
 use mathlib.Core.Bool.{Bool, true, false, _&&_, _||_}
 use mathlib.Core.List.{List, [], _∷_, _++_, map, reverse}
 use native.Mathlib.Omega.{arith}
-use native.Mathlib.Numerals.{add-one}
 use lib.ListN.{length, length-map, length-drop, drop}
 use lib.Dec.{eqb, ltb, leb}
-use borrow.Author.Tests.{ltb-true, ltb-false, leb-true, leb-false, eqb-true, eqb-false, lt-ltb, le-ltb, le-leb, eq-eqb, ne-eqb}
+use borrow.Author.Tests.{ltb-true, ltb-false, leb-true, eqb-true, eqb-false, lt-ltb, le-ltb, le-leb}
 use Rattle.model.specs.Basics.{pick}
 use Rattle.model.specs.Table.{maxNodes}
 use Rattle.model.specs.Plan.{stays, begins}
@@ -34,7 +33,6 @@ use Rattle.model.specs.Steps.{
   entryAt,
   stretched,
 }
-use Rattle.theory.specs.Ranges.{pick-true, pick-false}
 use Rattle.theory.specs.Reduce.{reduce-length}
 use Rattle.theory.specs.ReduceCount.{reduce-stop}
 use mathlib.Core.Logic.{inl}

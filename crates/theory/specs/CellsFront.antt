@@ -3,11 +3,10 @@
 -- Defines listBack (a list from the last back), frontOf, cellIn, Swept, Sweeping. Proves list-cons, list-length, list-same; front-cons,
 -- front-length, front-good; and sweep-none, sweep-turn, sweep-end: a sweep over the starts of a block, one store of a cell a turn. Assumes nothing.
 use Prim.Native.Nat.{ℕ, zero, suc, _+_, _*_, _≤_, _<_}
-use mathlib.Core.Path.{_≡_, refl, sym, _∙_, ap, ap₂}
+use mathlib.Core.Path.{_≡_, refl, _∙_, ap, ap₂}
 use mathlib.Core.Bool.{Bool, true, false}
 use mathlib.Core.List.{List, [], _∷_}
 use native.Mathlib.Omega.{arith}
-use native.Mathlib.Numerals.{add-one}
 use lib.ListN.{length, getD, set, length-set}
 use lib.Seq.{getD-set-same, getD-set-other}
 use lib.Dec.{eqb}

@@ -5,17 +5,17 @@
 use Prim.Native.Nat.{ℕ, zero, suc, _+_, _-_, _≤_, _<_}
 use mathlib.Core.Path.{_≡_, refl, sym, _∙_, ap, ap₂}
 use mathlib.Core.Bool.{Bool, true, false, _&&_, _||_}
-use mathlib.Core.List.{List, [], _∷_, _++_, map, reverse, reverse-append, append-assoc}
+use mathlib.Core.List.{List, [], _∷_, _++_, reverse, reverse-append, append-assoc}
 use native.Mathlib.Omega.{arith}
 use lib.ListN.{length, length-append}
-use lib.Dec.{eqb, ltb, leb}
+use lib.Dec.{eqb, ltb}
 use borrow.Author.Tests.{eqb-true, eqb-false, ltb-true, ltb-false, eq-eqb, ne-eqb, lt-ltb, le-ltb, le-leb, lt-leb}
 use Rattle.model.specs.Basics.{pick}
 use Rattle.model.specs.Plan.{begins, continues}
-use Rattle.model.specs.Steps.{Member, Child, Choice, asMember, runChoices, restSum, runOf}
+use Rattle.model.specs.Steps.{Member, Child, Choice, asMember, runChoices, runOf}
 use Rattle.theory.specs.Reduce.{sumOf}
-use Rattle.theory.specs.ReduceCount.{hasGain, countGain, countGain-cons, Counted}
-use Rattle.theory.specs.ReduceLevel.{Level, takenOff, cutAt, cutAt-above, cutAt-under, cutAt-at, cutAt-past, levelHere, levelFrom, cutBy, reduce-level}
+use Rattle.theory.specs.ReduceCount.{hasGain, countGain, countGain-cons}
+use Rattle.theory.specs.ReduceLevel.{Level, takenOff, cutAt, cutAt-above, cutAt-under, cutAt-at, levelHere, levelFrom, cutBy, reduce-level}
 use Rattle.theory.specs.Cells.{pulled}
 use Rattle.theory.specs.CellsRun.{members, members-length, members-sound, Kept, countsOf}
 

@@ -5,19 +5,19 @@ use Prim.Native.Nat.{ℕ, zero, suc, _+_, _-_, _≤_, _<_}
 use mathlib.Core.Path.{_≡_, refl, sym, _∙_, ap, ap₂}
 use mathlib.Core.Bool.{Bool, true, false}
 use mathlib.Core.List.{List, [], _∷_, _++_, reverse, reverseAux}
-use mathlib.Core.Logic.{_⊎_, inl, inr}
+use mathlib.Core.Logic.{inl, inr}
 use native.Mathlib.Omega.{arith}
 use lib.ListN.{length, getD, take, drop}
 use lib.Seq.{drop-cons, take-add, drop-drop, take-length}
 use lib.Dec.{eqb}
-use borrow.Author.Tests.{eqb-true, eqb-false, eq-eqb, ne-eqb}
+use borrow.Author.Tests.{eqb-true, eqb-false, ne-eqb}
 use Rattle.model.specs.Basics.{pick}
-use Rattle.model.specs.Table.{nodeCount, limitOf, weightAt, labelAt, firstAt, nextAt, treeOf, Chain, end, node}
+use Rattle.model.specs.Table.{nodeCount, limitOf, weightAt, labelAt, firstAt, nextAt, treeOf, Chain, node}
 use Rattle.model.specs.Plan.{prevAt, parentAt, begins}
 use Rattle.model.specs.Steps.{Choice, choicesOf, layMarks, rootChoice}
 use Rattle.theory.specs.Sound.{SoundFacts}
 use Rattle.theory.specs.Numbered.{Numbered, none, some, numbered-le, sound-tree}
-use Rattle.theory.specs.Links.{prevAt-less, prevAt-next, parentAt-later, parentAt-less, parent-first}
+use Rattle.theory.specs.Links.{prevAt-less, prevAt-next, parentAt-less, parent-first}
 use Rattle.theory.specs.ChainAt.{chainAt, chain-is}
 use Rattle.theory.specs.CellsFront.{backFrom, listBack, list-none, list-cons, list-same}
 use Rattle.theory.specs.CellsNode.{Kin, prev-kin, afterAt}

@@ -1,8 +1,8 @@
 -- The children of a node by number: the figures of each, the children up to one of them, and what is kept of the columns of a node's
 -- children. Defines figureAt, frontAt, Kin, Linked, Ready, Filled. Proves front-at-cons, kin-back, front-same (arrays that hold the figures give the
 -- children of the table), kids-first, kids-step, kids-end (a walk over the children) and figure-good. Assumes nothing.
-use Prim.Native.Nat.{ℕ, zero, suc, _+_, _-_, _*_, _≤_, _<_}
-use mathlib.Core.Path.{_≡_, refl, sym, _∙_, ap, ap₂}
+use Prim.Native.Nat.{ℕ, zero, suc, _+_, _-_, _≤_, _<_}
+use mathlib.Core.Path.{_≡_, refl, sym, _∙_, ap}
 use mathlib.Core.Bool.{Bool, true, false}
 use mathlib.Core.List.{List, [], _∷_}
 use mathlib.Core.Logic.{_⊎_, inl, inr}
@@ -11,13 +11,13 @@ use lib.ListN.{length, getD}
 use lib.Dec.{eqb, leb}
 use borrow.Author.Tests.{eqb-true, eqb-false}
 use Rattle.model.specs.Basics.{pick}
-use Rattle.model.specs.Table.{nodeCount, limitOf, weightAt, labelAt, firstAt, nextAt, Chain, end, node}
+use Rattle.model.specs.Table.{nodeCount, limitOf, weightAt, firstAt, nextAt}
 use Rattle.model.specs.Plan.{prevAt, parentAt}
-use Rattle.model.specs.Steps.{Child, Entry, entryAt, secondStart, gainOf, childOf, childrenFrom, childrenOf}
+use Rattle.model.specs.Steps.{Child, entryAt, secondStart, gainOf, childOf, childrenFrom, childrenOf}
 use Rattle.theory.specs.Sound.{SoundFacts, AcceptedFacts}
 use Rattle.theory.specs.Links.{prevAt-less, parentAt-later, parentAt-less, first-le, next-le, first-prev, next-prev, first-parent, next-parent}
 use Rattle.theory.specs.ChainAt.{chainAt, chain-none, node-at}
-use Rattle.theory.specs.Cells.{Cell, cellAt, GoodChild, Good, entry-within}
+use Rattle.theory.specs.Cells.{cellAt, GoodChild, entry-within}
 use Rattle.theory.specs.CellsFront.{listBack, list-none, list-cons, list-same, childIn, frontOf, Earlier, EachGood, cellIn}
 use Rattle.theory.specs.CellsRun.{back, blockAt}
 

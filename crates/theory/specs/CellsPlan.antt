@@ -1,11 +1,11 @@
 -- All nodes after one of them are planned: their figures, their last children and the columns of their children are kept.
 -- Defines Planned. Proves node-figures (a node's figures from the words of its last child's block), planned-none and planned-step.
 -- Assumes nothing.
-use Prim.Native.Nat.{ℕ, zero, suc, _+_, _-_, _*_, _%_, _≤_, _<_}
+use Prim.Native.Nat.{ℕ, _+_, _-_, _*_, _%_, _≤_, _<_}
 use mathlib.Core.Path.{_≡_, refl, sym, _∙_, ap, ap₂}
 use mathlib.Core.Bool.{Bool, true, false}
-use mathlib.Core.List.{List, [], _∷_}
-use mathlib.Core.Logic.{_⊎_, inl, inr}
+use mathlib.Core.List.{List}
+use mathlib.Core.Logic.{inl, inr}
 use native.Mathlib.Omega.{arith}
 use native.Mathlib.Nat.{mul-add-mod-self-right, mod-eq-of-lt}
 use lib.ListN.{length, getD, set}
@@ -15,10 +15,9 @@ use borrow.Author.Tests.{eqb-true, eqb-false, leb-true}
 use Rattle.model.specs.Basics.{pick}
 use Rattle.model.specs.Table.{maxNodes, maxLimit, slots, nodeCount, limitOf, weightAt, firstAt}
 use Rattle.model.specs.Plan.{parentFrom, parentAt}
-use Rattle.model.specs.Steps.{Child, Entry, entryAt, secondStart, gainOf, childOf, childrenOf}
-use Rattle.theory.specs.Sound.{SoundFacts, AcceptedFacts}
+use Rattle.model.specs.Steps.{entryAt, secondStart, gainOf, childOf, childrenOf}
 use Rattle.theory.specs.ChainAt.{chainAt}
-use Rattle.theory.specs.Cells.{Cell, page, wordOf, cellAt, GoodChild, Good, cell-entry}
+use Rattle.theory.specs.Cells.{page, wordOf, cellAt, GoodChild, Good, cell-entry}
 use Rattle.theory.specs.CellsFront.{childIn, frontOf, front-good, front-length, EachGood, cellIn}
 use Rattle.theory.specs.CellsRun.{back, blockAt}
 use Rattle.theory.specs.CellsNode.{figureAt, frontAt, figure-good, Kin, kin-high, kin-back, front-same, afterAt, Ready, Filled}

@@ -1,7 +1,7 @@
 -- `table::first_heavier` meets its contract: no node passed so far is of the kind. Assumes nothing.
-use mathlib.Core.Path.{_≡_, sym, _∙_}
+use mathlib.Core.Path.{_≡_, sym}
 use Prim.Native.Nat.{_-_, _≤_}
-use lib.Dec.{eqb, ltb}
+use lib.Dec.{ltb}
 use borrow.Author.Tests.{lt-ltb, le-ltb}
 use Rattle.model.specs.Basics.{firstTo}
 use Rattle.model.specs.Table.{weightAt}

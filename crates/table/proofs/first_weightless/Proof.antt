@@ -1,7 +1,7 @@
 -- `table::first_weightless` meets its contract: no node passed so far is of the kind. Assumes nothing.
 use mathlib.Core.Path.{_≡_, sym, _∙_}
 use Prim.Native.Nat.{_-_, _≤_}
-use lib.Dec.{eqb, ltb}
+use lib.Dec.{eqb}
 use borrow.Author.Tests.{eq-eqb, ne-eqb}
 use Rattle.model.specs.Basics.{firstTo}
 use Rattle.model.specs.Table.{weightAt}

@@ -9,10 +9,6 @@ use Rattle.model.specs.Table.{slots, walkFrom}
 use Rattle.table.proofs.Pending.{pendingOf, fuel, walk-start, walk-whole, walk-short, turn-end, turn-met, turn-fails}
 use Rattle.table.proofs.walk.walk_from_root.Statement.{statement}
 use Rattle.table.proofs.walk.walk_from_root.Tie as tie
-use Rattle.table.proofs.walk.walk_from_root.Reads as reads
-use Rattle.table.proofs.walk.walk_from_root.Lts as lts
-use Rattle.table.proofs.words.first_at.Reads as first-at-reads
-use Rattle.table.proofs.words.next_at.Reads as next-at-reads
 
 abbrev Inv-loop : tie.InvT-loop
 Inv-loop table nodes pending₀ height₀ met₀ pending height met =

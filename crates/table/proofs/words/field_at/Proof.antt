@@ -8,9 +8,6 @@ use Rattle.model.specs.Table.{wordAt, fieldAt}
 use borrow.Author.Needs.{needs}
 use Rattle.table.proofs.words.field_at.Statement.{statement}
 use Rattle.table.proofs.words.field_at.Tie as tie
-use Rattle.table.proofs.words.field_at.Reads as reads
-use Rattle.table.proofs.words.field_at.Lts as lts
-use Rattle.table.proofs.words.word_at.Reads as word-at-reads
 
 sub-before : tie.Need-sub-before
 sub-before c = search needs

@@ -3,10 +3,6 @@ use Rattle.model.specs.Table.{wordAt}
 use borrow.Author.Needs.{needs}
 use Rattle.table.proofs.words.word_at.Statement.{statement}
 use Rattle.table.proofs.words.word_at.Tie as tie
-use Rattle.table.proofs.words.word_at.Reads as reads
-use Rattle.table.proofs.words.word_at.Lts as lts
-use Rattle.table.proofs.words.byte_at.Reads as byte-at-reads
-use Rattle.table.proofs.words.word_of.Reads as word-of-reads
 
 mul-at : tie.Need-mul-at
 mul-at c = search needs
