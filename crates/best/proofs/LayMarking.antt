@@ -1,5 +1,5 @@
--- A run's marks, from its last member back, one a turn. Defines Marking.
--- Proves count-less, run-sums, level-small, marking-start, marking-high, marking-low, marking-takes, marking-turn and marking-end.
+-- A run's marks, from its last member back, one a turn. Defines Marking, Levelled. Proves count-less, run-sums, counts-small, level-small,
+-- marking-start, marking-high, marking-low, marking-takes, marking-turn and marking-end.
 -- Assumes nothing.
 use Prim.Native.Nat.{ℕ, zero, suc, _+_, _-_, _≤_, _<_}
 use mathlib.Core.Path.{_≡_, refl, sym, _∙_, ap, ap₂}
@@ -126,106 +126,121 @@ pub record Marking (rests gains prevs : List ℕ) (c n g t : ℕ) (marks seconds
   pub gainful : Gainful gains seconds′
   pub wide : length seconds′ ≡ slots
 
-module _ {K c n : ℕ} {rests gains prevs marks seconds : List ℕ} (ready : RunReady K c n rests gains prevs marks seconds) where
-  module _ {total gained top : ℕ} {counts : List ℕ} (kept : Kept K (pulled n [] (frontOf rests gains prevs c)) n total gained top counts) (g t : ℕ)
-      (gain-is : g ≡ levelFrom top (countsOf counts) K total .gain) (times-is : t ≡ levelFrom top (countsOf counts) K total .times)
-    where
-      pub level-small : (g ≤ maxLimit) × ((h : ℕ) → getD counts h 0 ≤ maxNodes)
-      level-small =
-          let few : n ≤ maxNodes = omega (arith, ready .within, front-length rests gains prevs (ready .earlier) c, ready .high, ready .short) in
-          (omega (arith, gain-is, level-le top (countsOf counts) K total, kept .top-high, ready .limit-high), λ h. omega (arith, kept-count kept h))
+-- the gain g of the run's level, of which the earliest t are taken, from how many members have each gain
+pub record Levelled (K c n : ℕ) (rests gains prevs counts : List ℕ) (g t : ℕ) : Type 0 where
+  pub total : ℕ
+  pub gained : ℕ
+  pub top : ℕ
+  pub kept : Kept K (pulled n [] (frontOf rests gains prevs c)) n total gained top counts
+  pub gain-is : g ≡ levelFrom top (countsOf counts) K total .gain
+  pub times-is : t ≡ levelFrom top (countsOf counts) K total .times
 
-      pub marking-start : Marking rests gains prevs c n g t marks seconds marks seconds (getD counts g 0) n c
-      unfolding back
-      marking-start =
-          let same : getD counts g 0 ≡ countGain g (members (pulled n [] (frontOf rests gains prevs c))) = sym (kept .counts-are g) in
+module _ {K c n : ℕ} {rests gains prevs marks seconds : List ℕ} (ready : RunReady K c n rests gains prevs marks seconds) where
+  pub counts-small : {total gained top : ℕ} {counts : List ℕ} → Kept K (pulled n [] (frontOf rests gains prevs c)) n total gained top counts
+      → (h : ℕ) → getD counts h 0 ≤ maxNodes
+  counts-small kept h =
+      let few : n ≤ maxNodes = omega (arith, ready .within, front-length rests gains prevs (ready .earlier) c, ready .high, ready .short) in
+      omega (arith, kept-count kept h)
+
+  -- the member that is next
+  module _ {g t : ℕ} {marks′ seconds′ : List ℕ} {before left next : ℕ} (m : Marking rests gains prevs c n g t marks seconds marks′ seconds′ before left next) where
+    pub marking-high : next ≤ length marks
+    marking-high = omega (arith, m .at, back-le prevs (ready .earlier) (ready .none) (m .done) c, ready .high)
+
+    module _ (some : left ≡ 0 → ⊥) where
+      pub marking-low : 1 ≤ next
+      marking-low = front-low rests gains prevs (ready .earlier) next (omega (arith, m .within))
+
+      shape : frontOf rests gains prevs next ≡ childIn rests gains next ∷ frontOf rests gains prevs (getD prevs next 0)
+      shape = front-cons rests gains prevs (ready .earlier) next marking-low
+
+      -- how many at the level come before it
+      counted : before ≡ countGain g (members (pulled (left - 1) [] (frontOf rests gains prevs (getD prevs next 0)))) + pick (eqb (getD gains next 0) g) 1 0
+      counted =
+          let e : left ≡ suc (left - 1) = omega arith in
+          m .count
+          ∙ ap₂ (λ k ks. countGain g (members (pulled k [] ks))) e shape
+          ∙ count-back g (left - 1) (childIn rests gains next) (frontOf rests gains prevs (getD prevs next 0))
+
+      pub marking-takes : getD gains next 0 ≡ g → 1 ≤ before
+      unfolding pick
+      marking-takes e =
+          let one : asSecond (eqb (getD gains next 0) g) ≡ 1 = rw (eq-eqb (getD gains next 0) g e) refl in
+          omega (arith, counted, one)
+
+  module _ {g t : ℕ} {counts : List ℕ} (v : Levelled K c n rests gains prevs counts g t) where
+    pub level-small : g ≤ maxLimit
+    level-small = omega (arith, v .gain-is, level-le (v .top) (countsOf counts) K (v .total), v .kept .top-high, ready .limit-high)
+
+    pub marking-start : Marking rests gains prevs c n g t marks seconds marks seconds (getD counts g 0) n c
+    unfolding back
+    marking-start =
+        let same : getD counts g 0 ≡ countGain g (members (pulled n [] (frontOf rests gains prevs c))) = sym (v .kept .counts-are g) in
+        record {
+          done = 0;
+          choices = [];
+          sum = omega arith;
+          at = refl;
+          within = ready .within;
+          count = same;
+          laid = laid-none prevs c marks seconds;
+          rest = ap (λ k. backRun g t k n (frontOf rests gains prevs c)) same;
+          gainful = ready .gainful;
+          wide = ready .wide;
+        }
+
+    module _ {marks′ seconds′ : List ℕ} {before left next : ℕ} (m : Marking rests gains prevs c n g t marks seconds marks′ seconds′ before left next) where
+      pub marking-turn : (left ≡ 0 → ⊥) → (before′ mark second : ℕ) → before′ ≡ before - pick (eqb (getD gains next 0) g) 1 0 → mark ≡ lastMark (left - 1)
+          → second ≡ pick (takes g t before′ (getD gains next 0)) 1 0
+          → Marking rests gains prevs c n g t marks seconds (set marks′ (next - 1) mark) (set seconds′ next second) before′ (left - 1) (getD prevs next 0)
+      unfolding back backRun
+      marking-turn some before′ mark second b a s =
+          let gain : ℕ = getD gains next 0 in
+          let low = marking-low m some in
+          let high = marking-high m in
+          let ch : Choice = record { mark = lastMark (left - 1); second = takes g t before′ gain } in
+          let laid-ch : Choice = record { mark = mark; second = eqb second 1 } in
+          let short : next < length seconds′ = omega (arith, m .wide, high, ready .short) in
+          let same : laid-ch ≡ ch = choice-is mark second (lastMark (left - 1)) (takes g t before′ gain) a s in
+          let alone : LaidRun prevs 1 next (laid-ch ∷ []) marks′ seconds′ (set marks′ (next - 1) mark) (set seconds′ next second) =
+          laid-one prevs next marks′ seconds′ mark second low (omega (arith, m .laid .long, high)) short in
+          let one : LaidRun prevs 1 next (ch ∷ []) marks′ seconds′ (set marks′ (next - 1) mark) (set seconds′ next second) = rw same at alone in
+          let more : m .done + 1 ≡ suc (m .done) = omega arith in
+          let less : left ≡ suc (left - 1) = omega arith in
+          let step : ch ∷ backRun g t before′ (left - 1) (frontOf rests gains prevs (getD prevs next 0)) ≡ backRun g t before left (frontOf rests gains prevs next) =
+          sym
+          (ap₂ (backRun g t before) less (shape m some)
+          ∙ ap (λ k. record { mark = lastMark (left - 1); second = takes g t k gain } ∷ backRun g t k (left - 1) (frontOf rests gains prevs (getD prevs next 0))) (sym b)) in
+          let none : g ≡ 0 → t ≡ 0 = λ z. v .times-is ∙ level-none (v .top) (countsOf counts) K (v .total) (sym (v .gain-is) ∙ z) in
           record {
-            done = 0;
-            choices = [];
-            sum = omega arith;
-            at = refl;
-            within = ready .within;
-            count = same;
-            laid = laid-none prevs c marks seconds;
-            rest = ap (λ k. backRun g t k n (frontOf rests gains prevs c)) same;
-            gainful = ready .gainful;
-            wide = ready .wide;
+            done = m .done + 1;
+            choices = m .choices ++ (ch ∷ []);
+            sum = omega (arith, m .sum);
+            at = ap (λ u. getD prevs u 0) (m .at) ∙ sym (ap (λ k. back prevs k c) more);
+            within = omega (arith, m .within, ap length (shape m some));
+            count = omega (arith, counted m some);
+            laid = laid-then (ready .earlier) (λ j l. front-real rests gains prevs (ready .earlier) j c (omega (arith, m .sum, ready .within))) (m .at) (m .laid) one;
+            rest = append-assoc (m .choices) (ch ∷ []) (backRun g t before′ (left - 1) (frontOf rests gains prevs (getD prevs next 0)))
+                ∙ ap (λ l. m .choices ++ l) step
+                ∙ m .rest;
+            gainful = gainful-set gains seconds′ next second short (m .gainful) (λ e. takes-gain g t before′ gain none (second-taken (takes g t before′ gain) (sym s ∙ e)));
+            wide = simp length-set (m .wide);
           }
 
-      module _ {marks′ seconds′ : List ℕ} {before left next : ℕ} (m : Marking rests gains prevs c n g t marks seconds marks′ seconds′ before left next) where
-        pub marking-high : next ≤ length marks
-        marking-high = omega (arith, m .at, back-le prevs (ready .earlier) (ready .none) (m .done) c, ready .high)
-
-        module _ (some : left ≡ 0 → ⊥) where
-          pub marking-low : 1 ≤ next
-          marking-low = front-low rests gains prevs (ready .earlier) next (omega (arith, m .within))
-
-          shape : frontOf rests gains prevs next ≡ childIn rests gains next ∷ frontOf rests gains prevs (getD prevs next 0)
-          shape = front-cons rests gains prevs (ready .earlier) next marking-low
-
-          -- how many at the level come before the member
-          counted : before ≡ countGain g (members (pulled (left - 1) [] (frontOf rests gains prevs (getD prevs next 0)))) + pick (eqb (getD gains next 0) g) 1 0
-          counted =
-              let e : left ≡ suc (left - 1) = omega arith in
-              m .count
-              ∙ ap₂ (λ k ks. countGain g (members (pulled k [] ks))) e shape
-              ∙ count-back g (left - 1) (childIn rests gains next) (frontOf rests gains prevs (getD prevs next 0))
-
-          pub marking-takes : getD gains next 0 ≡ g → 1 ≤ before
-          unfolding pick
-          marking-takes e =
-              let one : asSecond (eqb (getD gains next 0) g) ≡ 1 = rw (eq-eqb (getD gains next 0) g e) refl in
-              omega (arith, counted, one)
-
-          pub marking-turn : (before′ mark second : ℕ) → before′ ≡ before - pick (eqb (getD gains next 0) g) 1 0 → mark ≡ lastMark (left - 1)
-              → second ≡ pick (takes g t before′ (getD gains next 0)) 1 0
-              → Marking rests gains prevs c n g t marks seconds (set marks′ (next - 1) mark) (set seconds′ next second) before′ (left - 1) (getD prevs next 0)
-          unfolding back backRun
-          marking-turn before′ mark second b a s =
-              let gain : ℕ = getD gains next 0 in
-              let ch : Choice = record { mark = lastMark (left - 1); second = takes g t before′ gain } in
-              let laid-ch : Choice = record { mark = mark; second = eqb second 1 } in
-              let short : next < length seconds′ = omega (arith, m .wide, marking-high, ready .short) in
-              let same : laid-ch ≡ ch = choice-is mark second (lastMark (left - 1)) (takes g t before′ gain) a s in
-              let alone : LaidRun prevs 1 next (laid-ch ∷ []) marks′ seconds′ (set marks′ (next - 1) mark) (set seconds′ next second) =
-              laid-one prevs next marks′ seconds′ mark second marking-low (omega (arith, m .laid .long, marking-high)) short in
-              let one : LaidRun prevs 1 next (ch ∷ []) marks′ seconds′ (set marks′ (next - 1) mark) (set seconds′ next second) = rw same at alone in
-              let more : m .done + 1 ≡ suc (m .done) = omega arith in
-              let less : left ≡ suc (left - 1) = omega arith in
-              let step : ch ∷ backRun g t before′ (left - 1) (frontOf rests gains prevs (getD prevs next 0)) ≡ backRun g t before left (frontOf rests gains prevs next) =
-              sym
-              (ap₂ (backRun g t before) less shape
-              ∙ ap (λ k. record { mark = lastMark (left - 1); second = takes g t k gain } ∷ backRun g t k (left - 1) (frontOf rests gains prevs (getD prevs next 0))) (sym b)) in
-              let none : g ≡ 0 → t ≡ 0 = λ z. times-is ∙ level-none top (countsOf counts) K total (sym gain-is ∙ z) in
-              record {
-                done = m .done + 1;
-                choices = m .choices ++ (ch ∷ []);
-                sum = omega (arith, m .sum);
-                at = ap (λ u. getD prevs u 0) (m .at) ∙ sym (ap (λ k. back prevs k c) more);
-                within = omega (arith, m .within, ap length shape);
-                count = omega (arith, counted);
-                laid = laid-then (ready .earlier) (λ j l. front-real rests gains prevs (ready .earlier) j c (omega (arith, m .sum, ready .within))) (m .at) (m .laid) one;
-                rest = append-assoc (m .choices) (ch ∷ []) (backRun g t before′ (left - 1) (frontOf rests gains prevs (getD prevs next 0)))
-                    ∙ ap (λ l. m .choices ++ l) step
-                    ∙ m .rest;
-                gainful = gainful-set gains seconds′ next second short (m .gainful) (λ e. takes-gain g t before′ gain none (second-taken (takes g t before′ gain) (sym s ∙ e)));
-                wide = simp length-set (m .wide);
-              }
-
-        pub marking-end : left ≡ 0 → RunDone K c n rests gains prevs marks seconds marks′ seconds′ next
-        unfolding backRun
-        marking-end z =
-            let all : m .done ≡ n = omega (arith, m .sum) in
-            let whole : m .choices ≡ runBack K n (frontOf rests gains prevs c) =
-            sym (append-nil (m .choices))
-            ∙ ap (λ k. m .choices ++ backRun g t before k (frontOf rests gains prevs next)) (sym z)
-            ∙ m .rest
-            ∙ back-run g t n (frontOf rests gains prevs c) (ready .within)
-            ∙ ap₂ (λ x y. reverse (runChoices begins (cutAt x y (members (pulled n [] (frontOf rests gains prevs c)))))) gain-is times-is
-            ∙ ap (λ ms. reverse (runChoices begins ms)) (sym (run-level kept)) in
-            record {
-              laid = rw (all, whole) at (m .laid);
-              wide = m .wide;
-              gainful = m .gainful;
-              next = rw all at (m .at);
-            }
+      pub marking-end : left ≡ 0 → RunDone K c n rests gains prevs marks seconds marks′ seconds′ next
+      unfolding backRun
+      marking-end z =
+          let all : m .done ≡ n = omega (arith, m .sum) in
+          let whole : m .choices ≡ runBack K n (frontOf rests gains prevs c) =
+          sym (append-nil (m .choices))
+          ∙ ap (λ k. m .choices ++ backRun g t before k (frontOf rests gains prevs next)) (sym z)
+          ∙ m .rest
+          ∙ back-run g t n (frontOf rests gains prevs c) (ready .within)
+          ∙ ap₂ (λ x y. reverse (runChoices begins (cutAt x y (members (pulled n [] (frontOf rests gains prevs c)))))) (v .gain-is) (v .times-is)
+          ∙ ap (λ ms. reverse (runChoices begins ms)) (sym (run-level (v .kept))) in
+          record {
+            laid = rw (all, whole) at (m .laid);
+            wide = m .wide;
+            gainful = m .gainful;
+            next = rw all at (m .at);
+          }

@@ -1,5 +1,5 @@
 -- What becomes of nodes as it stands in arrays of marks and of second plans.
--- Defines chosenIn, choicesFor, LaidRun. Proves choices-for-same, choices-for-snoc. Assumes nothing.
+-- Defines chosenIn, choicesFor, LaidRun. Proves choices-for-same, choices-for-more. Assumes nothing.
 use Prim.Native.Nat.{ℕ, zero, suc, _+_, _-_, _≤_, _<_}
 use mathlib.Core.Path.{_≡_, refl, sym, _∙_, ap, ap₂}
 use mathlib.Core.List.{List, [], _∷_, _++_}

@@ -2,12 +2,26 @@
 use borrow.Author.Needs.{needs}
 use Rattle.best.proofs.lay.lay_run.Statement.{statement}
 use Rattle.best.proofs.lay.lay_run.Tie as tie
-use Prim.Native.Nat.{_<_}
+use Prim.Native.Nat.{_<_, _≤_}
 use mathlib.Core.Path.{refl}
 use mathlib.Core.Logic.{inl, inr, ⊎-elim}
-use lib.ListN.{getD}
+use lib.ListN.{length, getD}
 use native.Mathlib.Omega.{arith}
-use Rattle.best.proofs.LayMarking.{Marking, count-less, run-sums, level-small, marking-start, marking-high, marking-low, marking-takes, marking-turn, marking-end}
+use Rattle.model.specs.Table.{maxNodes}
+use Rattle.best.proofs.LayMarking.{
+  Marking,
+  Levelled,
+  count-less,
+  run-sums,
+  counts-small,
+  level-small,
+  marking-start,
+  marking-high,
+  marking-low,
+  marking-takes,
+  marking-turn,
+  marking-end,
+}
 
 abbrev Inv-loop : tie.InvT-loop
 Inv-loop prevs rests gains marks₀ seconds₀ child len limit level before₀ left₀ next₀ marks seconds before left next =
@@ -15,6 +29,32 @@ Inv-loop prevs rests gains marks₀ seconds₀ child len limit level before₀ l
 
 abbrev μ-loop : tie.MeasureT-loop
 μ-loop prevs rests gains marks₀ seconds₀ child len limit level before₀ left₀ next₀ marks seconds before left next = left
+
+-- the level, from the sums of the run
+levelled : (d : tie.After-find-level Inv-loop μ-loop) → let a = d .before .before .before .before .before .args in
+    Levelled (a .limit) (a .child) (a .len) (a .rests .now) (a .gains .now) (a .prevs .now) (d .before .before .sum-run .last .1 .1 .1 .0)
+    (d .find-level .result .gain) (d .find-level .result .times)
+levelled d =
+    let x = d .before .before .sum-run in
+    let b = d .before .before .before .before .before in
+    record {
+      total = x .result .total;
+      gained = x .result .gained;
+      top = x .result .top;
+      kept = x .ensures (b .args .limit) (b .pre .good);
+      gain-is = d .find-level .ensures .0;
+      times-is = d .find-level .ensures .1;
+    }
+
+-- the member to be marked is a node
+high : (l : tie.At-loop Inv-loop μ-loop) → let a = l .before .before .before .before .before .before .before .args in
+    (l .loop .next ≤ length (a .marks .now)) × (length (a .marks .now) ≤ maxNodes)
+high l =
+    let b = l .before .before .before .before .before .before .before in
+    (marking-high (b .pre) (l .loop .inv), b .pre .short)
+
+low : (i : tie.In-loop Inv-loop μ-loop) → 1 ≤ i .before .loop .next
+low i = marking-low (i .before .before .before .before .before .before .before .before .pre) (i .before .loop .inv) (i .loop-test .taken)
 
 sum-run-requires : tie.Need-sum-run-requires Inv-loop μ-loop
 sum-run-requires c κs = (run-sums (c .before .before .pre), refl)
@@ -24,10 +64,9 @@ cast-find-level c = search needs
 
 find-level-requires : tie.Need-find-level-requires Inv-loop μ-loop
 find-level-requires c κs =
-    let x = c .before .sum-run in
     let b = c .before .before .before .before in
-    let kept = x .ensures (b .args .limit) (b .pre .good) in
-    (kept .top-high, b .pre .limit-high, λ h. level-small (b .pre) kept _ _ refl refl .1 h)
+    let kept = c .before .sum-run .ensures (b .args .limit) (b .pre .good) in
+    (kept .top-high, b .pre .limit-high, counts-small (b .pre) kept)
 
 cast-before : tie.Need-cast-before Inv-loop μ-loop
 cast-before c = search needs
@@ -37,115 +76,62 @@ mul-before c = search needs
 
 array-read-before : tie.Need-array-read-before Inv-loop μ-loop
 array-read-before c =
-    let f = c .before .find-level in
-    let x = c .before .before .before .sum-run in
-    let b = c .before .before .before .before .before .before in
-    let kept = x .ensures (b .args .limit) (b .pre .good) in
-    omega (arith, level-small (b .pre) kept (f .result .gain) (f .result .times) (f .ensures .0) (f .ensures .1) .0)
+    let d = c .before in
+    omega (arith, level-small (d .before .before .before .before .before .pre) (levelled d))
 
 loop-holds : tie.Need-loop-holds Inv-loop μ-loop
 loop-holds c =
-    let f = c .before .find-level in
-    let x = c .before .before .before .sum-run in
-    let b = c .before .before .before .before .before .before in
-    let kept = x .ensures (b .args .limit) (b .pre .good) in
-    marking-start (b .pre) kept (f .result .gain) (f .result .times) (f .ensures .0) (f .ensures .1)
+    let d = c .before in
+    marking-start (d .before .before .before .before .before .pre) (levelled d)
 
 sub-left : tie.Need-sub-left Inv-loop μ-loop
 sub-left c = search needs
 
 mul-gain : tie.Need-mul-gain Inv-loop μ-loop
-mul-gain c =
-    let l = c .before in
-    let f = l .before .before .find-level in
-    let x = l .before .before .before .before .sum-run in
-    let b = l .before .before .before .before .before .before .before in
-    let kept = x .ensures (b .args .limit) (b .pre .good) in
-    let high = marking-high (b .pre) kept (f .result .gain) (f .result .times) (f .ensures .0) (f .ensures .1) (l .loop .inv) in
-    let short = b .pre .short in
-    search needs
+mul-gain c = let h = high (c .before) in search needs
 
 element-copy-out-gain : tie.Need-element-copy-out-gain Inv-loop μ-loop
-element-copy-out-gain c =
-    let l = c .before in
-    let f = l .before .before .find-level in
-    let x = l .before .before .before .before .sum-run in
-    let b = l .before .before .before .before .before .before .before in
-    let kept = x .ensures (b .args .limit) (b .pre .good) in
-    omega (arith, marking-high (b .pre) kept (f .result .gain) (f .result .times) (f .ensures .0) (f .ensures .1) (l .loop .inv), b .pre .short)
+element-copy-out-gain c = omega (arith, high (c .before) .0, high (c .before) .1)
 
 sub-before : tie.Need-sub-before Inv-loop μ-loop
 sub-before c =
-    let l = c .before .before .before .before in
-    let f = l .before .before .find-level in
-    let x = l .before .before .before .before .sum-run in
-    let b = l .before .before .before .before .before .before .before in
-    let kept = x .ensures (b .args .limit) (b .pre .good) in
-    marking-takes (b .pre) kept (f .result .gain) (f .result .times) (f .ensures .0) (f .ensures .1) (l .loop .inv) (c .before .before .before .loop-test .taken) (c .if1 .taken)
+    let i = c .before .before .before in
+    marking-takes (i .before .before .before .before .before .before .before .before .pre) (i .before .loop .inv) (i .loop-test .taken) (c .if1 .taken)
 
 second-of-requires : tie.Need-second-of-requires Inv-loop μ-loop
 second-of-requires c κs = search needs
 
 element-write-seconds : tie.Need-element-write-seconds Inv-loop μ-loop
 element-write-seconds c =
-    let l = c .before .before .before .before .before in
-    let f = l .before .before .find-level in
-    let x = l .before .before .before .before .sum-run in
-    let b = l .before .before .before .before .before .before .before in
-    let kept = x .ensures (b .args .limit) (b .pre .good) in
-    omega (arith, marking-high (b .pre) kept (f .result .gain) (f .result .times) (f .ensures .0) (f .ensures .1) (l .loop .inv), b .pre .short)
+    let h = high (c .before .before .before .before .before) in
+    omega (arith, h .0, h .1)
 
 mark-of-requires : tie.Need-mark-of-requires Inv-loop μ-loop
 mark-of-requires c κs = search needs
 
 sub-marks : tie.Need-sub-marks Inv-loop μ-loop
-sub-marks c =
-    let l = c .before .before .before .before .before .before in
-    let f = l .before .before .find-level in
-    let x = l .before .before .before .before .sum-run in
-    let b = l .before .before .before .before .before .before .before in
-    let kept = x .ensures (b .args .limit) (b .pre .good) in
-    marking-low (b .pre) kept (f .result .gain) (f .result .times) (f .ensures .0) (f .ensures .1) (l .loop .inv) (c .before .before .before .before .before .loop-test .taken)
+sub-marks c = low (c .before .before .before .before .before)
 
 slice-write-marks : tie.Need-slice-write-marks Inv-loop μ-loop
 slice-write-marks c =
-    let l = c .before .before .before .before .before .before in
-    let f = l .before .before .find-level in
-    let x = l .before .before .before .before .sum-run in
-    let b = l .before .before .before .before .before .before .before in
-    let kept = x .ensures (b .args .limit) (b .pre .good) in
-    omega (arith, marking-low (b .pre) kept (f .result .gain) (f .result .times) (f .ensures .0) (f .ensures .1) (l .loop .inv) (c .before .before .before .before .before .loop-test .taken), marking-high (b .pre) kept (f .result .gain) (f .result .times) (f .ensures .0) (f .ensures .1) (l .loop .inv), l .loop .inv .laid .long)
+    let i = c .before .before .before .before .before in
+    omega (arith, low i, high (i .before) .0, i .before .loop .inv .laid .long)
 
 mul-next : tie.Need-mul-next Inv-loop μ-loop
-mul-next c =
-    let l = c .before .before .before .before .before .before in
-    let f = l .before .before .find-level in
-    let x = l .before .before .before .before .sum-run in
-    let b = l .before .before .before .before .before .before .before in
-    let kept = x .ensures (b .args .limit) (b .pre .good) in
-    let high = marking-high (b .pre) kept (f .result .gain) (f .result .times) (f .ensures .0) (f .ensures .1) (l .loop .inv) in
-    let short = b .pre .short in
-    search needs
+mul-next c = let h = high (c .before .before .before .before .before .before) in search needs
 
 element-copy-out-next : tie.Need-element-copy-out-next Inv-loop μ-loop
 element-copy-out-next c =
-    let l = c .before .before .before .before .before .before in
-    let f = l .before .before .find-level in
-    let x = l .before .before .before .before .sum-run in
-    let b = l .before .before .before .before .before .before .before in
-    let kept = x .ensures (b .args .limit) (b .pre .good) in
-    omega (arith, marking-high (b .pre) kept (f .result .gain) (f .result .times) (f .ensures .0) (f .ensures .1) (l .loop .inv), b .pre .short)
+    let h = high (c .before .before .before .before .before .before) in
+    omega (arith, h .0, h .1)
 
 cast-next : tie.Need-cast-next Inv-loop μ-loop
 cast-next c =
-    let l = c .before .before .before .before .before .before .before in
-    let f = l .before .before .find-level in
-    let x = l .before .before .before .before .sum-run in
+    let i = c .before .before .before .before .before .before in
+    let l = i .before in
     let b = l .before .before .before .before .before .before .before in
-    let kept = x .ensures (b .args .limit) (b .pre .good) in
-    let small : getD (b .args .prevs .now) (l .loop .next) 0 < l .loop .next = b .pre .earlier (l .loop .next) (marking-low (b .pre) kept (f .result .gain) (f .result .times) (f .ensures .0) (f .ensures .1) (l .loop .inv) (c .before .before .before .before .before .before .loop-test .taken)) in
-    let high = marking-high (b .pre) kept (f .result .gain) (f .result .times) (f .ensures .0) (f .ensures .1) (l .loop .inv) in
-    let short = b .pre .short in
+    let less : getD (b .args .prevs .now) (l .loop .next) 0 < l .loop .next = b .pre .earlier (l .loop .next) (low i) in
+    let h = high l in
     search needs
 
 loop-less : tie.Need-loop-less Inv-loop μ-loop
@@ -153,14 +139,12 @@ loop-less c = search needs
 
 loop-again : tie.Need-loop-again Inv-loop μ-loop
 loop-again c =
-    let l = c .before .before .before .before .before .before .before in
-    let f = l .before .before .find-level in
-    let x = l .before .before .before .before .sum-run in
-    let b = l .before .before .before .before .before .before .before in
-    let kept = x .ensures (b .args .limit) (b .pre .good) in
-    marking-turn (b .pre) kept (f .result .gain) (f .result .times) (f .ensures .0) (f .ensures .1) (l .loop .inv) (c .before .before .before .before .before .before .loop-test .taken)
+    let i = c .before .before .before .before .before .before in
+    let l = i .before in
+    let d = l .before .before in
+    marking-turn (d .before .before .before .before .before .pre) (levelled d) (l .loop .inv) (i .loop-test .taken)
     (c .before .before .before .if1 .before) (c .before .mark-of .result) (c .before .before .second-of .result)
-    (count-less _ (f .result .gain) (l .loop .before) _ (⊎-elim (λ w. inl (w .0 .taken, w .1)) (λ w. inr (w .0 .left, w .1)) (c .before .before .before .if1 .came)))
+    (count-less _ (d .find-level .result .gain) (l .loop .before) _ (⊎-elim (λ w. inl (w .0 .taken, w .1)) (λ w. inr (w .0 .left, w .1)) (c .before .before .before .if1 .came)))
     (c .before .mark-of .ensures)
     (c .before .before .second-of .ensures)
 
@@ -169,12 +153,8 @@ same-length c = c .before .loop .inv .laid .long
 
 returns : tie.Need-returns Inv-loop μ-loop
 returns c =
-    let l = c .before in
-    let f = l .before .before .find-level in
-    let x = l .before .before .before .before .sum-run in
-    let b = l .before .before .before .before .before .before .before in
-    let kept = x .ensures (b .args .limit) (b .pre .good) in
-    marking-end (b .pre) kept (f .result .gain) (f .result .times) (f .ensures .0) (f .ensures .1) (l .loop .inv) (c .loop-test .left)
+    let d = c .before .before .before in
+    marking-end (d .before .before .before .before .before .pre) (levelled d) (c .before .loop .inv) (c .loop-test .left)
 
 pub lay-run-spec : {M : Type 1} → statement M
 lay-run-spec =
