@@ -1,4 +1,4 @@
--- The marks of a node's children, from the last back: a child that stays, or a run, each turn. Defines Walking.
+-- The marks of a node's children, from the last back: a child that stays, or a run, each turn. Defines Walking, Found.
 -- Proves walk-from, walk-reads, walk-stay, walk-ready, walk-run, walk-less and walk-end. Assumes nothing.
 use Prim.Native.Nat.{ℕ, zero, suc, _+_, _-_, _*_, _≤_, _<_}
 use mathlib.Core.Path.{_≡_, refl, sym, _∙_, ap, ap₂}
@@ -86,6 +86,12 @@ pub record Walking (t : List ℕ) (v : ℕ) (rests gains prevs lasts marks secon
   pub gainful : Gainful gains seconds′
   pub wide : length seconds′ ≡ slots
 
+-- there is a child, and len is the length of the run that won at the start, 0 where the child stays
+pub record Found (t xs : List ℕ) (K start child len : ℕ) : Type 0 where
+  pub limit-is : K ≡ limitOf t
+  pub some : child ≡ 0 → ⊥
+  pub run-is : len ≡ getD xs (blockAt K child + (K + 1) + start) 0
+
 module _ {t : List ℕ} {v : ℕ} {rests gains prevs lasts xs marks seconds : List ℕ} (node : NodeReady t v rests gains prevs lasts xs marks seconds) where
   pub limit-small : limitOf t ≤ maxLimit
   limit-small = node .ready .accepted .sound .limit-high
@@ -155,126 +161,124 @@ module _ {t : List ℕ} {v : ℕ} {rests gains prevs lasts xs marks seconds : Li
         ap (frontOf rests gains prevs) (w .at) ∙ front-back rests gains prevs (node .ready .earlier) (w .walked) (getD lasts v 0) (w .within) in
         omega (arith, ap length e, length-drop (w .walked) (frontOf rests gains prevs (getD lasts v 0)), w .within)
 
-    module _ (K block len : ℕ) (limit-is : K ≡ limitOf t) (block-is : block ≡ blockAt K child) (found : len ≡ getD xs (block + (K + 1) + start) 0)
-        (some : child ≡ 0 → ⊥)
-      where
-        is : len ≡ getD xs (blockAt (limitOf t) child + (limitOf t + 1) + start) 0
-        is = found ∙ ap (λ b. getD xs (b + (K + 1) + start) 0) block-is ∙ ap (λ k. getD xs (blockAt k child + (k + 1) + start) 0) limit-is
+    module _ {K len : ℕ} (found : Found t xs K start child len) where
+      is : len ≡ getD xs (blockAt (limitOf t) child + (limitOf t + 1) + start) 0
+      is = found .run-is ∙ ap (λ k. getD xs (blockAt k child + (k + 1) + start) 0) (found .limit-is)
 
-        one : 1 ≤ child
-        one = omega arith
+      one : 1 ≤ child
+      one = omega (arith, found .some)
 
-        agrees : Agrees (limitOf t) start (frontOf rests gains prevs child) (entryAt (limitOf t) (frontOf rests gains prevs child) start) (cellAt (limitOf t) (frontOf rests gains prevs child) start)
-        agrees =
-            cell-entry (limitOf t) (omega (arith, limit-small)) (frontOf rests gains prevs child) start (w .high)
-            (front-good (limitOf t) rests gains prevs (node .ready .good) child)
-            (omega (arith, front-length rests gains prevs (node .ready .earlier) child, walk-high, count-small))
+      agrees : Agrees (limitOf t) start (frontOf rests gains prevs child) (entryAt (limitOf t) (frontOf rests gains prevs child) start) (cellAt (limitOf t) (frontOf rests gains prevs child) start)
+      agrees =
+          cell-entry (limitOf t) (omega (arith, limit-small)) (frontOf rests gains prevs child) start (w .high)
+          (front-good (limitOf t) rests gains prevs (node .ready .good) child)
+          (omega (arith, front-length rests gains prevs (node .ready .earlier) child, walk-high, count-small))
 
-        len-is : cellAt (limitOf t) (frontOf rests gains prevs child) start .run ≡ len
-        len-is =
+      len-is : cellAt (limitOf t) (frontOf rests gains prevs child) start .run ≡ len
+      len-is =
+          sym
+          (is
+          ∙ ap (λ u. getD xs (blockAt (limitOf t) u + (limitOf t + 1) + start) 0) (w .at)
+          ∙ ap (λ c. c .run) (node .columns (w .walked) start (w .low) (w .high))
+          ∙ ap (λ u. cellAt (limitOf t) (frontOf rests gains prevs u) start .run) (sym (w .at)))
+
+      chosen : entryAt (limitOf t) (frontOf rests gains prevs child) start .choices ≡ rebuilt (limitOf t) len (frontOf rests gains prevs child) start
+      chosen = agrees .choices ∙ ap (λ r. rebuilt (limitOf t) r (frontOf rests gains prevs child) start) len-is
+
+      sane : Sane (limitOf t) start (frontOf rests gains prevs child) len
+      sane = rw len-is at (agrees .sane)
+
+      shape : frontOf rests gains prevs child ≡ record { rest = getD rests child 0; gain = getD gains child 0 } ∷ frontOf rests gains prevs (getD prevs child 0)
+      shape = front-cons rests gains prevs (node .ready .earlier) child one
+
+      pub prev-less : getD prevs child 0 < child
+      prev-less = node .ready .earlier child one
+
+      module _ (zeroed : len ≡ 0) where
+        pub stay-fits : start + getD rests child 0 ≤ limitOf t
+        stay-fits =
+            sane-stay (limitOf t) start (record { rest = getD rests child 0; gain = getD gains child 0 }) (frontOf rests gains prevs (getD prevs child 0))
+            (rw (zeroed, shape) at sane)
+
+        pub walk-stay : Walking t v rests gains prevs lasts marks seconds (set marks′ (child - 1) 0) (set seconds′ child 0) (start + getD rests child 0) (getD prevs child 0)
+        unfolding back
+        walk-stay =
+            let more : w .walked + 1 ≡ suc (w .walked) = omega arith in
+            let X : List Choice = entryAt (limitOf t) (frontOf rests gains prevs (getD prevs child 0)) (start + getD rests child 0) .choices in
+            let here : stayChoice ∷ X ≡ entryAt (limitOf t) (frontOf rests gains prevs child) start .choices =
             sym
-            (is
-            ∙ ap (λ u. getD xs (blockAt (limitOf t) u + (limitOf t + 1) + start) 0) (w .at)
-            ∙ ap (λ c. c .run) (node .columns (w .walked) start (w .low) (w .high))
-            ∙ ap (λ u. cellAt (limitOf t) (frontOf rests gains prevs u) start .run) (sym (w .at)))
+            (chosen
+            ∙ ap₂ (λ r ks. rebuilt (limitOf t) r ks start) zeroed shape
+            ∙ rebuilt-stay (limitOf t) start (record { rest = getD rests child 0; gain = getD gains child 0 }) (frontOf rests gains prevs (getD prevs child 0))) in
+            let short : child < length seconds′ = omega (arith, walk-high, count-small, w .wide) in
+            let fits : w .walked + 1 ≤ length (frontOf rests gains prevs (getD lasts v 0)) = omega (arith, left-long, ap length shape) in
+            record {
+              walked = w .walked + 1;
+              choices = w .choices ++ (stayChoice ∷ []);
+              at = ap (λ u. getD prevs u 0) (w .at) ∙ sym (ap (λ k. back prevs k (getD lasts v 0)) more);
+              within = fits;
+              laid =
+                  laid-then (node .ready .earlier) (real 1 fits) (w .at) (w .laid)
+                  (laid-one prevs child marks′ seconds′ 0 0 one (omega (arith, walk-high, node .long, w .laid .long)) short);
+              rest = append-assoc (w .choices) (stayChoice ∷ []) X ∙ ap (λ l. w .choices ++ l) here ∙ w .rest;
+              low = omega (arith, w .low);
+              high = stay-fits;
+              gainful = gainful-set gains seconds′ child 0 short (w .gainful) (λ e. absurd (omega arith));
+              wide = simp length-set (w .wide);
+            }
 
-        chosen : entryAt (limitOf t) (frontOf rests gains prevs child) start .choices ≡ rebuilt (limitOf t) len (frontOf rests gains prevs child) start
-        chosen = agrees .choices ∙ ap (λ r. rebuilt (limitOf t) r (frontOf rests gains prevs child) start) len-is
+      module _ (run : len ≡ 0 → ⊥) where
+        run-within : len ≤ length (frontOf rests gains prevs child)
+        run-within = sane-run (limitOf t) start len (frontOf rests gains prevs child) sane run
 
-        sane : Sane (limitOf t) start (frontOf rests gains prevs child) len
-        sane = rw len-is at (agrees .sane)
+        pub walk-ready : RunReady K child len rests gains prevs marks′ seconds′
+        walk-ready =
+            rw (found .limit-is)
+            record {
+              limit-high = limit-small;
+              high = omega (arith, walk-high, node .long, w .laid .long);
+              short = omega (arith, count-small, node .long, w .laid .long);
+              wide = w .wide;
+              earlier = node .ready .earlier;
+              none = node .ready .none;
+              good = node .ready .good;
+              within = run-within;
+              gainful = w .gainful;
+            }
 
-        shape : frontOf rests gains prevs child ≡ record { rest = getD rests child 0; gain = getD gains child 0 } ∷ frontOf rests gains prevs (getD prevs child 0)
-        shape = front-cons rests gains prevs (node .ready .earlier) child one
+        module _ {marks″ seconds″ : List ℕ} {r : ℕ} (given : RunDone K child len rests gains prevs marks′ seconds′ marks″ seconds″ r) where
+          done : RunDone (limitOf t) child len rests gains prevs marks′ seconds′ marks″ seconds″ r
+          done = rw (found .limit-is) at given
 
-        pub prev-less : getD prevs child 0 < child
-        prev-less = node .ready .earlier child one
+          pub walk-less : r < child
+          walk-less =
+              let e : len ≡ suc (len - 1) = omega arith in
+              let l : back prevs (len - 1) (getD prevs child 0) ≤ getD prevs child 0 = back-le prevs (node .ready .earlier) (node .ready .none) (len - 1) (getD prevs child 0) in
+              omega (arith, done .next ∙ ap (λ k. back prevs k child) e ∙ back-shift prevs (len - 1) child, l, prev-less)
 
-        module _ (zeroed : len ≡ 0) where
-          pub stay-fits : start + getD rests child 0 ≤ limitOf t
-          stay-fits =
-              sane-stay (limitOf t) start (record { rest = getD rests child 0; gain = getD gains child 0 }) (frontOf rests gains prevs (getD prevs child 0))
-              (rw (zeroed, shape) at sane)
-
-          pub walk-stay : Walking t v rests gains prevs lasts marks seconds (set marks′ (child - 1) 0) (set seconds′ child 0) (start + getD rests child 0) (getD prevs child 0)
-          unfolding back
-          walk-stay =
-              let more : w .walked + 1 ≡ suc (w .walked) = omega arith in
-              let X : List Choice = entryAt (limitOf t) (frontOf rests gains prevs (getD prevs child 0)) (start + getD rests child 0) .choices in
-              let here : stayChoice ∷ X ≡ entryAt (limitOf t) (frontOf rests gains prevs child) start .choices =
+          pub walk-run : Walking t v rests gains prevs lasts marks seconds marks″ seconds″ start r
+          walk-run =
+              let X : List Choice = entryAt (limitOf t) (frontOf rests gains prevs r) start .choices in
+              let before : drop len (frontOf rests gains prevs child) ≡ frontOf rests gains prevs r =
+              sym (ap (frontOf rests gains prevs) (done .next) ∙ front-back rests gains prevs (node .ready .earlier) len child run-within) in
+              let here : runBack (limitOf t) len (frontOf rests gains prevs child) ++ X ≡ entryAt (limitOf t) (frontOf rests gains prevs child) start .choices =
               sym
               (chosen
-              ∙ ap₂ (λ r ks. rebuilt (limitOf t) r ks start) zeroed shape
-              ∙ rebuilt-stay (limitOf t) start (record { rest = getD rests child 0; gain = getD gains child 0 }) (frontOf rests gains prevs (getD prevs child 0))) in
-              let short : child < length seconds′ = omega (arith, walk-high, count-small, w .wide) in
-              let fits : w .walked + 1 ≤ length (frontOf rests gains prevs (getD lasts v 0)) = omega (arith, left-long, ap length shape) in
+              ∙ rebuilt-run (limitOf t) start len (frontOf rests gains prevs child) run-within run
+              ∙ ap (λ ks. runBack (limitOf t) len (frontOf rests gains prevs child) ++ entryAt (limitOf t) ks start .choices) before) in
+              let fits : w .walked + len ≤ length (frontOf rests gains prevs (getD lasts v 0)) = omega (arith, left-long, run-within) in
               record {
-                walked = w .walked + 1;
-                choices = w .choices ++ (stayChoice ∷ []);
-                at = ap (λ u. getD prevs u 0) (w .at) ∙ sym (ap (λ k. back prevs k (getD lasts v 0)) more);
+                walked = w .walked + len;
+                choices = w .choices ++ runBack (limitOf t) len (frontOf rests gains prevs child);
+                at = done .next ∙ ap (back prevs len) (w .at) ∙ back-add prevs (w .walked) len (getD lasts v 0);
                 within = fits;
-                laid =
-                    laid-then (node .ready .earlier) (real 1 fits) (w .at) (w .laid)
-                    (laid-one prevs child marks′ seconds′ 0 0 one (omega (arith, walk-high, node .long, w .laid .long)) short);
-                rest = append-assoc (w .choices) (stayChoice ∷ []) X ∙ ap (λ l. w .choices ++ l) here ∙ w .rest;
-                low = omega (arith, w .low);
-                high = stay-fits;
-                gainful = gainful-set gains seconds′ child 0 short (w .gainful) (λ e. absurd (omega arith));
-                wide = simp length-set (w .wide);
+                laid = laid-then (node .ready .earlier) (real len fits) (w .at) (w .laid) (done .laid);
+                rest = append-assoc (w .choices) (runBack (limitOf t) len (frontOf rests gains prevs child)) X ∙ ap (λ l. w .choices ++ l) here ∙ w .rest;
+                low = w .low;
+                high = w .high;
+                gainful = done .gainful;
+                wide = done .wide;
               }
-
-        module _ (run : len ≡ 0 → ⊥) where
-          run-within : len ≤ length (frontOf rests gains prevs child)
-          run-within = sane-run (limitOf t) start len (frontOf rests gains prevs child) sane run
-
-          pub walk-ready : RunReady K child len rests gains prevs marks′ seconds′
-          walk-ready =
-              rw limit-is
-              record {
-                limit-high = limit-small;
-                high = omega (arith, walk-high, node .long, w .laid .long);
-                short = omega (arith, count-small, node .long, w .laid .long);
-                wide = w .wide;
-                earlier = node .ready .earlier;
-                none = node .ready .none;
-                good = node .ready .good;
-                within = run-within;
-                gainful = w .gainful;
-              }
-
-          module _ {marks″ seconds″ : List ℕ} {r : ℕ} (given : RunDone K child len rests gains prevs marks′ seconds′ marks″ seconds″ r) where
-            done : RunDone (limitOf t) child len rests gains prevs marks′ seconds′ marks″ seconds″ r
-            done = rw limit-is at given
-
-            pub walk-less : r < child
-            walk-less =
-                let e : len ≡ suc (len - 1) = omega arith in
-                let l : back prevs (len - 1) (getD prevs child 0) ≤ getD prevs child 0 = back-le prevs (node .ready .earlier) (node .ready .none) (len - 1) (getD prevs child 0) in
-                omega (arith, done .next ∙ ap (λ k. back prevs k child) e ∙ back-shift prevs (len - 1) child, l, prev-less)
-
-            pub walk-run : Walking t v rests gains prevs lasts marks seconds marks″ seconds″ start r
-            walk-run =
-                let X : List Choice = entryAt (limitOf t) (frontOf rests gains prevs r) start .choices in
-                let before : drop len (frontOf rests gains prevs child) ≡ frontOf rests gains prevs r =
-                sym (ap (frontOf rests gains prevs) (done .next) ∙ front-back rests gains prevs (node .ready .earlier) len child run-within) in
-                let here : runBack (limitOf t) len (frontOf rests gains prevs child) ++ X ≡ entryAt (limitOf t) (frontOf rests gains prevs child) start .choices =
-                sym
-                (chosen
-                ∙ rebuilt-run (limitOf t) start len (frontOf rests gains prevs child) run-within run
-                ∙ ap (λ ks. runBack (limitOf t) len (frontOf rests gains prevs child) ++ entryAt (limitOf t) ks start .choices) before) in
-                let fits : w .walked + len ≤ length (frontOf rests gains prevs (getD lasts v 0)) = omega (arith, left-long, run-within) in
-                record {
-                  walked = w .walked + len;
-                  choices = w .choices ++ runBack (limitOf t) len (frontOf rests gains prevs child);
-                  at = done .next ∙ ap (back prevs len) (w .at) ∙ back-add prevs (w .walked) len (getD lasts v 0);
-                  within = fits;
-                  laid = laid-then (node .ready .earlier) (real len fits) (w .at) (w .laid) (done .laid);
-                  rest = append-assoc (w .choices) (runBack (limitOf t) len (frontOf rests gains prevs child)) X ∙ ap (λ l. w .choices ++ l) here ∙ w .rest;
-                  low = w .low;
-                  high = w .high;
-                  gainful = done .gainful;
-                  wide = done .wide;
-                }
 
     pub walk-end : child ≡ 0 → NodeDone t v rests gains prevs lasts marks seconds marks′ seconds′
     walk-end z =

@@ -2,9 +2,30 @@
 use borrow.Author.Needs.{needs}
 use Rattle.best.proofs.lay.lay_children.Statement.{statement}
 use Rattle.best.proofs.lay.lay_children.Tie as tie
-use mathlib.Core.Path.{refl}
+use Prim.Native.Nat.{_+_, _≤_, _<_}
+use mathlib.Core.Path.{ap}
+use lib.ListN.{getD}
 use native.Mathlib.Omega.{arith}
-use Rattle.best.proofs.LayNode.{Walking, limit-small, count-small, walk-from, last-high, walk-high, walk-reads, block-small, prev-less, stay-fits, walk-stay, walk-ready, walk-less, walk-run, walk-end}
+use Rattle.model.specs.Table.{maxNodes, maxLimit, slots}
+use Rattle.theory.specs.CellsRun.{blockAt}
+use Rattle.best.proofs.LayNode.{
+  Walking,
+  Found,
+  limit-small,
+  count-small,
+  walk-from,
+  last-high,
+  walk-high,
+  walk-reads,
+  block-small,
+  prev-less,
+  stay-fits,
+  walk-stay,
+  walk-ready,
+  walk-less,
+  walk-run,
+  walk-end,
+}
 
 abbrev Inv-loop : tie.InvT-loop
 Inv-loop table prevs rests gains lasts words marks₀ seconds₀ v limit start₀ child₀ marks seconds start child =
@@ -12,6 +33,45 @@ Inv-loop table prevs rests gains lasts words marks₀ seconds₀ v limit start�
 
 abbrev μ-loop : tie.MeasureT-loop
 μ-loop table prevs rests gains lasts words marks₀ seconds₀ v limit start₀ child₀ marks seconds start child = child
+
+-- the child is a node
+high : (l : tie.At-loop Inv-loop μ-loop) → l .loop .child ≤ maxNodes
+high l =
+    let b = l .before .before .before .before .before .before .before .before in
+    omega (arith, walk-high (b .pre) (l .loop .inv), count-small (b .pre))
+
+-- the place of the run's length does not wrap
+place : (d : tie.After-block-at Inv-loop μ-loop) → let l = d .before .before in
+    d .block-at .result + (l .before .before .before .before .limit-of .result + 1) + l .loop .start < blockAt maxLimit slots
+place d =
+    let l = d .before .before in
+    let lim = l .before .before .before .before .limit-of in
+    block-small (l .before .before .before .before .before .before .before .before .pre) (l .loop .inv) (lim .result) (d .block-at .result) (lim .ensures) (d .block-at .ensures)
+
+-- the length of the run that won
+found : (d : tie.After-block-at Inv-loop μ-loop) → let l = d .before .before in
+    let a = l .before .before .before .before .before .before .before .before .args in
+    let K = l .before .before .before .before .limit-of .result in
+    Found (a .table .now) (a .words .now) K (l .loop .start) (l .loop .child) (getD (a .words .now) (d .block-at .result + (K + 1) + l .loop .start) 0)
+found d =
+    let l = d .before .before in
+    let a = l .before .before .before .before .before .before .before .before .args in
+    let lim = l .before .before .before .before .limit-of in
+    record {
+      limit-is = lim .ensures;
+      some = d .before .loop-test .taken;
+      run-is = ap (λ b. getD (a .words .now) (b + (lim .result + 1) + l .loop .start) 0) (d .block-at .ensures);
+    }
+
+-- a child that stays has room
+fits : (c : tie.After-start Inv-loop μ-loop) → let l = c .before .before .before .before .before in
+    let a = l .before .before .before .before .before .before .before .before .args in
+    l .loop .start + getD (a .rests .now) (l .loop .child) 0 ≤ maxLimit
+fits c =
+    let d = c .before .before .before in
+    let l = d .before .before in
+    let b = l .before .before .before .before .before .before .before .before in
+    omega (arith, stay-fits (b .pre) (l .loop .inv) (found d) (c .before .if1 .taken), limit-small (b .pre))
 
 limit-of-requires : tie.Need-limit-of-requires Inv-loop μ-loop
 limit-of-requires c κs = search needs
@@ -37,7 +97,7 @@ element-copy-out-child c = search needs
 cast-child : tie.Need-cast-child Inv-loop μ-loop
 cast-child c =
     let b = c .before .before .before .before .before .before .before in
-    let high = last-high (b .pre) in
+    let last = last-high (b .pre) in
     let few = count-small (b .pre) in
     search needs
 
@@ -51,49 +111,29 @@ block-at-requires : tie.Need-block-at-requires Inv-loop μ-loop
 block-at-requires c κs =
     let l = c .before in
     let b = l .before .before .before .before .before .before .before .before in
-    let lim = l .before .before .before .before .limit-of in
-    (omega (arith, lim .ensures, limit-small (b .pre)), omega (arith, walk-high (b .pre) (l .loop .inv), count-small (b .pre)))
+    (omega (arith, l .before .before .before .before .limit-of .ensures, limit-small (b .pre)), high l)
 
 add-len : tie.Need-add-len Inv-loop μ-loop
 add-len c = search needs
 
 add-len-2 : tie.Need-add-len-2 Inv-loop μ-loop
-add-len-2 c =
-    let l = c .before .before in
-    let b = l .before .before .before .before .before .before .before .before in
-    let lim = l .before .before .before .before .limit-of in
-    let small = block-small (b .pre) (l .loop .inv) (lim .result) (c .block-at .result) (lim .ensures) (c .block-at .ensures) in
-    search needs
+add-len-2 c = let small = place c in search needs
 
 add-len-3 : tie.Need-add-len-3 Inv-loop μ-loop
-add-len-3 c =
-    let l = c .before .before in
-    let b = l .before .before .before .before .before .before .before .before in
-    let lim = l .before .before .before .before .limit-of in
-    let small = block-small (b .pre) (l .loop .inv) (lim .result) (c .block-at .result) (lim .ensures) (c .block-at .ensures) in
-    search needs
+add-len-3 c = let small = place c in search needs
 
 mul-len : tie.Need-mul-len Inv-loop μ-loop
-mul-len c =
-    let l = c .before .before in
-    let b = l .before .before .before .before .before .before .before .before in
-    let lim = l .before .before .before .before .limit-of in
-    let small = block-small (b .pre) (l .loop .inv) (lim .result) (c .block-at .result) (lim .ensures) (c .block-at .ensures) in
-    search needs
+mul-len c = let small = place c in search needs
 
 shared-slice-read-len : tie.Need-shared-slice-read-len Inv-loop μ-loop
 shared-slice-read-len c =
-    let l = c .before .before .before in
-    let b = l .before .before .before .before .before .before .before .before in
+    let d = c .before in
+    let l = d .before .before in
     let lim = l .before .before .before .before .limit-of in
-    walk-reads (b .pre) (l .loop .inv) (lim .result) (c .before .block-at .result) (lim .ensures) (c .before .block-at .ensures)
+    walk-reads (l .before .before .before .before .before .before .before .before .pre) (l .loop .inv) (lim .result) (d .block-at .result) (lim .ensures) (d .block-at .ensures)
 
 element-write-seconds : tie.Need-element-write-seconds Inv-loop μ-loop
-element-write-seconds c =
-    let l = c .before .before .before .before in
-    let b = l .before .before .before .before .before .before .before .before in
-    let lim = l .before .before .before .before .limit-of in
-    omega (arith, walk-high (b .pre) (l .loop .inv), count-small (b .pre))
+element-write-seconds c = omega (arith, high (c .before .before .before .before))
 
 sub-marks : tie.Need-sub-marks Inv-loop μ-loop
 sub-marks c = search needs
@@ -102,91 +142,63 @@ slice-write-marks : tie.Need-slice-write-marks Inv-loop μ-loop
 slice-write-marks c =
     let l = c .before .before .before .before in
     let b = l .before .before .before .before .before .before .before .before in
-    let lim = l .before .before .before .before .limit-of in
     omega (arith, walk-high (b .pre) (l .loop .inv), b .pre .long, l .loop .inv .laid .long, c .before .before .before .loop-test .taken)
 
 mul-start : tie.Need-mul-start Inv-loop μ-loop
 mul-start c = search needs
 
 element-copy-out-start : tie.Need-element-copy-out-start Inv-loop μ-loop
-element-copy-out-start c =
-    let l = c .before .before .before .before in
-    let b = l .before .before .before .before .before .before .before .before in
-    let lim = l .before .before .before .before .limit-of in
-    omega (arith, walk-high (b .pre) (l .loop .inv), count-small (b .pre))
+element-copy-out-start c = omega (arith, high (c .before .before .before .before))
 
 cast-start : tie.Need-cast-start Inv-loop μ-loop
-cast-start c =
-    let l = c .before .before .before .before .before in
-    let b = l .before .before .before .before .before .before .before .before in
-    let lim = l .before .before .before .before .limit-of in
-    let fits = stay-fits (b .pre) (l .loop .inv) (lim .result) (c .before .before .before .block-at .result) _ (lim .ensures) (c .before .before .before .block-at .ensures) refl (c .before .before .before .before .loop-test .taken) (c .before .if1 .taken) in
-    let small = limit-small (b .pre) in
-    search needs
+cast-start c = let room = fits c in search needs
 
 add-start : tie.Need-add-start Inv-loop μ-loop
-add-start c =
-    let l = c .before .before .before .before .before in
-    let b = l .before .before .before .before .before .before .before .before in
-    let lim = l .before .before .before .before .limit-of in
-    let fits = stay-fits (b .pre) (l .loop .inv) (lim .result) (c .before .before .before .block-at .result) _ (lim .ensures) (c .before .before .before .block-at .ensures) refl (c .before .before .before .before .loop-test .taken) (c .before .if1 .taken) in
-    let small = limit-small (b .pre) in
-    search needs
+add-start c = let room = fits c in search needs
 
 mul-child-2 : tie.Need-mul-child-2 Inv-loop μ-loop
 mul-child-2 c = search needs
 
 element-copy-out-child-2 : tie.Need-element-copy-out-child-2 Inv-loop μ-loop
-element-copy-out-child-2 c =
-    let l = c .before .before .before .before .before in
-    let b = l .before .before .before .before .before .before .before .before in
-    let lim = l .before .before .before .before .limit-of in
-    omega (arith, walk-high (b .pre) (l .loop .inv), count-small (b .pre))
+element-copy-out-child-2 c = omega (arith, high (c .before .before .before .before .before))
 
 cast-child-2 : tie.Need-cast-child-2 Inv-loop μ-loop
 cast-child-2 c =
-    let l = c .before .before .before .before .before .before in
-    let b = l .before .before .before .before .before .before .before .before in
-    let lim = l .before .before .before .before .limit-of in
-    let less = prev-less (b .pre) (l .loop .inv) (lim .result) (c .before .before .before .before .block-at .result) _ (lim .ensures) (c .before .before .before .before .block-at .ensures) refl (c .before .before .before .before .before .loop-test .taken) in
-    let high = walk-high (b .pre) (l .loop .inv) in
-    let few = count-small (b .pre) in
+    let d = c .before .before .before .before in
+    let l = d .before .before in
+    let less = prev-less (l .before .before .before .before .before .before .before .before .pre) (l .loop .inv) (found d) in
+    let few = high l in
     search needs
 
 loop-less : tie.Need-loop-less Inv-loop μ-loop
 loop-less c =
-    let l = c .before .before .before .before .before .before in
-    let b = l .before .before .before .before .before .before .before .before in
-    let lim = l .before .before .before .before .limit-of in
-    prev-less (b .pre) (l .loop .inv) (lim .result) (c .before .before .before .before .block-at .result) _ (lim .ensures) (c .before .before .before .before .block-at .ensures) refl (c .before .before .before .before .before .loop-test .taken)
+    let d = c .before .before .before .before in
+    let l = d .before .before in
+    prev-less (l .before .before .before .before .before .before .before .before .pre) (l .loop .inv) (found d)
 
 loop-again : tie.Need-loop-again Inv-loop μ-loop
 loop-again c =
-    let l = c .before .before .before .before .before .before in
-    let b = l .before .before .before .before .before .before .before .before in
-    let lim = l .before .before .before .before .limit-of in
-    walk-stay (b .pre) (l .loop .inv) (lim .result) (c .before .before .before .before .block-at .result) _ (lim .ensures) (c .before .before .before .before .block-at .ensures) refl (c .before .before .before .before .before .loop-test .taken) (c .before .before .if1 .taken)
+    let d = c .before .before .before .before in
+    let l = d .before .before in
+    walk-stay (l .before .before .before .before .before .before .before .before .pre) (l .loop .inv) (found d) (c .before .before .if1 .taken)
 
 lay-run-requires : tie.Need-lay-run-requires Inv-loop μ-loop
 lay-run-requires c κs =
-    let l = c .before .before .before .before .before .before in
-    let b = l .before .before .before .before .before .before .before .before in
-    let lim = l .before .before .before .before .limit-of in
-    walk-ready (b .pre) (l .loop .inv) (lim .result) (c .before .before .before .before .block-at .result) _ (lim .ensures) (c .before .before .before .before .block-at .ensures) refl (c .before .before .before .before .before .loop-test .taken) (c .before .before .if1 .left)
+    let d = c .before .before .before .before in
+    let l = d .before .before in
+    walk-ready (l .before .before .before .before .before .before .before .before .pre) (l .loop .inv) (found d) (c .before .before .if1 .left)
 
 loop-less-2 : tie.Need-loop-less-2 Inv-loop μ-loop
 loop-less-2 c =
-    let l = c .before .before .before .before .before .before .before .before .before in
-    let b = l .before .before .before .before .before .before .before .before in
-    let lim = l .before .before .before .before .limit-of in
-    walk-less (b .pre) (l .loop .inv) (lim .result) (c .before .before .before .before .before .before .before .block-at .result) _ (lim .ensures) (c .before .before .before .before .before .before .before .block-at .ensures) refl (c .before .before .before .before .before .before .before .before .loop-test .taken) (c .before .before .before .before .before .if1 .left) (c .before .before .lay-run .ensures)
+    let d = c .before .before .before .before .before .before .before in
+    let l = d .before .before in
+    walk-less (l .before .before .before .before .before .before .before .before .pre) (l .loop .inv) (found d) (c .before .before .before .before .before .if1 .left) (c .before .before .lay-run .ensures)
 
 loop-again-2 : tie.Need-loop-again-2 Inv-loop μ-loop
 loop-again-2 c =
-    let l = c .before .before .before .before .before .before .before .before .before in
-    let b = l .before .before .before .before .before .before .before .before in
-    let lim = l .before .before .before .before .limit-of in
-    walk-run (b .pre) (l .loop .inv) (lim .result) (c .before .before .before .before .before .before .before .block-at .result) _ (lim .ensures) (c .before .before .before .before .before .before .before .block-at .ensures) refl (c .before .before .before .before .before .before .before .before .loop-test .taken) (c .before .before .before .before .before .if1 .left) (c .before .before .lay-run .ensures)
+    let d = c .before .before .before .before .before .before .before in
+    let l = d .before .before in
+    walk-run (l .before .before .before .before .before .before .before .before .pre) (l .loop .inv) (found d) (c .before .before .before .before .before .if1 .left) (c .before .before .lay-run .ensures)
 
 same-length : tie.Need-same-length Inv-loop μ-loop
 same-length c = c .before .loop .inv .laid .long

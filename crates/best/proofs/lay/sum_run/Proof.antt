@@ -16,32 +16,24 @@ Inv-loop prevs rests gains counts₀ child len sums₀ next₀ counts sums next 
 abbrev μ-loop : tie.MeasureT-loop
 μ-loop prevs rests gains counts₀ child len sums₀ next₀ counts sums next = len - sums .len
 
+-- the next member is a node
+high : (l : tie.At-loop Inv-loop μ-loop) → l .loop .next ≤ maxNodes
+high l = next-high (l .before .pre .0) (l .loop .inv)
+
 loop-holds : tie.Need-loop-holds Inv-loop μ-loop
 loop-holds c = sum-start (c .pre .0) _ (c .pre .1)
 
 mul-join : tie.Need-mul-join Inv-loop μ-loop
-mul-join c =
-    let l = c .before .before .before in
-    let high = next-high (l .before .pre .0) (l .loop .inv) in
-    search needs
+mul-join c = let h = high (c .before .before .before) in search needs
 
 element-copy-out-join : tie.Need-element-copy-out-join Inv-loop μ-loop
-element-copy-out-join c =
-    let l = c .before .before .before in
-    let high = next-high (l .before .pre .0) (l .loop .inv) in
-    omega (arith, high)
+element-copy-out-join c = omega (arith, high (c .before .before .before))
 
 mul-join-2 : tie.Need-mul-join-2 Inv-loop μ-loop
-mul-join-2 c =
-    let l = c .before .before .before .before in
-    let high = next-high (l .before .pre .0) (l .loop .inv) in
-    search needs
+mul-join-2 c = let h = high (c .before .before .before .before) in search needs
 
 element-copy-out-join-2 : tie.Need-element-copy-out-join-2 Inv-loop μ-loop
-element-copy-out-join-2 c =
-    let l = c .before .before .before .before in
-    let high = next-high (l .before .pre .0) (l .loop .inv) in
-    omega (arith, high)
+element-copy-out-join-2 c = omega (arith, high (c .before .before .before .before))
 
 join-requires : tie.Need-join-requires Inv-loop μ-loop
 join-requires c κs =
@@ -50,23 +42,17 @@ join-requires c κs =
     (r .gain-high, r .count-high, r .len-high, r .total-high, r .gained-high)
 
 mul-next : tie.Need-mul-next Inv-loop μ-loop
-mul-next c =
-    let l = c .before .before .before .before .before .before in
-    let high = next-high (l .before .pre .0) (l .loop .inv) in
-    search needs
+mul-next c = let h = high (c .before .before .before .before .before .before) in search needs
 
 element-copy-out-next : tie.Need-element-copy-out-next Inv-loop μ-loop
-element-copy-out-next c =
-    let l = c .before .before .before .before .before .before in
-    let high = next-high (l .before .pre .0) (l .loop .inv) in
-    omega (arith, high)
+element-copy-out-next c = omega (arith, high (c .before .before .before .before .before .before))
 
 cast-next : tie.Need-cast-next Inv-loop μ-loop
 cast-next c =
     let l = c .before .before .before .before .before .before .before in
     let r = sum-room (l .before .pre .0) (l .loop .inv) (c .before .before .before .before .before .if1 .taken) in
     let small : getD (l .before .args .prevs .now) (l .loop .next) 0 < l .loop .next = l .before .pre .0 .earlier (l .loop .next) (r .low) in
-    let high : l .loop .next ≤ maxNodes = r .high in
+    let h = high l in
     search needs
 
 loop-less : tie.Need-loop-less Inv-loop μ-loop
