@@ -24,7 +24,6 @@ pub record Summing (rests gains prevs : List ℕ) (c n len total gained top : �
 -- what joining the next member asks for
 pub record Room (rests gains : List ℕ) (len total gained : ℕ) (counts : List ℕ) (next : ℕ) : Type 0 where
   pub low : 1 ≤ next
-  pub high : next ≤ maxNodes
   pub gain-high : getD gains next 0 ≤ maxLimit
   pub count-high : getD counts (getD gains next 0) 0 < 65535
   pub len-high : len < 4294967295
@@ -61,7 +60,6 @@ module _ {rests gains prevs : List ℕ} {c n : ℕ} (ready : SumReady c n rests 
         let real : 1 ≤ next = rw (s .at) (front-real rests gains prevs (ready .earlier) len c (omega (arith, ready .within))) in
         record {
           low = real;
-          high = next-high;
           gain-high = omega (arith, g .light, g .fits);
           count-high = omega (arith, count);
           len-high = omega arith;

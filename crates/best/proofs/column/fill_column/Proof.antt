@@ -3,6 +3,7 @@ use Rattle.best.proofs.column.fill_column.Statement.{statement}
 use Rattle.best.proofs.column.fill_column.Tie as tie
 use borrow.Author.Needs.{needs}
 use native.Mathlib.Omega.{arith}
+use mathlib.Core.Path.{_≡_}
 use Prim.Native.Nat.{ℕ, _+_, _-_, _*_, _≤_}
 use lib.ListN.{getD}
 use Rattle.model.specs.Table.{slots}
@@ -70,14 +71,20 @@ whole c =
 -- the run with its new member
 longer : (c : tie.After-next Inv-loop μ-loop Inv-stretch μ-stretch)
     → let l = c .before .before .before .before .before .before in
-    let a = l .before .before .before .before .before .before .before .before .before .before .args in
+    let b = l .before .before .before .before .before .before .before .before .before .before in
+    let a = b .args in
     let r = c .before .join .result in
     Stretch (a .limit) (a .start) (a .child) (a .rests .now) (a .gains .now) (a .prevs .now) (l .before .before .before .stay .last .0) (Tries (a .limit))
     (l .stretch .words) (c .before .join .last .1 .0) r (getD (a .prevs .now) (l .stretch .next) 0)
     × (1 ≤ r .len)
+    × Fillable (a .limit) (a .start) (a .child) (a .rests .now) (a .gains .now) (a .prevs .now) (l .before .before .before .stay .last .0)
+    × (a .start ≤ a .limit)
+    × (l .before .before .before .before .before .before .before .before .block-at .result ≡ blockAt (a .limit) (a .child))
 longer c =
     let l = c .before .before .before .before .before .before in
-    stretch-joins (ready (l .before)) (l .stretch .inv) (omega arith) _ _ (c .before .join .ensures .0) (c .before .join .ensures .1)
+    let f = ready (l .before) in
+    let s = stretch-joins f (l .stretch .inv) (omega arith) _ _ (c .before .join .ensures .0) (c .before .join .ensures .1) in
+    (s .0, s .1, f, l .before .before .before .before .before .before .before .before .before .before .pre .0, l .before .before .before .before .before .before .before .before .block-at .ensures)
 
 block-at-requires : tie.Need-block-at-requires Inv-loop μ-loop Inv-stretch μ-stretch
 block-at-requires c κs = search needs
@@ -156,10 +163,10 @@ mul-left : tie.Need-mul-left Inv-loop μ-loop Inv-stretch μ-stretch
 mul-left c = search needs
 
 array-read-left : tie.Need-array-read-left Inv-loop μ-loop Inv-stretch μ-stretch
-array-read-left c = omega (arith, longer c .0 .kept .top-high, ready (c .before .before .before .before .before .before .before) .limit-high)
+array-read-left c = omega (arith, longer c .0 .kept .top-high, longer c .2 .limit-high)
 
 loop-holds : tie.Need-loop-holds Inv-loop μ-loop Inv-stretch μ-stretch
-loop-holds c = taking-start (ready (c .before .before .before .before .before .before .before)) (longer c .0)
+loop-holds c = taking-start (longer c .2) (longer c .0)
 
 cast-loop : tie.Need-cast-loop Inv-loop μ-loop Inv-stretch μ-stretch
 cast-loop c = search needs
@@ -179,12 +186,12 @@ array-read-left-2 c = search needs
 loop-less : tie.Need-loop-less Inv-loop μ-loop Inv-stretch μ-stretch
 loop-less c =
     let n = c .before .before .before .before in
-    omega (arith, count-small (ready (n .before .before .before .before .before .before .before)) (longer n .0) (c .before .before .before .loop .gain - 1))
+    omega (arith, count-small (longer n .2) (longer n .0) (c .before .before .before .loop .gain - 1))
 
 loop-again : tie.Need-loop-again Inv-loop μ-loop Inv-stretch μ-stretch
 loop-again c =
     let n = c .before .before .before .before in
-    taking-down (ready (n .before .before .before .before .before .before .before)) (longer n .0) (c .before .before .before .loop .inv) (c .before .if1 .left) (c .if2 .taken)
+    taking-down (longer n .2) (longer n .0) (c .before .before .before .loop .inv) (c .before .if1 .left) (c .if2 .taken)
 
 sub-left : tie.Need-sub-left Inv-loop μ-loop Inv-stretch μ-stretch
 sub-left c = search needs
@@ -204,36 +211,36 @@ loop-less-2 c = search needs
 loop-again-2 : tie.Need-loop-again-2 Inv-loop μ-loop Inv-stretch μ-stretch
 loop-again-2 c =
     let n = c .before .before .before .before in
-    taking-more (ready (n .before .before .before .before .before .before .before)) (longer n .0) (c .before .before .before .loop .inv) (c .before .if1 .left) (c .if2 .left) (c .before .before .loop-test .taken)
+    taking-more (longer n .2) (longer n .0) (c .before .before .before .loop .inv) (c .before .if1 .left) (c .if2 .left) (c .before .before .loop-test .taken)
 
 block-at-requires-3 : tie.Need-block-at-requires-3 Inv-loop μ-loop Inv-stretch μ-stretch
 block-at-requires-3 c κs =
     let n = c .before .before in
-    let f = ready (n .before .before .before .before .before .before .before) in
+    let f = longer n .2 in
     (f .limit-high, omega (arith, longer n .0 .short, f .node-high))
 
 add-relax : tie.Need-add-relax Inv-loop μ-loop Inv-stretch μ-stretch
 add-relax c =
     let n = c .before .before .before .before in
-    omega (arith, taken-small (ready (n .before .before .before .before .before .before .before)) (longer n .0) (c .before .before .before .loop .inv) (c .before .before .loop-test .left) (longer n .1))
+    omega (arith, taken-small (longer n .2) (longer n .0) (c .before .before .before .loop .inv) (c .before .before .loop-test .left) (longer n .1))
 
 mul-relax : tie.Need-mul-relax Inv-loop μ-loop Inv-stretch μ-stretch
 mul-relax c =
     let n = c .before .before .before .before in
-    omega (arith, taken-small (ready (n .before .before .before .before .before .before .before)) (longer n .0) (c .before .before .before .loop .inv) (c .before .before .loop-test .left) (longer n .1))
+    omega (arith, taken-small (longer n .2) (longer n .0) (c .before .before .before .loop .inv) (c .before .before .loop-test .left) (longer n .1))
 
 relax-requires : tie.Need-relax-requires Inv-loop μ-loop Inv-stretch μ-stretch
 relax-requires c κs =
     let n = c .before .before .before .before in
-    relax-ready (ready (n .before .before .before .before .before .before .before)) (longer n .0) (c .before .before .before .loop .inv) (c .before .before .loop-test .left) (longer n .1) _ _ (n .before .before .before .before .before .before .before .before .before .before .before .before .before .before .block-at .ensures) (c .before .block-at3 .ensures) (n .before .before .before .before .before .before .before .before .before .before .before .before .before .before .before .before .pre .0)
+    relax-ready (longer n .2) (longer n .0) (c .before .before .before .loop .inv) (c .before .before .loop-test .left) (longer n .1) _ _ (longer n .4) (c .before .block-at3 .ensures) (longer n .3)
 
 cast-if3 : tie.Need-cast-if3 Inv-loop μ-loop Inv-stretch μ-stretch
-cast-if3 c = omega (arith, ready (c .before .before .before .before .before .before .before .before .before .before .before .before .before .before) .limit-high)
+cast-if3 c = omega (arith, longer (c .before .before .before .before .before .before .before) .2 .limit-high)
 
 sub-if3 : tie.Need-sub-if3 Inv-loop μ-loop Inv-stretch μ-stretch
 sub-if3 c =
     let n = c .before .before .before .before .before .before .before .before in
-    total-small (ready (n .before .before .before .before .before .before .before)) (longer n .0) .0
+    total-small (longer n .2) (longer n .0) .0
 
 stretch-less : tie.Need-stretch-less Inv-loop μ-loop Inv-stretch μ-stretch
 stretch-less c =
@@ -243,7 +250,7 @@ stretch-less c =
 stretch-again : tie.Need-stretch-again Inv-loop μ-loop Inv-stretch μ-stretch
 stretch-again c =
     let n = c .before .before .before .before .before .before .before .before .before in
-    again (ready (n .before .before .before .before .before .before .before)) (longer n .0) (c .before .before .before .before .before .before .before .before .loop .inv) (c .before .before .before .before .before .before .before .loop-test .left) (longer n .1) _ _ (n .before .before .before .before .before .before .before .before .before .before .before .before .before .before .block-at .ensures) (c .before .before .before .before .before .before .block-at3 .ensures) _ (c .before .before .before .before .relax .ensures) (c .if3 .left)
+    again (longer n .2) (longer n .0) (c .before .before .before .before .before .before .before .before .loop .inv) (c .before .before .before .before .before .before .before .loop-test .left) (longer n .1) _ _ (longer n .4) (c .before .before .before .before .before .before .block-at3 .ensures) _ (c .before .before .before .before .relax .ensures) (c .if3 .left)
 
 same-length : tie.Need-same-length Inv-loop μ-loop Inv-stretch μ-stretch
 same-length c = search needs
@@ -257,7 +264,7 @@ same-length-2 c = search needs
 returns-2 : tie.Need-returns-2 Inv-loop μ-loop Inv-stretch μ-stretch
 returns-2 c =
     let n = c .before .before .before in
-    whole (n .before .before .before .before .before .before .before) (over-end (ready (n .before .before .before .before .before .before .before)) (longer n .0) (c .before .before .loop .inv) (c .if1 .taken) (c .before .loop-test .taken))
+    whole (n .before .before .before .before .before .before .before) (over-end (longer n .2) (longer n .0) (c .before .before .loop .inv) (c .if1 .taken) (c .before .loop-test .taken))
 
 same-length-3 : tie.Need-same-length-3 Inv-loop μ-loop Inv-stretch μ-stretch
 same-length-3 c = search needs
@@ -266,7 +273,7 @@ returns-3 : tie.Need-returns-3 Inv-loop μ-loop Inv-stretch μ-stretch
 returns-3 c =
     let n = c .before .before .before .before .before .before .before .before .before in
     whole (n .before .before .before .before .before .before .before)
-    (stops-end (ready (n .before .before .before .before .before .before .before)) (longer n .0) (c .before .before .before .before .before .before .before .before .loop .inv) (c .before .before .before .before .before .before .before .loop-test .left) (longer n .1) _ _ (n .before .before .before .before .before .before .before .before .before .before .before .before .before .before .block-at .ensures) (c .before .before .before .before .before .before .block-at3 .ensures) _ (c .before .before .before .before .relax .ensures) (c .if3 .taken))
+    (stops-end (longer n .2) (longer n .0) (c .before .before .before .before .before .before .before .before .loop .inv) (c .before .before .before .before .before .before .before .loop-test .left) (longer n .1) _ _ (longer n .4) (c .before .before .before .before .before .before .block-at3 .ensures) _ (c .before .before .before .before .relax .ensures) (c .if3 .taken))
 
 pub fill-column-spec : {M : Type 1} → statement M
 fill-column-spec =
