@@ -6,17 +6,16 @@ use mathlib.Core.Path.{_≡_, refl, sym, _∙_, ap}
 use mathlib.Core.Logic.{inl}
 use mathlib.Core.List.{List}
 use lib.ListN.{length, set, length-set}
-use Rattle.model.specs.Table.{nodeCount, limitOf, firstAt, Chain}
-use Rattle.model.specs.Steps.{Member, restSum, largestGain, takeEarliest, reduce}
+use Rattle.model.specs.Table.{nodeCount, limitOf, firstAt}
+use Rattle.model.specs.Steps.{restSum, takeEarliest, reduce}
 use Rattle.theory.specs.Links.{first-le}
-use Rattle.theory.specs.Sound.{SoundFacts}
 use Rattle.theory.specs.Shape.{size}
-use Rattle.theory.specs.Numbered.{Numbered, numbered-size, numbered-le}
+use Rattle.theory.specs.Numbered.{numbered-size, numbered-le}
 use Rattle.theory.specs.Reduce.{Turns}
 use Rattle.theory.specs.ReduceCount.{reduce-stop, reduce-turn}
 use Rattle.theory.specs.ChainAt.{chainAt, chain-none, NodeAt, node-at}
 use Rattle.planner.specs.Nodes.{kept, Outside, outside-none, outside-then, outside-store}
-use Rattle.planner.specs.Single.{members, restAt, largestAt, EarliestAt, LaidAt, members-rest, members-largest, largest-some, earliest-rest, earliest-range, cut-members, cut-rest, cut-laid}
+use Rattle.planner.specs.Single.{restAt, largestAt, EarliestAt, LaidAt, members-rest, members-largest, largest-some, earliest-rest, earliest-range, cut-members, cut-rest, cut-laid}
 use Rattle.planner.specs.Settled.{kidsOf}
 use Rattle.planner.specs.Cutting.{Heaviest, CutReady, CutDone, Scanned, mostSum, kidMembers}
 

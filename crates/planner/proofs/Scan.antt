@@ -1,11 +1,11 @@
 -- Scans of siblings by their links: the sum of their remainders, and the heaviest of them.
 -- Defines Scan (what a scan for the heaviest knows at the next sibling). Assumes nothing.
-use Prim.Native.Nat.{ℕ, zero, suc, _+_, _≤_, _<_, max}
+use Prim.Native.Nat.{ℕ, _+_, _≤_, _<_, max}
 use native.Mathlib.Omega.{arith}
-use mathlib.Core.Path.{_≡_, refl, sym, _∙_, ap}
+use mathlib.Core.Path.{_≡_, refl, ap}
 use mathlib.Core.Logic.{_⊎_, inl, inr}
 use mathlib.Core.List.{List}
-use Rattle.model.specs.Table.{nodeCount, nextAt, Chain}
+use Rattle.model.specs.Table.{nodeCount, nextAt}
 use Rattle.theory.specs.Sound.{SoundFacts}
 use Rattle.theory.specs.Shape.{size}
 use Rattle.theory.specs.Links.{next-le}

@@ -2,17 +2,17 @@
 -- Assumes nothing.
 use Prim.Native.Nat.{ℕ, zero, suc, _+_, _-_, _*_, _≤_, _<_}
 use native.Mathlib.Omega.{arith}
-use mathlib.Core.Path.{_≡_, refl, sym, _∙_, ap, ap₂}
+use mathlib.Core.Path.{_≡_, refl, _∙_, ap, ap₂}
 use mathlib.Core.List.{List}
 use lib.ListN.{length, set}
 use Rattle.model.specs.Table.{nodeCount, limitOf, weightAt, firstAt, Chain, end, node}
-use Rattle.model.specs.Steps.{Member, restSum, whole, cutDown, remainders, reduce}
+use Rattle.model.specs.Steps.{restSum, whole, cutDown, remainders, reduce}
 use Rattle.theory.specs.Shape.{size, EachWithin}
 use Rattle.theory.specs.Numbered.{numbered-size, numbered-le}
 use Rattle.theory.specs.SingleShape.{cutDown-reduced}
 use Rattle.theory.specs.ChainAt.{NodeAt, node-at, link-within}
-use Rattle.planner.specs.Nodes.{kept, kept-same, Outside, outside-then, outside-more, outside-store, same-store}
-use Rattle.planner.specs.Single.{members-rest, LaidAt, laid-same}
+use Rattle.planner.specs.Nodes.{kept-same, outside-then, outside-more, outside-store, same-store}
+use Rattle.planner.specs.Single.{members-rest, laid-same}
 use Rattle.planner.specs.Settled.{Settled, kidsOf, cutKids, Down, step}
 use Rattle.planner.specs.Cutting.{CutReady, CutDone, SettleReady, kidMembers}
 

@@ -1,19 +1,18 @@
 -- The two-way tree: a node's sides by what the scratch keeps, its remainder, and the marks that it gives. Assumes nothing.
 use Prim.Native.Nat.{ℕ, zero, suc, _+_, _-_, _≤_, _<_}
 use native.Mathlib.Omega.{arith}
-use mathlib.Core.Path.{_≡_, refl, sym, _∙_, ap, ap₂}
+use mathlib.Core.Path.{_≡_, refl, sym, _∙_, ap}
 use mathlib.Core.Bool.{Bool, true, false}
-use mathlib.Core.Logic.{_⊎_, inl, inr}
 use mathlib.Core.List.{List}
 use lib.ListN.{length, set, length-set}
 use lib.Dec.{eqb}
 use borrow.Author.Tests.{eqb-true, eqb-false}
 use Rattle.model.specs.Basics.{pick}
-use Rattle.model.specs.Table.{nodeCount, limitOf, firstAt, nextAt, weightAt, labelAt, Chain, end}
+use Rattle.model.specs.Table.{nodeCount, limitOf, firstAt, nextAt, weightAt, labelAt}
 use Rattle.model.specs.Steps.{remainder}
 use Rattle.theory.specs.Sound.{SoundFacts}
 use Rattle.theory.specs.Numbered.{Between, numbered-le}
-use Rattle.theory.specs.Links.{first-step, first-le, next-later, next-le, first-one, next-one, first-not-next, first-not-root, next-not-root}
+use Rattle.theory.specs.Links.{first-step, first-le, next-later, next-le, first-one, next-one, first-not-next}
 use Rattle.theory.specs.PairShape.{unlessCut, remainder-node, remainder-fits}
 use Rattle.theory.specs.ChainAt.{chainAt, chain-none, NodeAt, node-at, link-within}
 use Rattle.planner.specs.Nodes.{kept, kept-none, kept-same, kept-other}

@@ -1,10 +1,10 @@
 -- What the functions that cut children ask and promise.
 -- Defines Heaviest, CutReady, CutDone, SettleReady. Assumes nothing.
-use Prim.Native.Nat.{ℕ, suc, _+_, _-_, _*_, _≤_, _<_}
+use Prim.Native.Nat.{ℕ, _+_, _≤_}
 use mathlib.Core.Path.{_≡_}
 use mathlib.Core.List.{List}
 use lib.ListN.{length}
-use Rattle.model.specs.Table.{maxNodes, nodeCount, limitOf, firstAt, Chain}
+use Rattle.model.specs.Table.{nodeCount, limitOf, firstAt}
 use Rattle.model.specs.Steps.{Member, restSum, reduce}
 use Rattle.theory.specs.Sound.{SoundFacts, AcceptedFacts}
 use Rattle.theory.specs.Shape.{size}

@@ -1,9 +1,9 @@
 -- The single planner settles the nodes from the last to the first: each cuts children and keeps its own remainder.
 -- Defines Fresh (the siblings of a chain keep their remainders, and all below them is laid), Settled (what settling a node does), Down
 -- (nodes settled one after the other). Proves down-fresh, down-plan. Assumes nothing.
-use Prim.Native.Nat.{ℕ, zero, suc, _+_, _-_, _*_, _≤_, _<_}
+use Prim.Native.Nat.{ℕ, suc, _+_, _-_, _≤_, _<_}
 use native.Mathlib.Omega.{arith}
-use mathlib.Core.Path.{_≡_, refl, sym, _∙_, ap, ap₂}
+use mathlib.Core.Path.{_≡_, refl, sym, _∙_, ap}
 use mathlib.Core.Bool.{Bool, true, false}
 use mathlib.Core.List.{List, [], _∷_, _++_}
 use lib.ListN.{length, set, drop, length-set}
@@ -12,14 +12,14 @@ use lib.Dec.{eqb}
 use borrow.Author.Tests.{eqb-true, eqb-false}
 use Rattle.model.specs.Basics.{pick}
 use Rattle.model.specs.Table.{nodeCount, limitOf, firstAt, nextAt, weightAt, labelAt, Chain, end, node, treeOf}
-use Rattle.model.specs.Steps.{Member, restSum, whole, cutDown, remainders, laySingle, singleMarks, reduce}
+use Rattle.model.specs.Steps.{Member, restSum, whole, cutDown, remainders, laySingle, singleMarks}
 use Rattle.theory.specs.Ranges.{append-nil}
-use Rattle.theory.specs.Sound.{SoundFacts, AcceptedFacts}
+use Rattle.theory.specs.Sound.{SoundFacts}
 use Rattle.theory.specs.Shape.{size}
-use Rattle.theory.specs.Numbered.{Numbered, none, some, numbered-le, numbered-size, sound-tree, Rooted, sound-root}
-use Rattle.theory.specs.ChainAt.{chainAt, chain-is, NodeAt, node-at}
+use Rattle.theory.specs.Numbered.{Numbered, none, some, numbered-le, numbered-size, sound-tree, sound-root}
+use Rattle.theory.specs.ChainAt.{chainAt, chain-is, node-at}
 use Rattle.planner.specs.Nodes.{kept, kept-same, Outside, outside-none, outside-then, outside-more, Same, outside-same, same-store}
-use Rattle.planner.specs.Single.{members, LaidAt, members-same, laid-same, laid-marks, EarliestAt, largestAt, restAt}
+use Rattle.planner.specs.Single.{members, LaidAt, members-same, laid-same, laid-marks}
 
 pub record Fresh (t s a : List ℕ) (v : ℕ) (c : Chain) : Type 0 where
   pub rests : members t s a v c ≡ remainders (limitOf t) c

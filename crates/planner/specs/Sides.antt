@@ -2,15 +2,15 @@
 -- Defines leftFirst, leftCut, rightCut. Proves sides-left, sides-right: these are the sides that the pair planner takes. Assumes nothing.
 use Prim.Native.Nat.{ℕ, _+_, _-_, _≤_, _<_}
 use native.Mathlib.Omega.{arith}
-use mathlib.Core.Path.{_≡_, refl, sym, _∙_, ap}
+use mathlib.Core.Path.{_≡_, refl, _∙_, ap}
 use mathlib.Core.Bool.{Bool, true, false, not, _&&_, _||_}
-use mathlib.Core.Logic.{_⊎_, inl, inr}
+use mathlib.Core.Logic.{inl}
 use mathlib.Core.List.{List, [], _∷_}
-use lib.Dec.{eqb, ltb, leb}
-use borrow.Author.Tests.{leb-true, leb-false, le-leb, lt-leb, lt-ltb, le-ltb, eq-eqb, ne-eqb}
+use lib.Dec.{ltb, leb}
+use borrow.Author.Tests.{leb-true, leb-false, lt-ltb, le-ltb, eq-eqb, ne-eqb}
 use Rattle.model.specs.Basics.{pick}
 use Rattle.model.specs.Steps.{Member, restSum, largestGain, takeEarliest, reduce, whole, cutDown, sides, takenAt}
-use Rattle.theory.specs.Reduce.{offBy, Turns}
+use Rattle.theory.specs.Reduce.{offBy}
 use Rattle.theory.specs.ReduceCount.{reduce-stop, reduce-turn}
 
 -- the heavier side is cut first, and of equal sides the left

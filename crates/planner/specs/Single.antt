@@ -3,15 +3,14 @@
 use Prim.Native.Nat.{ℕ, zero, suc, _+_, _-_, _≤_, _<_, max}
 use native.Mathlib.Omega.{arith}
 use mathlib.Core.Path.{_≡_, refl, sym, _∙_, ap, ap₂}
-use mathlib.Core.Bool.{Bool, true, false}
 use mathlib.Core.Logic.{_⊎_, inl, inr}
 use mathlib.Core.List.{List, [], _∷_, _++_, append-assoc}
-use lib.ListN.{length, getD, set, drop}
+use lib.ListN.{length, set, drop}
 use lib.Seq.{drop-cons}
 use lib.Dec.{eqb}
 use borrow.Author.Tests.{eq-eqb, ne-eqb}
 use Rattle.model.specs.Basics.{pick}
-use Rattle.model.specs.Table.{firstAt, nextAt, weightAt, labelAt, Chain, end, node}
+use Rattle.model.specs.Table.{firstAt, nextAt, weightAt, Chain, end, node}
 use Rattle.model.specs.Steps.{Member, restSum, largestGain, takeEarliest, cutDown, remainders, laySingle}
 use Rattle.theory.specs.Numbered.{Numbered, none, some, numbered-le}
 use Rattle.planner.specs.Nodes.{kept, kept-suc, kept-same, kept-other, Same, same-less, same-store}

@@ -20,11 +20,11 @@ use Rattle.model.specs.declared.Verdict.the-variants.{Feasible}
 use Rattle.theory.specs.Ranges.{length-listTo, getD-listTo}
 use Rattle.theory.specs.Sound.{AcceptedFacts}
 use Rattle.theory.specs.Pages.{pages-low}
-use Rattle.theory.specs.Feasible.{judged-verdict, judged-answer}
+use Rattle.theory.specs.Feasible.{judged-verdict}
 use Rattle.theory.specs.ArchiveWords.{page-first, length-runsOf, getD-runsOf, archive-pages, archive-page}
 use Rattle.theory.specs.ArchiveAnswers.{writer-done}
 use Rattle.theory.specs.Lowest.{Lowest, best-judged, best-lowest}
-use Rattle.theory.specs.Promise.{plan-passes, plan-accepted, planned-made, planned-judged}
+use Rattle.theory.specs.Promise.{plan-passes, plan-accepted, planned-made}
 
 -- the run in page q's record
 abbrev pub runIn : List ℕ → ℕ → Run
@@ -104,12 +104,3 @@ module _ (t m s out : List ℕ) (p : planBest t m s .answer .number ≡ 0) where
     pub film-lowest : LowestOnFilm t (film .archive) (film .answer)
     unfolding planBest
     film-lowest = rw (filmed, made) (best-on-film (plan-accepted t m s (plan-passes bestMarks t m s p)))
-
-    pub film-answer : film .answer ≡ planBest t m s .answer
-    unfolding planBest
-    film-answer =
-        let e = plan-passes bestMarks t m s p in
-        ap (λ (w : Written). w .answer) filmed
-        ∙ ap (λ x. accepted (verdictOf t x)) made
-        ∙ ap accepted (judged-verdict (best-judged (plan-accepted t m s e)))
-        ∙ sym (planned-judged bestMarks t m s e ∙ judged-answer (best-judged (plan-accepted t m s e)))

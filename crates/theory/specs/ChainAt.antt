@@ -1,14 +1,14 @@
 -- The chain that starts at a node of a table, by the node's number.
 -- Defines chainAt, NodeAt (a node, the chain of its children and that of the siblings after it, with their numbers). Proves chain-none,
 -- chain-tree, node-at (each node of a table of sound form is so) and chain-within. Assumes nothing.
-use Prim.Native.Nat.{ℕ, zero, suc, _+_, _≤_, _<_}
+use Prim.Native.Nat.{ℕ, suc, _≤_, _<_}
 use native.Mathlib.Omega.{arith}
-use mathlib.Core.Path.{_≡_, refl, sym, _∙_, ap₂}
+use mathlib.Core.Path.{_≡_, sym, _∙_, ap₂}
 use mathlib.Core.List.{List}
-use Rattle.model.specs.Table.{nodeCount, limitOf, weightAt, labelAt, firstAt, nextAt, Chain, end, node, chainFrom, treeOf}
+use Rattle.model.specs.Table.{nodeCount, limitOf, weightAt, labelAt, firstAt, nextAt, Chain, end, node, chainFrom}
 use Rattle.theory.specs.Shape.{size, EachWithin}
 use Rattle.theory.specs.Sound.{SoundFacts, AcceptedFacts}
-use Rattle.theory.specs.Numbered.{Numbered, none, some, size-end, size-node, numbered-size, numbered-le, numbered-chain, numbered-within, Between, between-join, sound-tree}
+use Rattle.theory.specs.Numbered.{Numbered, none, some, size-node, numbered-size, numbered-le, numbered-chain, numbered-within, Between, between-join, sound-tree}
 
 unfoldable pub chainAt : List ℕ → ℕ → Chain
 chainAt t v = chainFrom (nodeCount t) t v
@@ -20,10 +20,6 @@ chain-is {t} r h = numbered-chain r (nodeCount t) (omega (arith, numbered-size r
 
 pub chain-none : (t : List ℕ) → chainAt t 0 ≡ end
 chain-none t = chain-is {t = t} {m = 0} none (omega arith)
-
-pub chain-tree : (t : List ℕ) → chainAt t 1 ≡ treeOf t
-unfolding chainAt treeOf
-chain-tree t = refl
 
 pub record NodeAt (t : List ℕ) (u : ℕ) : Type 0 where
   pub last : ℕ
@@ -56,10 +52,6 @@ module _ {t : List ℕ} where
 
   pub node-at : SoundFacts t → (u : ℕ) → 1 ≤ u → u ≤ nodeCount t → NodeAt t u
   node-at s u low high = numbered-at (sound-tree s) (omega arith) u (omega arith) high
-
-  -- the whole chain at a node
-  pub chain-numbered : {m : ℕ} (a : NodeAt t (suc m)) → Numbered t m (suc m) (chainAt t (suc m)) (a .fin)
-  chain-numbered a = rw (a .shape) (some (a .below) (a .after))
 
   -- siblings after a node are fewer than the node and they
   pub next-smaller : {u : ℕ} → NodeAt t u → size (chainAt t (nextAt t u)) < size (chainAt t u)

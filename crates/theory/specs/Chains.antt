@@ -122,11 +122,6 @@ pub comesAfter-after : (t : List ℕ) (u v : ℕ) → comesAfter t u v ≡ true 
 unfolding comesAfter
 comesAfter-after t u v e = comesFrom-after (nodeCount t) t u v e
 
--- a node comes after itself
-pub comesAfter-refl : (t : List ℕ) (v : ℕ) → comesAfter t v v ≡ true
-unfolding comesAfter
-comesAfter-refl t v = comesFrom-here (nodeCount t) t v v refl
-
 -- ---- In a table of sound form
 
 module _ {t : List ℕ} (s : SoundFacts t) where
@@ -199,55 +194,3 @@ module _ {t : List ℕ} (s : SoundFacts t) where
   pub after-comesAfter : {u v : ℕ} → After t u v → 1 ≤ u → u ≤ nodeCount t → comesAfter t u v ≡ true
   unfolding comesAfter
   after-comesAfter r low high = after-comesFrom (nodeCount t) r low high (omega arith)
-
-  pub comesFrom-enough : (f u v : ℕ) → 1 ≤ u → u ≤ nodeCount t → nodeCount t ≤ f + u → comesFrom f t u v ≡ comesAfter t u v
-  comesFrom-enough f u v low high enough =
-      same-true (comesFrom f t u v) (comesAfter t u v)
-      (λ e. after-comesAfter (comesFrom-after f t u v e) low high)
-      (λ e. after-comesFrom f (comesAfter-after t u v e) low high enough)
-
-  -- ---- The order of a chain, as tests
-
-  pub comesAfter-le : (u v : ℕ) → 1 ≤ u → u ≤ nodeCount t → comesAfter t u v ≡ true → (u ≤ v) × (v ≤ nodeCount t)
-  comesAfter-le u v low high e = reach-le (comesAfter-after t u v e) low high
-
-  pub comesAfter-next : (u : ℕ) → 1 ≤ u → u ≤ nodeCount t → 1 ≤ nextAt t u → comesAfter t u (nextAt t u) ≡ true
-  comesAfter-next u low high a = after-comesAfter (reach-one a tt) low high
-
-  pub comesAfter-trans : (u v w : ℕ) → 1 ≤ u → u ≤ nodeCount t → comesAfter t u v ≡ true → comesAfter t v w ≡ true
-      → comesAfter t u w ≡ true
-  comesAfter-trans u v w low high e e′ =
-      after-comesAfter (reach-trans (comesAfter-after t u v e) (comesAfter-after t v w e′)) low high
-
-  pub comesAfter-antisym : (u v : ℕ) → 1 ≤ u → u ≤ nodeCount t → comesAfter t u v ≡ true → comesAfter t v u ≡ true → u ≡ v
-  comesAfter-antisym u v low high e e′ =
-      let a = comesAfter-le u v low high e in
-      let b = comesAfter-le v u (omega (arith, a .0)) (a .1) e′ in
-      omega (arith, a .0, b .0)
-
-  pub comesAfter-total : (w u v : ℕ) → 1 ≤ w → w ≤ nodeCount t → comesAfter t w u ≡ true → comesAfter t w v ≡ true
-      → (comesAfter t u v ≡ true) ⊎ (comesAfter t v u ≡ true)
-  comesAfter-total w u v low high e e′ = go (reach-total (comesAfter-after t w u e) (comesAfter-after t w v e′))
-    where
-      a : (w ≤ u) × (u ≤ nodeCount t)
-      a = comesAfter-le w u low high e
-
-      b : (w ≤ v) × (v ≤ nodeCount t)
-      b = comesAfter-le w v low high e′
-
-      go : After t u v ⊎ After t v u → (comesAfter t u v ≡ true) ⊎ (comesAfter t v u ≡ true)
-      go (inl r) = inl (after-comesAfter r (omega (arith, a .0)) (a .1))
-      go (inr r) = inr (after-comesAfter r (omega (arith, b .0)) (b .1))
-
-  pub comesAfter-common : (u v w : ℕ) → 1 ≤ u → u ≤ nodeCount t → 1 ≤ v → v ≤ nodeCount t → comesAfter t u w ≡ true
-      → comesAfter t v w ≡ true → (comesAfter t u v ≡ true) ⊎ (comesAfter t v u ≡ true)
-  comesAfter-common u v w low high low′ high′ e e′ =
-      go (reach-common (comesAfter-after t u w e) (comesAfter-after t v w e′) low high low′ high′)
-    where
-      go : After t u v ⊎ After t v u → (comesAfter t u v ≡ true) ⊎ (comesAfter t v u ≡ true)
-      go (inl r) = inl (after-comesAfter r low high)
-      go (inr r) = inr (after-comesAfter r low′ high′)
-
-  -- siblings of one chain have the same parent
-  pub comesAfter-parent : (u v : ℕ) → 1 ≤ u → u ≤ nodeCount t → comesAfter t u v ≡ true → parentAt t v ≡ parentAt t u
-  comesAfter-parent u v low high e = reach-parent (comesAfter-after t u v e) low high

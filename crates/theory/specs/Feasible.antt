@@ -5,7 +5,7 @@
 use Prim.Native.Nat.{ℕ, zero, suc, _-_, _≤_}
 use native.Mathlib.Omega.{arith}
 use mathlib.Core.Bool.{true, false, not, _&&_}
-use mathlib.Core.Path.{_≡_, refl, sym, _∙_, ap}
+use mathlib.Core.Path.{_≡_, sym, _∙_, ap}
 use mathlib.Core.Logic.{_↔_}
 use mathlib.Core.List.{List, [], _∷_}
 use lib.ListN.{length, getD}
@@ -161,20 +161,6 @@ module _ {t : List ℕ} (a : AcceptedFacts t) (m : List ℕ) (long : length m �
   judge-bridge p =
       let j : Judged t m = judged-bridge .1 p in
       judged-answer j ∙ ap accepted (sym (judged-verdict j) ∙ verdict-bridge (a .sound) m long (j .marks) (j .pages))
-
-  -- a plan by shape, with the weight of the root's page
-  pub feasible-shape : feasiblePlan t m ≡ true
-      → FeasibleShape (limitOf t) (treeOf t) m (getD (weighed (treeOf t) m .pages) 0 0)
-  unfolding markAt
-  feasible-shape e =
-      let p : ShapePlan t m = feasible-bridge .0 e in
-      record {
-        long = omega (arith, tree-size (a .sound));
-        first = p .first;
-        allows = p .allows;
-        within = p .within;
-        root-page = refl;
-      }
 
 -- what the judge says of a plan by shape
 pub shape-feasible : {t : List ℕ} → AcceptedFacts t → (m : List ℕ) (root : ℕ) → FeasibleShape (limitOf t) (treeOf t) m root

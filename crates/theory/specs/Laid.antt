@@ -1,7 +1,7 @@
 -- Marks laid node by node, without counting the pages; and what makes a plan of a tree feasible.
 -- Defines Laid and FeasibleShape. Proves laid-end, laid-stays, laid-begins, laid-continues (a node by its mark), laid-begins-page and
 -- feasible-tree. Assumes nothing.
-use Prim.Native.Nat.{ℕ, suc, _+_, _≤_}
+use Prim.Native.Nat.{ℕ, _+_, _≤_}
 use mathlib.Core.Path.{_≡_, refl}
 use mathlib.Core.Bool.{Bool, true, false}
 use mathlib.Core.List.{List, [], _∷_, _++_}

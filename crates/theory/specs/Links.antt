@@ -41,11 +41,6 @@ pub entry-high : {t : List ℕ} {m v e : ℕ} {c : Chain} → Numbered t m v c e
 entry-high none = omega arith
 entry-high (some k s) = omega (arith, numbered-le k, numbered-le s)
 
--- numbers after m mean a link
-pub entry-some : {t : List ℕ} {m v e : ℕ} {c : Chain} → Numbered t m v c e → m < e → v ≡ suc m
-entry-some none h = absurd (omega arith)
-entry-some (some k s) h = refl
-
 pub numbered-links : {t : List ℕ} {m v e : ℕ} {c : Chain} → Numbered t m v c e → Between m e (NodeLinks t e)
 numbered-links none = λ u low high. absurd (omega arith)
 numbered-links {t} (some {m = m} {e₁ = e₁} {e₂ = e₂} k s) =
@@ -204,13 +199,6 @@ module _ {t : List ℕ} (s : SoundFacts t) where
   pub first-not-next : (u u′ : ℕ) → 1 ≤ u → u ≤ nodeCount t → 1 ≤ u′ → u′ ≤ nodeCount t → 1 ≤ firstAt t u
       → firstAt t u ≡ nextAt t u′ → ⊥
   first-not-next u u′ low high low′ high′ = numbered-apart (sound-tree s) u low high u′ low′ high′
-
-  -- the root is neither
-  pub first-not-root : (u : ℕ) → 1 ≤ u → u ≤ nodeCount t → firstAt t u ≡ 1 → ⊥
-  first-not-root u low high q = omega (arith, first-step u low high (omega arith))
-
-  pub next-not-root : (u : ℕ) → 1 ≤ u → u ≤ nodeCount t → nextAt t u ≡ 1 → ⊥
-  next-not-root u low high q = omega (arith, next-later u low high (omega arith))
 
   -- every other node is linked to
   pub linked : (v : ℕ) → 2 ≤ v → v ≤ nodeCount t → Source t 0 v

@@ -1,13 +1,12 @@
 -- Lists made of those numbers from 1 to n that pass a test, and counts and tests over lists.
 -- Defines listed. Proves which elements it has, its length, where each stands, and what is counted in it. Assumes nothing.
-use Prim.Native.Nat.{ℕ, zero, suc, _+_, _-_, _≤_, _<_}
+use Prim.Native.Nat.{ℕ, zero, suc, _+_, _≤_, _<_}
 use native.Mathlib.Omega.{arith}
 use mathlib.Core.Bool.{Bool, true, false, _&&_, true≢false}
 use mathlib.Core.Path.{_≡_, refl, sym, _∙_, ap}
 use mathlib.Core.Logic.{_⊎_, inl, inr}
 use mathlib.Core.List.{List, [], _∷_, _++_, List·Memᴰ, List·Memᴰ·head, List·Memᴰ·tail, List·Memᴰ·not-nil, List·Memᴰ·append-cases, List·Memᴰ·eq-of-singleton, Memᴰ·append-left, Memᴰ·append-right}
-use lib.ListN.{length, getD, length-append, List·getD-append}
-use lib.Seq.{getD-append-seam}
+use lib.ListN.{length, length-append}
 use lib.Dec.{leb}
 use borrow.Author.Tests.{leb-true, leb-false}
 use Rattle.model.specs.Basics.{pick, sumTo, countTo, listTo, every}
@@ -53,11 +52,6 @@ module _ {ℓ} {X : Type ℓ} (p : X → Bool) where
       go : (b : Bool) → p x ≡ b → countOf p xs ≤ countOf p (x ∷ xs)
       go true e = omega (arith, countOf-yes x xs e)
       go false e = omega (arith, countOf-no x xs e)
-
-  pub countOf-none : (xs : List X) → ((x : X) → Mem x xs → p x ≡ false) → countOf p xs ≡ 0
-  countOf-none [] h = countOf-nil
-  countOf-none (y ∷ ys) h =
-      countOf-no y ys (h y (List·Memᴰ·head refl)) ∙ countOf-none ys (λ x m. h x (List·Memᴰ·tail m))
 
   pub countOf-some : (xs : List X) (x : X) → Mem x xs → p x ≡ true → 1 ≤ countOf p xs
   countOf-some [] x h e = absurd (List·Memᴰ·not-nil h)
@@ -201,25 +195,6 @@ module _ {ℓ} {X : Type ℓ} (p : ℕ → Bool) (f : ℕ → X) where
       go (inl l) true q ih = rw (listed-yes n q) (Memᴰ·append-left (f (suc n) ∷ []) (ih l e))
       go (inl l) false q ih = rw (listed-no n q) (ih l e)
       go (inr r) true q ih = rw (listed-yes n q) (Memᴰ·append-right (listed n p f) (List·Memᴰ·head (ap f r)))
-      go (inr r) false q ih = absurd (true≢false (sym e ∙ ap p r ∙ q))
-
-  -- where it stands
-  pub listed-at : (n v : ℕ) (d : X) → 1 ≤ v → v ≤ n → p v ≡ true → getD (listed n p f) (countTo v p - 1) d ≡ f v
-  listed-at zero v d low high e = absurd (omega arith)
-  listed-at (suc n) v d low high e = go (upto-suc n v high) (p (suc n)) refl (listed-at n v d low)
-    where
-      go : (v ≤ n) ⊎ (v ≡ suc n) → (b : Bool) → p (suc n) ≡ b
-          → (v ≤ n → p v ≡ true → getD (listed n p f) (countTo v p - 1) d ≡ f v)
-          → getD (listed (suc n) p f) (countTo v p - 1) d ≡ f v
-      go (inl l) true q ih =
-          let fits : countTo v p - 1 < length (listed n p f) =
-          omega (arith, length-listed n, countTo-grows p v n l, countTo-low p v low e) in
-          rw (listed-yes n q) (List·getD-append (listed n p f) (f (suc n) ∷ []) d (countTo v p - 1) fits ∙ ih l e)
-      go (inl l) false q ih = rw (listed-no n q) (ih l e)
-      go (inr r) true q ih =
-          let place : countTo v p - 1 ≡ length (listed n p f) =
-          omega (arith, length-listed n, countTo-yes n p q, ap (λ u. countTo u p) r) in
-          rw (listed-yes n q, place) (getD-append-seam (listed n p f) (f (suc n)) [] d ∙ ap f (sym r))
       go (inr r) false q ih = absurd (true≢false (sym e ∙ ap p r ∙ q))
 
   -- what is counted in it

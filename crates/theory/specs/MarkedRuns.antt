@@ -13,7 +13,7 @@ use Rattle.model.specs.Table.{nodeCount, nextAt}
 use Rattle.model.specs.Plan.{begins, continues, markAt, hasMark, inRun, runLastFrom, runLast}
 use Rattle.model.specs.Runs.{Run, isMember, runsOf}
 use Rattle.theory.specs.Ranges.{pick-true, pick-false}
-use Rattle.theory.specs.Sound.{SoundFacts, both-true, both-false}
+use Rattle.theory.specs.Sound.{SoundFacts, both-true}
 use Rattle.theory.specs.Links.{next-later, next-le}
 use Rattle.theory.specs.Chains.{Reach, here, step, Before, reach-after, reach-last, reach-stop, reach-stop-one, reach-common, reach-between}
 use Rattle.theory.specs.Listed.{listed}
@@ -77,10 +77,6 @@ inRun-continues m v e = go (hasMark m begins v)
     go : (b : Bool) → (b || hasMark m continues v) ≡ true
     go true = refl
     go false = e
-
-pub inRun-neither : (m : List ℕ) (v : ℕ) → inRun m v ≡ false → (hasMark m begins v ≡ false) × (hasMark m continues v ≡ false)
-unfolding inRun
-inRun-neither m v e = both-false (hasMark m begins v) (hasMark m continues v) e
 
 pub neither-inRun : (m : List ℕ) (v : ℕ) → hasMark m begins v ≡ false → hasMark m continues v ≡ false → inRun m v ≡ false
 unfolding inRun

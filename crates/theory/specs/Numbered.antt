@@ -5,7 +5,7 @@ use Prim.Native.Nat.{ℕ, zero, suc, _+_, _*_, _≤_, _<_}
 use native.Mathlib.Omega.{arith}
 use mathlib.Core.Bool.{Bool, true, false, not, _&&_}
 use mathlib.Core.Path.{_≡_, refl, sym, _∙_, ap}
-use mathlib.Core.Logic.{_⊎_, inl, inr, _↔_}
+use mathlib.Core.Logic.{_↔_}
 use mathlib.Core.List.{List, [], _∷_}
 use lib.Dec.{eqb, ltb, leb}
 use borrow.Author.Tests.{eqb-true, eq-eqb, lt-ltb, leb-true, leb-false, not-false}
@@ -42,10 +42,6 @@ pub numbered-le : {t : List ℕ} {m v e : ℕ} {c : Chain} → Numbered t m v c 
 numbered-le r = omega (arith, numbered-size r)
 
 -- ---- What a numbering is, by its link
-
-pub numbered-link : {t : List ℕ} {m v e : ℕ} {c : Chain} → Numbered t m v c e → (v ≡ 0) ⊎ (v ≡ suc m)
-numbered-link none = inl refl
-numbered-link (some k s) = inr refl
 
 -- no link: no node
 pub numbered-none : {t : List ℕ} {m v e : ℕ} {c : Chain} → Numbered t m v c e → v ≡ 0 → (c ≡ end) × (e ≡ m)
@@ -176,11 +172,6 @@ numbered-chain {t} (some {m = m} {kids = kids} {next = next} k s) (suc f) fits =
     let sum = size-node (weightAt t (suc m)) (labelAt t (suc m)) kids next in
     chainFrom-some f t m
     ∙ rw (numbered-chain k f (omega (arith, sum)), numbered-chain s f (omega (arith, sum)))
-
--- the chain that a link starts is one
-pub numbered-same : {t : List ℕ} {m v e m′ e′ : ℕ} {c c′ : Chain} → Numbered t m v c e → Numbered t m′ v c′ e′ → c ≡ c′
-numbered-same {c} {c′} r r′ =
-    sym (numbered-chain r (size c + size c′) (omega arith)) ∙ numbered-chain r′ (size c + size c′) (omega arith)
 
 pub sound-tree : {t : List ℕ} → SoundFacts t → Numbered t 0 1 (treeOf t) (nodeCount t)
 unfolding treeOf

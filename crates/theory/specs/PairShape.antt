@@ -5,16 +5,16 @@
 use Prim.Native.Nat.{ℕ, _+_, _-_, _≤_}
 use mathlib.Core.Path.{_≡_, refl}
 use mathlib.Core.Bool.{Bool, true, false}
-use mathlib.Core.List.{List, [], _∷_, _++_}
+use mathlib.Core.List.{List, [], _∷_}
 use mathlib.Core.Logic.{_⊎_, inl, inr}
 use native.Mathlib.Omega.{arith}
 use Rattle.model.specs.Basics.{pick}
 use Rattle.model.specs.Table.{Chain, end, node}
 use Rattle.model.specs.Plan.{stays, continues}
 use Rattle.model.specs.Steps.{Member, restSum, whole, cutDown, sides, remainder, takenAt, layPair, pairMarks}
-use Rattle.theory.specs.Shape.{weighed, EachWithin}
+use Rattle.theory.specs.Shape.{EachWithin}
 use Rattle.theory.specs.Reduce.{Each, whole-Whole, cutOff, Cuts, Reduced, reduce-whole}
-use Rattle.theory.specs.Laid.{Laid, laid-end, laid-stays, laid-begins, laid-begins-page, laid-continues, FeasibleShape, feasible-tree}
+use Rattle.theory.specs.Laid.{Laid, laid-end, laid-stays, laid-begins, laid-continues, FeasibleShape, feasible-tree}
 
 -- what is left of a side that weighs r
 abbrev pub unlessCut : Bool → ℕ → ℕ
@@ -112,18 +112,6 @@ pair-laid K (node w l kids next) h =
     record { staying = pair-stays K w l kids next a b fits; going-on = pair-continues K w l kids next a b fits }
 
 -- ---- Pages
-
--- the page that a cut node begins, and then those that begin below it and after it
-pub pair-page : (K w l : ℕ) (kids next : Chain) (uncut : ℕ) → EachWithin K (node w l kids next)
-    → weighed (node w l kids next) (layPair K (node w l kids next) true uncut) .pages
-    ≡ remainder K (node w l kids next)
-    ∷ (weighed kids (layPair K kids (kidsCut K w kids next) stays) .pages
-    ++ weighed next (layPair K next (nextCut K w kids next) continues) .pages)
-unfolding EachWithin layPair pick
-pair-page K w l kids next uncut h =
-    rw (remainder-node K w kids next l)
-    (laid-begins-page K w l (pair-laid K kids (h .1) .staying (kidsCut K w kids next) false)
-    (pair-laid K next (h .2) .going-on (nextCut K w kids next)))
 
 -- the root has no sibling: its page holds it and what its children keep
 pub remainder-root : (K w l : ℕ) (kids : Chain)

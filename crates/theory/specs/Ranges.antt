@@ -2,11 +2,10 @@
 -- each of 1 to n. Assumes nothing.
 use Prim.Native.Nat.{ℕ, zero, suc, _+_, _≤_, _<_}
 use native.Mathlib.Omega.{arith}
-use native.Mathlib.Nat.{add-suc, add-zero}
 use mathlib.Core.Bool.{Bool, true, false, true≢false, false≢true}
 use mathlib.Core.Path.{_≡_, refl, sym, _∙_, ap}
 use mathlib.Core.Logic.{_⊎_, inl, inr}
-use mathlib.Core.List.{List, [], _∷_, _++_, append-assoc}
+use mathlib.Core.List.{List, [], _∷_, _++_}
 use lib.ListN.{length, getD, length-append, List·getD-append}
 use lib.Seq.{getD-append-seam}
 use lib.Dec.{leb}
@@ -119,22 +118,10 @@ sumTo-add zero f g = simp sumTo-zero
 sumTo-add (suc n) f g =
     omega (arith, sumTo-add n f g, sumTo-suc n (λ v. f v + g v), sumTo-suc n f, sumTo-suc n g)
 
-pub sumTo-le : (n : ℕ) (f g : ℕ → ℕ) → Upto n (λ v. f v ≤ g v) → sumTo n f ≤ sumTo n g
-sumTo-le zero f g h = omega (arith, sumTo-zero f)
-sumTo-le (suc n) f g h =
-    omega (arith, sumTo-le n f g (upto-less (λ v. f v ≤ g v) n h), upto-last (λ v. f v ≤ g v) n h, sumTo-suc n f, sumTo-suc n g)
-
 pub sumTo-none : (n : ℕ) (f : ℕ → ℕ) → Upto n (λ v. f v ≡ 0) → sumTo n f ≡ 0
 sumTo-none zero f h = sumTo-zero f
 sumTo-none (suc n) f h =
     omega (arith, sumTo-none n f (upto-less (λ v. f v ≡ 0) n h), upto-last (λ v. f v ≡ 0) n h, sumTo-suc n f)
-
--- the first m, and then n more
-pub sumTo-split : (m n : ℕ) (f : ℕ → ℕ) → sumTo (m + n) f ≡ sumTo m f + sumTo n (λ v. f (m + v))
-sumTo-split m zero f = rw (add-zero m, sumTo-zero (λ v. f (m + v)), add-zero (sumTo m f))
-sumTo-split m (suc n) f =
-    rw (add-suc m n)
-    (omega (arith, sumTo-split m n f, sumTo-suc (m + n) f, sumTo-suc n (λ v. f (m + v)), ap f (add-suc m n)))
 
 -- ---- Counts
 
@@ -151,15 +138,6 @@ countTo-yes n p e = omega (arith, countTo-suc n p, pick-true {X = ℕ} (p (suc n
 
 pub countTo-no : (n : ℕ) (p : ℕ → Bool) → p (suc n) ≡ false → countTo (suc n) p ≡ countTo n p
 countTo-no n p e = omega (arith, countTo-suc n p, pick-false {X = ℕ} (p (suc n)) 1 0 e)
-
-pub countTo-cong : (n : ℕ) (p q : ℕ → Bool) → Upto n (λ v. p v ≡ q v) → countTo n p ≡ countTo n q
-unfolding countTo
-countTo-cong n p q h =
-    sumTo-cong n (λ v. pick (p v) 1 0) (λ v. pick (q v) 1 0) (λ v low high. ap (λ b. pick b 1 0) (h v low high))
-
-pub countTo-split : (m n : ℕ) (p : ℕ → Bool) → countTo (m + n) p ≡ countTo m p + countTo n (λ v. p (m + v))
-unfolding countTo
-countTo-split m n p = sumTo-split m n (λ v. pick (p v) 1 0)
 
 pick-le-one : (b : Bool) → pick b 1 0 ≤ 1
 unfolding pick
@@ -294,13 +272,6 @@ lastTo-yes n p e = lastTo-suc n p ∙ pick-true (p (suc n)) (suc n) (lastTo n p)
 pub lastTo-no : (n : ℕ) (p : ℕ → Bool) → p (suc n) ≡ false → lastTo (suc n) p ≡ lastTo n p
 lastTo-no n p e = lastTo-suc n p ∙ pick-false (p (suc n)) (suc n) (lastTo n p) e
 
-pub lastTo-cong : (n : ℕ) (p q : ℕ → Bool) → Upto n (λ v. p v ≡ q v) → lastTo n p ≡ lastTo n q
-lastTo-cong zero p q h = simp lastTo-zero
-lastTo-cong (suc n) p q h =
-    let before : lastTo n p ≡ lastTo n q = lastTo-cong n p q (upto-less (λ v. p v ≡ q v) n h) in
-    let last : p (suc n) ≡ q (suc n) = upto-last (λ v. p v ≡ q v) n h in
-    rw (lastTo-suc n p, lastTo-suc n q, before, last)
-
 pub lastTo-le : (n : ℕ) (p : ℕ → Bool) → lastTo n p ≤ n
 lastTo-le zero p = omega (arith, lastTo-zero p)
 lastTo-le (suc n) p = go (p (suc n)) refl (lastTo-le n p)
@@ -400,25 +371,6 @@ pub append-nil {ℓ} : {X : Type ℓ} (l : List X) → l ++ [] ≡ l
 append-nil [] = refl
 append-nil (x ∷ l) = ap (λ r. x ∷ r) (append-nil l)
 
--- the first m, and then n more
-pub listTo-split {ℓ} : {X : Type ℓ} (m n : ℕ) (f : ℕ → List X) → listTo (m + n) f ≡ listTo m f ++ listTo n (λ v. f (m + v))
-listTo-split m zero f = rw (add-zero m, listTo-zero (λ v. f (m + v)), append-nil (listTo m f))
-listTo-split m (suc n) f =
-    rw (
-      add-suc m n,
-      listTo-suc (m + n) f,
-      listTo-split m n f,
-      listTo-suc n (λ v. f (m + v)),
-      add-suc m n,
-      append-assoc,
-    )
-
--- the first, and then n more
-pub listTo-head {ℓ} : {X : Type ℓ} (n : ℕ) (f : ℕ → List X) → listTo (suc n) f ≡ f 1 ++ listTo n (λ v. f (suc v))
-listTo-head zero f = listTo-suc 0 f ∙ rw (listTo-zero f, listTo-zero (λ v. f (suc v)), append-nil (f 1))
-listTo-head (suc n) f =
-    rw (listTo-suc (suc n) f, listTo-head n f, listTo-suc n (λ v. f (suc v)), append-assoc)
-
 pub length-listTo {ℓ} : {X : Type ℓ} (n : ℕ) (f : ℕ → X) → length (listTo n (λ v. f v ∷ [])) ≡ n
 length-listTo zero f = rw (listTo-zero (λ v. f v ∷ []))
 length-listTo (suc n) f =
@@ -437,9 +389,3 @@ getD-listTo {X = X} (suc n) i f d h = rw (listTo-suc n (λ v. f v ∷ [])) (go (
     go (inr e) ih =
         let here : i ≡ length xs = rw (length-listTo n f) (omega arith) in
         ap (λ k. getD (xs ++ (f (suc n) ∷ [])) k d) here ∙ getD-append-seam xs (f (suc n)) [] d ∙ ap f (sym e)
-
--- the sum of lengths
-pub length-listTo-sum {ℓ} : {X : Type ℓ} (n : ℕ) (f : ℕ → List X) → length (listTo n f) ≡ sumTo n (λ v. length (f v))
-length-listTo-sum zero f = rw (listTo-zero f, sumTo-zero (λ v. length (f v)))
-length-listTo-sum (suc n) f =
-    rw (listTo-suc n f, length-append, sumTo-suc n (λ v. length (f v)), length-listTo-sum n f)

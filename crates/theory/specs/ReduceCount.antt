@@ -4,7 +4,7 @@
 -- Proves reduce-stop, reduce-turn (one turn), earliest-rest, earliest-taken, earliest-count, earliest-count-other (what a turn does to
 -- the figures and to each count), reduce-by-count (the figures of `reduce`, from the largest gain down) and reduce-alike (members in
 -- another order have the same figures). Assumes nothing.
-use Prim.Native.Nat.{ℕ, zero, suc, _+_, _-_, _≤_, _<_, max}
+use Prim.Native.Nat.{ℕ, zero, suc, _+_, _-_, _≤_, _<_}
 use mathlib.Core.Path.{_≡_, refl, sym, _∙_, ap}
 use mathlib.Core.Bool.{Bool, true, false}
 use mathlib.Core.List.{List, [], _∷_}
@@ -14,7 +14,7 @@ use lib.ListN.{length}
 use lib.Dec.{eqb, leb}
 use borrow.Author.Tests.{leb-true, leb-false, eqb-true, le-leb, eq-eqb, ne-eqb}
 use Rattle.model.specs.Basics.{pick}
-use Rattle.model.specs.Steps.{Member, restSum, takenCount, largestGain, takeEarliest, reduce, whole, Child, asMember}
+use Rattle.model.specs.Steps.{Member, restSum, takenCount, largestGain, takeEarliest, reduce, Child, asMember}
 use Rattle.theory.specs.Reduce.{Each, sumOf, Earliest, here, there, earliest, earliest-turn, earliest-each, earliest-gainers, Turns, Done, reduceFrom-stop, reduceFrom-turn, reduceFrom-reduce, gainers}
 
 -- ---- One turn of reduce
@@ -40,10 +40,6 @@ reduce-turn room ms t =
 pub record Sound (m : Member) : Type 0 where
   pub fits : m .gain ≤ m .rest
   pub fresh : 0 < m .gain → m .taken ≡ false
-
-pub whole-sound : (r : ℕ) → Sound (whole r)
-unfolding whole
-whole-sound r = record { fits = omega arith; fresh = λ p. refl }
 
 pub asMember-sound : (k : Child) → k .gain ≤ k .rest → Sound (asMember k)
 unfolding asMember
@@ -197,18 +193,3 @@ reduce-by-count zero c room ms k = rw (reduce-stop room ms (inr (omega (arith, k
 reduce-by-count (suc g) c room ms k =
     level-by-count g c room (reduce-by-count g c room) (c (suc g)) ms (k .sound) (k .below) (k .counts (suc g) (omega arith) (omega arith))
     (λ h p q. k .counts h p (omega arith))
-
--- members with the same sum, as many taken, and as many of each gain
-pub record Alike (ms ns : List Member) : Type 0 where
-  pub figures : figuresOf ms ≡ figuresOf ns
-  pub counts : (h : ℕ) → 0 < h → countGain h ms ≡ countGain h ns
-
--- their order does not matter to the figures
-pub reduce-alike : (room : ℕ) (ms ns : List Member) → Each Sound ms → Each Sound ns → Alike ms ns
-    → figuresOf (reduce room ms) ≡ figuresOf (reduce room ns)
-reduce-alike room ms ns s t a =
-    let g : ℕ = max (largestGain ms) (largestGain ns) in
-    let c : ℕ → ℕ = λ h. countGain h ns in
-    let x = reduce-by-count g c room ms (record { sound = s; below = omega arith; counts = λ h p q. a .counts h p }) in
-    let y = reduce-by-count g c room ns (record { sound = t; below = omega arith; counts = λ h p q. refl }) in
-    x ∙ rw (a .figures) refl ∙ sym y

@@ -168,10 +168,6 @@ module _ {t : List ℕ} (s : SoundFacts t) where
         let range = member-range s v r (h .each r m) (member-inside t v r e) in
         countOf-one (isMember t v) rs r r′ (h .once v (range .0) (range .1)) m m′ e e′
 
-    pub first-apart : (r r′ : Run) → Mem r rs → Mem r′ rs → r .first ≡ r′ .first → r ≡ r′
-    first-apart r r′ m m′ e =
-        runs-apart (r .first) r r′ m m′ (first-member s r (h .each r m)) (rw e (first-member s r′ (h .each r′ m′)))
-
     pub runWith-at : (v : ℕ) (r : Run) → Mem r rs → isMember t v r ≡ true → runWith t rs v ≡ At (r .first)
     runWith-at v r m e = go (runWith t rs v) refl
       where

@@ -146,15 +146,6 @@ module _ {t : List ℕ} (m : List ℕ) (s : SoundFacts t) where
           omega (arith, last-on t m f v e, ih (on .0) (next-le s v low high), next-later s v low high (on .0))
       go false e ih = omega (arith, last-stop t m f v e)
 
-  pub last-high : (f v : ℕ) → 1 ≤ v → v ≤ nodeCount t → runLastFrom f t m v ≤ nodeCount t
-  last-high zero v low high = omega (arith, last-zero t m v)
-  last-high (suc f) v low high = go (goesOn t m v) refl (last-high f (nextAt t v))
-    where
-      go : (b : Bool) → goesOn t m v ≡ b → (1 ≤ nextAt t v → nextAt t v ≤ nodeCount t → runLastFrom f t m (nextAt t v) ≤ nodeCount t)
-          → runLastFrom (suc f) t m v ≤ nodeCount t
-      go true e ih = omega (arith, last-on t m f v e, ih (goes-on t m v e .0) (next-le s v low high))
-      go false e ih = omega (arith, last-stop t m f v e)
-
   -- the brothers after b up to the run's last have mark 2
   pub last-marks : (f b v : ℕ) → 1 ≤ b → b < v → v ≤ nodeCount t → v ≤ runLastFrom f t m b → parentAt t b ≡ parentAt t v
       → markAt m v ≡ 2
@@ -230,10 +221,6 @@ module _ {t m : List ℕ} (s : SoundFacts t) (g : GoodMarks t m) where
   pub runLast-low : (b : ℕ) → 1 ≤ b → b ≤ nodeCount t → b ≤ runLast t m b
   unfolding runLast
   runLast-low b low high = last-low m s (nodeCount t) b low high
-
-  pub runLast-high : (b : ℕ) → 1 ≤ b → b ≤ nodeCount t → runLast t m b ≤ nodeCount t
-  unfolding runLast
-  runLast-high b low high = last-high m s (nodeCount t) b low high
 
   pub runLast-marks : (b v : ℕ) → 1 ≤ b → b < v → v ≤ nodeCount t → v ≤ runLast t m b → parentAt t b ≡ parentAt t v → markAt m v ≡ 2
   unfolding runLast

@@ -2,13 +2,13 @@
 -- node is in one of them where its mark says so, its home is the first node of its page's run, and the pages weigh the same.
 -- Defines Headed, OnPage. Proves runs-hold, runs-count, runs-at, in-one, in-none, home-page, home-run-page, same-page, run-weight,
 -- root-weight, within-heavy. Assumes nothing.
-use Prim.Native.Nat.{ℕ, zero, suc, _-_, _≤_, _<_}
+use Prim.Native.Nat.{ℕ, zero, suc, _≤_, _<_}
 use native.Mathlib.Omega.{arith}
 use mathlib.Core.Bool.{Bool, true, false, not, _&&_, true≢false, false≢true}
 use mathlib.Core.Path.{_≡_, refl, sym, _∙_, ap}
 use mathlib.Core.Logic.{_↔_}
 use mathlib.Core.List.{List}
-use lib.ListN.{length, getD}
+use lib.ListN.{length}
 use lib.Dec.{eqb, leb, ltb}
 use borrow.Author.Tests.{eqb-true, eq-eqb, leb-true, le-leb, ltb-false, le-ltb}
 use Rattle.model.specs.Basics.{pick, countTo}
@@ -22,7 +22,7 @@ use Rattle.theory.specs.Sound.{SoundFacts, both-true}
 use Rattle.theory.specs.Links.{prevAt-less, prevAt-next, parentAt-less, parent-low}
 use Rattle.theory.specs.Pages.{pageOf-begins, pageOf-continues, pageOf-stays, good-node, good-later, good-continues, root-begins}
 use Rattle.theory.specs.Chains.{here, reach-trans, reach-one, same-true}
-use Rattle.theory.specs.Listed.{Mem, every-all, all-every, countTo-low, countTo-only, length-listed, From, listed-from, listed-mem, listed-at, countOf-listed}
+use Rattle.theory.specs.Listed.{Mem, every-all, all-every, countTo-low, countTo-only, length-listed, From, listed-from, listed-mem, countOf-listed}
 use Rattle.theory.specs.RunLists.{run-path, none-runWith, HoldFacts, facts-holds, runWith-at, runWith-zero, home-run, home-up}
 use Rattle.theory.specs.MarkedRuns.{Goes, runAt, runsOf-listed, neither-inRun, ends-runLast, runAt-facts, goes-member, member-goes, goes-inRun, goes-one}
 
@@ -123,14 +123,6 @@ module _ {t : List ℕ} (s : SoundFacts t) (m : List ℕ) (good : badMark t m �
       go u low high true q = rw q (not-member v e u low high q)
       go u low high false q = rw q
 
-  -- in one exactly where the mark says so
-  pub in-one-iff : (v : ℕ) → 1 ≤ v → v ≤ nodeCount t → (inRun m v ≡ true) ↔ (countOf (isMember t v) (runsOf t m) ≡ 1)
-  in-one-iff v low high = (in-one v low high, λ e. go (inRun m v) refl e)
-    where
-      go : (b : Bool) → inRun m v ≡ b → countOf (isMember t v) (runsOf t m) ≡ 1 → inRun m v ≡ true
-      go true q e = q
-      go false q e = absurd (omega (arith, in-none v q))
-
   root-run : runAt t m 1 ≡ rootRun
   root-run =
       run-path {r = runAt t m 1} {r′ = rootRun} refl
@@ -158,13 +150,6 @@ module _ {t : List ℕ} (s : SoundFacts t) (m : List ℕ) (good : badMark t m �
   pub runs-count : length (runsOf t m) ≡ pageCount t m
   unfolding pageCount
   runs-count = ap length (runsOf-listed t m) ∙ length-listed (hasMark m begins) (runAt t m) (nodeCount t)
-
-  -- in the order of the pages
-  pub runs-at : (u : ℕ) (d : Run) → 1 ≤ u → u ≤ nodeCount t → hasMark m begins u ≡ true
-      → getD (runsOf t m) (countTo u (hasMark m begins) - 1) d ≡ runAt t m u
-  runs-at u d low high e =
-      ap (λ l. getD l (countTo u (hasMark m begins) - 1) d) (runsOf-listed t m)
-      ∙ listed-at (hasMark m begins) (runAt t m) (nodeCount t) u d low high e
 
   -- ---- Homes and pages
 
@@ -238,29 +223,6 @@ module _ {t : List ℕ} (s : SoundFacts t) (m : List ℕ) (good : badMark t m �
   pub home-page : (v : ℕ) → 1 ≤ v → v ≤ nodeCount t → OnPage t m v
   home-page v low high = page-upto v v (omega arith) low high
 
-  -- so it is the first node of its page's run
-  pub home-run-page : (v : ℕ) (d : Run) → 1 ≤ v → v ≤ nodeCount t
-      → homeOf t (runsOf t m) v ≡ (getD (runsOf t m) (pageOf t m v - 1) d) .first
-  home-run-page v d low high =
-      let p : OnPage t m v = home-page v low high in
-      p .home
-      ∙ sym (ap (λ r. r .first) (ap (λ k. getD (runsOf t m) (k - 1) d) (p .page) ∙ runs-at (p .first) d (p .low) (omega (arith, p .high)) (p .mark)))
-
-  pub same-page : (u v : ℕ) → 1 ≤ u → u ≤ nodeCount t → 1 ≤ v → v ≤ nodeCount t
-      → (homeOf t (runsOf t m) u ≡ homeOf t (runsOf t m) v) ↔ (pageOf t m u ≡ pageOf t m v)
-  same-page u v low high low′ high′ = (
-    λ e. p .page ∙ ap (λ x. countTo x (hasMark m begins)) (sym (p .home) ∙ e ∙ q .home) ∙ sym (q .page),
-    λ e.
-        p .home ∙ countTo-same (hasMark m begins) (p .first) (q .first) (p .mark) (q .mark) (sym (p .page) ∙ e ∙ q .page)
-        ∙ sym (q .home),
-  )
-    where
-      p : OnPage t m u
-      p = home-page u low high
-
-      q : OnPage t m v
-      q = home-page v low′ high′
-
   -- ---- Weights
 
   weight-first : (u : ℕ) (r : Run) → r .first ≡ u → hasMark m begins u ≡ true
@@ -283,18 +245,6 @@ module _ {t : List ℕ} (s : SoundFacts t) (m : List ℕ) (good : badMark t m �
           ∙ countTo-same (hasMark m begins) (p .first) u (p .mark) e
           (sym (p .page) ∙ eqb-true (pageOf t m v) (countTo u (hasMark m begins)) q)
           ∙ sym same))
-
-  -- run p weighs what page p weighs
-  pub run-weight : (p : ℕ) (d : Run) → 1 ≤ p → p ≤ pageCount t m
-      → runWeight t (runsOf t m) (getD (runsOf t m) (p - 1) d) ≡ pageWeight t m p
-  unfolding pageCount
-  run-weight p d low high =
-      let c : Counted (hasMark m begins) (nodeCount t) p = countTo-reach (hasMark m begins) (nodeCount t) p low high in
-      let r : getD (runsOf t m) (p - 1) d ≡ runAt t m (c .at) =
-      ap (λ k. getD (runsOf t m) (k - 1) d) (sym (c .count)) ∙ runs-at (c .at) d (c .low) (c .high) (c .passed) in
-      ap (runWeight t (runsOf t m)) r
-      ∙ weight-first (c .at) (runAt t m (c .at)) refl (c .passed)
-      ∙ ap (pageWeight t m) (c .count)
 
   pub root-weight : rootWeight t (runsOf t m) ≡ pageWeight t m 1
   root-weight =

@@ -27,12 +27,6 @@ pub record SameRuns (rs rs′ : List Run) : Type 0 where
   pub there : (r : Run) → Mem r rs → Mem r rs′
   pub back : (r : Run) → Mem r rs′ → Mem r rs
 
-pub same-back : {rs rs′ : List Run} → SameRuns rs rs′ → SameRuns rs′ rs
-same-back e = record { there = e .back; back = e .there }
-
-pub same-trans : {rs rs′ rs″ : List Run} → SameRuns rs rs′ → SameRuns rs′ rs″ → SameRuns rs rs″
-same-trans e e′ = record { there = λ r m. e′ .there r (e .there r m); back = λ r m. e .back r (e′ .back r m) }
-
 unfoldable pub sameRun : Run → Run → Bool
 sameRun r r′ = eqb (r .first) (r′ .first) && eqb (r .last) (r′ .last)
 

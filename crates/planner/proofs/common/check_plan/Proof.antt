@@ -10,7 +10,6 @@ use Rattle.model.specs.Basics.{when}
 use Rattle.model.specs.Table.{nodeCount, limitOf}
 use Rattle.model.specs.Refusals.{badMarks, shortScratch, scratchWords, readTree}
 use Rattle.model.specs.declared.Answer.{Answer}
-use Rattle.theory.specs.Sound.{AcceptedFacts}
 use Rattle.theory.specs.Checks.{firstOf-cons, firstOf-none}
 use Rattle.planner.proofs.Planning.{lentChecks, tree-accepted, tree-refuses, tree-goes-on, words-fit}
 use borrow.Author.Needs.{needs}

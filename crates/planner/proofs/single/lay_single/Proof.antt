@@ -1,9 +1,8 @@
 -- `planner::single::lay_single` meets its contract: the nodes after v are settled. Assumes nothing.
 use mathlib.Core.Path.{_≡_, refl, _∙_}
-use Prim.Native.Nat.{ℕ, _≤_}
+use Prim.Native.Nat.{_≤_}
 use native.Mathlib.Omega.{arith}
 use lib.ListN.{length}
-use denote.Ref.{now}
 use Rattle.model.specs.Table.{nodeCount}
 use Rattle.planner.specs.Settled.{Down, start, down-kids, down-plan}
 use Rattle.planner.proofs.Settle.{down-step}
