@@ -10,60 +10,35 @@ use lib.ListN.{length, replicate}
 use lib.Dec.{eqb, ltb}
 use borrow.Author.Tests.{eqb-true, ltb-false, not-false}
 use Rattle.model.specs.Table.{nodeCount, limitOf, Chain, treeOf}
-use Rattle.model.specs.Refusals.{Check, shortTable, badCount, badLimit, badLength, noWeight, badWalk, heavyNode, badMarks, shortScratch, scratchWords, formChecks, treeChecks, planChecks, passes, acceptedTree, accepted, firstOf, readTree, judgePlan, Planned, planned, planBest}
+use Rattle.model.specs.Refusals.{badMarks, shortScratch, scratchWords, treeChecks, planChecks, passes, acceptedTree, accepted, firstOf, readTree, judgePlan, Planned, planned, planBest}
 use Rattle.model.specs.declared.Verdict.the-variants.{NotJudged}
 use Rattle.model.specs.declared.Answer.{Answer}
-use Rattle.theory.specs.Ranges.{pick-true, pick-false, when-nowhere, append-nil}
-use Rattle.theory.specs.Sound.{AcceptedFacts, accepted-facts, passes-first, passes-rest, passes-append, both-true}
-use Rattle.theory.specs.Checks.{HasNumbers, accepted-pass, firstOf-pass, firstOf-stop}
-use Rattle.theory.specs.Promise.{BestPromise, best-promise}
+use Rattle.theory.specs.Ranges.{pick-true, pick-false, when-nowhere}
+use Rattle.theory.specs.Sound.{accepted-facts, passes-first, passes-rest}
+use Rattle.theory.specs.Checks.{lentChecks, plan-numbers, accepted-pass, firstOf-pass, firstOf-stop, firstOf-all}
+use Rattle.theory.specs.Judged.{tree-accepted}
+use Rattle.theory.specs.Promise.{BestPromise, plan-parts, best-promise}
 use Rattle.planner.specs.Outcome.{outcome, PlanReady}
-
--- the checks after those of the tree
-unfoldable pub lentChecks : List ℕ → List ℕ → List ℕ → List Check
-lentChecks t m s = badMarks (nodeCount t) m ∷ shortScratch t s ∷ []
-
-tree-numbers : (t : List ℕ) → HasNumbers (treeChecks t)
-unfolding HasNumbers treeChecks formChecks shortTable badCount badLimit badLength noWeight badWalk heavyNode
-tree-numbers t =
-    (omega arith, (omega arith, (omega arith, (omega arith, (omega arith, (omega arith, (omega arith, tt)))))))
-
-plan-numbers : (t m s : List ℕ) → HasNumbers (planChecks t m s)
-unfolding HasNumbers planChecks treeChecks formChecks shortTable badCount badLimit badLength noWeight badWalk heavyNode badMarks shortScratch
-plan-numbers t m s =
-    (omega arith, (omega arith, (omega arith, (omega arith, (omega arith, (omega arith, (omega arith, (omega arith, (omega arith, tt)))))))))
 
 -- ---- The refusals
 
 module _ (t m s : List ℕ) where
-  tree-passes : readTree t .number ≡ 0 → passes (treeChecks t) ≡ true
-  unfolding readTree
-  tree-passes e = accepted-pass NotJudged (treeChecks t) (tree-numbers t) e
-
-  pub tree-accepted : readTree t .number ≡ 0 → AcceptedFacts t
-  unfolding acceptedTree
-  tree-accepted e = accepted-facts t (tree-passes e)
-
   -- a refusal of the tree stands
   pub tree-refuses : (readTree t .number ≡ 0 → ⊥) → readTree t ≡ firstOf (planChecks t m s) (accepted NotJudged)
-  unfolding readTree planChecks
-  tree-refuses h = sym (firstOf-stop NotJudged (treeChecks t) (badMarks (nodeCount t) m ∷ shortScratch t s ∷ []) (accepted NotJudged) h)
+  unfolding readTree planChecks lentChecks
+  tree-refuses h = sym (firstOf-stop NotJudged (treeChecks t) (lentChecks t m s) (accepted NotJudged) h)
 
   -- else what is lent is checked
   pub tree-goes-on : readTree t .number ≡ 0
       → firstOf (lentChecks t m s) (accepted NotJudged) ≡ firstOf (planChecks t m s) (accepted NotJudged)
-  unfolding planChecks lentChecks
-  tree-goes-on e = sym (firstOf-pass (treeChecks t) (badMarks (nodeCount t) m ∷ shortScratch t s ∷ []) (accepted NotJudged) (tree-passes e))
+  unfolding planChecks lentChecks acceptedTree
+  tree-goes-on e = sym (firstOf-pass (treeChecks t) (lentChecks t m s) (accepted NotJudged) (tree-accepted t e))
 
 -- the number of words fits
 pub words-fit : (n k : ℕ) → n ≤ 1024 → k ≤ 1024 → 4 * n * (k + 3) ≤ 4206592
 words-fit n k a b = mul-le-mul {n₁ = 4 * n} {m₁ = k + 3} {n₂ = 4096} {m₂ = 1027} (omega arith) (omega arith)
 
 -- ---- The answer of the checks, and the outcome
-
-passes-none : (cs : List Check) (a : Answer) → passes cs ≡ true → firstOf cs a ≡ a
-unfolding firstOf
-passes-none cs a e = ap (λ (ds : List Check). firstOf ds a) (sym (append-nil cs)) ∙ firstOf-pass cs [] a e
 
 module _ (t m s : List ℕ) (r : Answer) (is : r ≡ firstOf (planChecks t m s) (accepted NotJudged)) where
   number-is : r .number ≡ firstOf (planChecks t m s) (accepted NotJudged) .number
@@ -76,16 +51,14 @@ module _ (t m s : List ℕ) (r : Answer) (is : r ≡ firstOf (planChecks t m s) 
   plan-fails h = go (passes (planChecks t m s)) refl
     where
       go : (b : Bool) → passes (planChecks t m s) ≡ b → passes (planChecks t m s) ≡ false
-      go true e = absurd (h (number-is ∙ ap (λ (a : Answer). a .number) (passes-none (planChecks t m s) (accepted NotJudged) e)))
+      go true e = absurd (h (number-is ∙ ap (λ (a : Answer). a .number) (firstOf-all (planChecks t m s) (accepted NotJudged) e)))
       go false e = e
 
   -- nothing is refused
   pub plan-ready : r .number ≡ 0 → PlanReady t m s
-  unfolding planChecks badMarks shortScratch acceptedTree
+  unfolding lentChecks badMarks shortScratch acceptedTree
   plan-ready e =
-      let both =
-      both-true (passes (treeChecks t)) (passes (badMarks (nodeCount t) m ∷ shortScratch t s ∷ []))
-      (sym (passes-append (treeChecks t) (badMarks (nodeCount t) m ∷ shortScratch t s ∷ [])) ∙ plan-passes e) in
+      let both = plan-parts t m s (plan-passes e) in
       let long = when-nowhere (not (eqb (length m) (nodeCount t))) (nodeCount t) (passes-first (badMarks (nodeCount t) m) (shortScratch t s ∷ []) (both .1)) in
       let words =
       when-nowhere (ltb (length s) (scratchWords (nodeCount t) (limitOf t))) (scratchWords (nodeCount t) (limitOf t))

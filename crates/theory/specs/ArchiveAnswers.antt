@@ -12,12 +12,12 @@ use Rattle.model.specs.Basics.{pick, when, sameList}
 use Rattle.model.specs.Table.{nodeCount, tableBytes}
 use Rattle.model.specs.Plan.{pageCount, verdictOf}
 use Rattle.model.specs.Archive.{archiveOf, archiveBytes, tableIn, marksIn}
-use Rattle.model.specs.Refusals.{Check, shortTable, badCount, badLimit, badLength, noWeight, badWalk, heavyNode, badMarks, markRefused, pageRefused, badOutput, noArchive, formChecks, treeChecks, judgeChecks, writeChecks, readChecks, passes, feasiblePlan, refused, accepted, firstOf, judgePlan, Written, writeArchive, isArchive, readArchive}
+use Rattle.model.specs.Refusals.{Check, badMarks, badOutput, noArchive, judgeChecks, writeChecks, readChecks, passes, feasiblePlan, refused, accepted, firstOf, judgePlan, Written, writeArchive, isArchive, readArchive}
 use Rattle.model.specs.declared.Place.the-variants.{At, Nowhere}
 use Rattle.model.specs.declared.Answer.{Answer}
-use Rattle.theory.specs.Ranges.{pick-true, pick-false, when-true, when-false, atPlace-at, atPlace-nowhere, bool-cases, append-nil}
+use Rattle.theory.specs.Ranges.{pick-true, pick-false, when-true, when-false, atPlace-at, atPlace-nowhere, bool-cases}
 use Rattle.theory.specs.Sound.{passes-cons, passes-append}
-use Rattle.theory.specs.Checks.{HasNumbers, firstOf-pass, firstOf-stop, accepted-pass}
+use Rattle.theory.specs.Checks.{firstOf-pass, firstOf-stop, firstOf-all, accepted-pass, judge-numbers, read-numbers}
 use Rattle.theory.specs.Siblings.{and-true, and-false-left, and-false-right}
 use Rattle.theory.specs.ArchiveWords.{length-archive}
 use Rattle.theory.specs.ArchiveBack.{sameList-true}
@@ -32,10 +32,6 @@ firstOf-next : (c : Check) (cs : List Check) (a : Answer) → c .place ≡ Nowhe
 unfolding firstOf
 firstOf-next c cs a e = atPlace-nowhere (c .place) (refused (c .number)) (firstOf cs a) e
 
-firstOf-nil : (a : Answer) → firstOf [] a ≡ a
-unfolding firstOf
-firstOf-nil a = refl
-
 passes-nil : passes [] ≡ true
 unfolding passes
 passes-nil = refl
@@ -46,11 +42,6 @@ passes-at c cs p e = atPlace-at (c .place) p (λ q. false) (passes cs) e
 
 -- ---- The judge
 
-judge-numbers : (t m : List ℕ) → HasNumbers (judgeChecks t m)
-unfolding HasNumbers judgeChecks treeChecks formChecks shortTable badCount badLimit badLength noWeight badWalk heavyNode badMarks markRefused pageRefused
-judge-numbers t m =
-    (omega arith, (omega arith, (omega arith, (omega arith, (omega arith, (omega arith, (omega arith, (omega arith, (omega arith, (omega arith, tt))))))))))
-
 -- no refusal: a feasible plan
 pub judge-feasible : (t m : List ℕ) → judgePlan t m .number ≡ 0 → feasiblePlan t m ≡ true
 unfolding judgePlan feasiblePlan
@@ -58,10 +49,7 @@ judge-feasible t m e = accepted-pass (verdictOf t m) (judgeChecks t m) (judge-nu
 
 pub feasible-judge : (t m : List ℕ) → feasiblePlan t m ≡ true → judgePlan t m ≡ accepted (verdictOf t m)
 unfolding judgePlan feasiblePlan
-feasible-judge t m e =
-    ap (λ cs. firstOf cs (accepted (verdictOf t m))) (sym (append-nil (judgeChecks t m)))
-    ∙ firstOf-pass (judgeChecks t m) [] (accepted (verdictOf t m)) e
-    ∙ firstOf-nil (accepted (verdictOf t m))
+feasible-judge t m e = firstOf-all (judgeChecks t m) (accepted (verdictOf t m)) e
 
 -- ---- The writer
 
@@ -116,17 +104,13 @@ module _ (t m out : List ℕ) where
     write-done fits =
         let place : when (not (eqb (length out) size)) size ≡ Nowhere =
         when-false (not (eqb (length out) size)) size (ap not (eq-eqb (length out) size fits)) in
-        written-by
-        (feasible-judge t m (judge-feasible t m e)
-        ∙ sym
-        (firstOf-pass (judgeChecks t m) (badOutput size out ∷ []) (accepted (verdictOf t m)) checks-pass
-        ∙ firstOf-next (badOutput size out) [] (accepted (verdictOf t m)) place
-        ∙ firstOf-nil (accepted (verdictOf t m))))
-        (sym
-        (pick-true (passes (writeChecks t m out)) (archiveOf t m) out
-        (passes-append (judgeChecks t m) (badOutput size out ∷ [])
+        let all : passes (writeChecks t m out) ≡ true =
+        passes-append (judgeChecks t m) (badOutput size out ∷ [])
         ∙ and-true (passes (judgeChecks t m)) (passes (badOutput size out ∷ [])) checks-pass
-        (passes-cons (badOutput size out) [] place ∙ passes-nil))))
+        (passes-cons (badOutput size out) [] place ∙ passes-nil) in
+        written-by
+        (feasible-judge t m (judge-feasible t m e) ∙ sym (firstOf-all (writeChecks t m out) (accepted (verdictOf t m)) all))
+        (sym (pick-true (passes (writeChecks t m out)) (archiveOf t m) out all))
 
   -- ---- What the writer's answer tells: it wrote an archive, or none of that length is written
 
@@ -243,23 +227,14 @@ module _ (a t m : List ℕ) where
           passes-cons (noArchive (isArchive a)) (badOutput (tableBytes (nodeCount a)) t ∷ badMarks (nodeCount a) m ∷ []) archive-place
           ∙ passes-cons (badOutput (tableBytes (nodeCount a)) t) (badMarks (nodeCount a) m ∷ []) table-place
           ∙ passes-cons (badMarks (nodeCount a) m) [] place ∙ passes-nil in
-          restored-by
-          (sym
-          (firstOf-next (noArchive (isArchive a)) (badOutput (tableBytes (nodeCount a)) t ∷ badMarks (nodeCount a) m ∷ []) _ archive-place
-          ∙ firstOf-next (badOutput (tableBytes (nodeCount a)) t) (badMarks (nodeCount a) m ∷ []) _ table-place
-          ∙ firstOf-next (badMarks (nodeCount a) m) [] _ place
-          ∙ firstOf-nil _))
+          restored-by (sym (firstOf-all (readChecks a t m) _ all))
           (sym (pick-true (passes (readChecks a t m)) (tableIn a) t all))
           (sym (pick-true (passes (readChecks a t m)) (marksIn a) m all))
-
-  read-numbers : HasNumbers (readChecks a t m)
-  unfolding HasNumbers readChecks noArchive badOutput badMarks
-  read-numbers = (omega arith, (omega arith, (omega arith, tt)))
 
   -- ---- What the reader's answer tells: the table and the marks are the archive's
 
   pub reader-accepts : readArchive a t m .answer .number ≡ 0 → (readArchive a t m .table ≡ tableIn a) × (readArchive a t m .marks ≡ marksIn a)
   unfolding readArchive
   reader-accepts z =
-      let all : passes (readChecks a t m) ≡ true = accepted-pass (verdictOf (tableIn a) (marksIn a)) (readChecks a t m) read-numbers z in
+      let all : passes (readChecks a t m) ≡ true = accepted-pass (verdictOf (tableIn a) (marksIn a)) (readChecks a t m) (read-numbers a t m) z in
       (pick-true (passes (readChecks a t m)) (tableIn a) t all, pick-true (passes (readChecks a t m)) (marksIn a) m all)

@@ -21,7 +21,8 @@ use Rattle.theory.specs.Ranges.{length-listTo, getD-listTo}
 use Rattle.theory.specs.Sound.{AcceptedFacts}
 use Rattle.theory.specs.Pages.{pages-low}
 use Rattle.theory.specs.Feasible.{judged-verdict}
-use Rattle.theory.specs.ArchiveWords.{page-first, length-runsOf, getD-runsOf, archive-pages, archive-page}
+use Rattle.theory.specs.MarkedRuns.{length-runsOf}
+use Rattle.theory.specs.ArchiveWords.{page-first, getD-runsOf, archive-pages, archive-page}
 use Rattle.theory.specs.ArchiveAnswers.{writer-done}
 use Rattle.theory.specs.Lowest.{Lowest, best-judged, best-lowest}
 use Rattle.theory.specs.Promise.{plan-passes, plan-accepted, planned-made}

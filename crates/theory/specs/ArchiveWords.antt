@@ -14,7 +14,8 @@ use Rattle.model.specs.Plan.{begins, hasMark, parentAt, pageCount, pageWeight, 
 use Rattle.model.specs.Runs.{Run, rootRun, runsOf}
 use Rattle.model.specs.Archive.{nextPage, pageRecords, nextOnPage, nodeRecord, archiveOf, archiveBytes, pagesIn, pageFieldIn, nodeFieldIn, parentIn}
 use Rattle.theory.specs.Ranges.{upto-suc, listTo-zero, listTo-suc}
-use Rattle.theory.specs.Chosen.{Ranked, ranked, length-chosen, getD-chosen}
+use Rattle.theory.specs.Chosen.{Ranked, ranked, getD-chosen}
+use Rattle.theory.specs.MarkedRuns.{runAt, length-runsOf}
 use Rattle.theory.specs.Encode.{Bytes, Holds, length-bytesOf, wordAt-bytesOf, holds-all}
 
 -- ---- Records of four words
@@ -133,10 +134,6 @@ module _ (t m : List ℕ) where
       ∙ getD-pageRecords (suc p) rs i f (omega arith) less
       ∙ ap (λ q. getD (pageRow t m q (getD rs i rootRun)) f 0) up
 
-  pub length-runsOf : length (runsOf t m) ≡ pageCount t m
-  unfolding runsOf pageCount
-  length-runsOf = length-chosen (hasMark m begins) (λ v. record { first = v; last = runLast t m v }) (nodeCount t)
-
   -- page q's first node
   abbrev pub Page : ℕ → ℕ → Type 0
   Page q b = Ranked (hasMark m begins) (nodeCount t) q b
@@ -145,10 +142,9 @@ module _ (t m : List ℕ) where
   unfolding pageCount
   page-first q low high = ranked (hasMark m begins) (nodeCount t) q low high
 
-  pub getD-runsOf : (i b : ℕ) → Page (suc i) b → getD (runsOf t m) i rootRun ≡ record { first = b; last = runLast t m b }
+  pub getD-runsOf : (i b : ℕ) → Page (suc i) b → getD (runsOf t m) i rootRun ≡ runAt t m b
   unfolding runsOf
-  getD-runsOf i b r =
-      getD-chosen (hasMark m begins) (λ v. record { first = v; last = runLast t m v }) (nodeCount t) b i rootRun r
+  getD-runsOf i b r = getD-chosen (hasMark m begins) (runAt t m) (nodeCount t) b i rootRun r
 
   -- ---- The archive
 
@@ -160,7 +156,7 @@ module _ (t m : List ℕ) where
   four-nodeRecord v = refl
 
   pages-long : length (pageRecords t m 1 (runsOf t m)) ≡ 4 * pageCount t m
-  pages-long = omega (arith, length-pageRecords 1 (runsOf t m), length-runsOf)
+  pages-long = omega (arith, length-pageRecords 1 (runsOf t m), length-runsOf t m)
 
   pub length-archiveWords : length archiveWords ≡ 3 + 4 * pageCount t m + 4 * nodeCount t
   unfolding archiveWords
@@ -212,7 +208,7 @@ module _ (t m : List ℕ) where
       record { low = r .low; high = r .high; passed = r .passed; rank = r .rank ∙ sym back } in
       archive-word (3 + 4 * (q - 1) + f)
       ∙ page-word q f low high less
-      ∙ getD-pageRecords 1 (runsOf t m) (q - 1) f (omega (arith, length-runsOf)) less
+      ∙ getD-pageRecords 1 (runsOf t m) (q - 1) f (omega (arith, length-runsOf t m)) less
       ∙ ap₂ (λ p x. getD (pageRow t m p x) f 0) back′ (getD-runsOf (q - 1) b rank)
 
   -- word f of node v's record

@@ -20,7 +20,8 @@ use Rattle.theory.specs.Sound.{SoundFacts}
 use Rattle.theory.specs.Shape.{runs, allowedMark, allowed, Weights, joined, weighed}
 use Rattle.theory.specs.Numbered.{Numbered, none, some, numbered-size, numbered-le, sound-tree}
 use Rattle.theory.specs.Links.{next-prev, first-prev, next-parent, first-parent, prevAt-one, parentAt-one}
-use Rattle.theory.specs.Pages.{pageOf-none, pageOf-begins, pageOf-continues, pageOf-stays}
+use Rattle.theory.specs.JudgePages.{pageOf-none}
+use Rattle.theory.specs.Pages.{pageOf-begins, pageOf-continues, pageOf-stays}
 use Rattle.theory.specs.Marks.{weighed-from, allowed-from, allowed-parts}
 
 -- ---- What page x weighs, where the pages of a list are numbered from n + 1

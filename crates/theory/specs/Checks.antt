@@ -1,6 +1,6 @@
 -- Lists of checks, one after the other: what an answer tells of the checks before it.
 -- Defines headChecks, Numbered. Assumes nothing.
-use mathlib.Core.Path.{_≡_, refl, sym, ap₂, _∙_}
+use mathlib.Core.Path.{_≡_, refl, sym, ap, ap₂, _∙_}
 use mathlib.Core.Bool.{true, false, false≢true}
 use mathlib.Core.List.{List, [], _∷_, _++_}
 use Prim.Native.Nat.{ℕ, _≤_}
@@ -8,10 +8,10 @@ use native.Mathlib.Omega.{arith}
 use Rattle.model.specs.Basics.{atPlace}
 use Rattle.model.specs.Table.{maxNodes, nodeCount}
 use borrow.Author.Tests.{ltb-false}
-use Rattle.theory.specs.Ranges.{when-nowhere}
+use Rattle.theory.specs.Ranges.{when-nowhere, append-nil}
 use Rattle.theory.specs.Sound.{passes-first, passes-rest, both-false}
 use lib.Dec.{eqb, ltb}
-use Rattle.model.specs.Refusals.{Check, shortTable, badCount, badLimit, badLength, noWeight, badWalk, heavyNode, formChecks, treeChecks, readTree, passes, refused, accepted, firstOf}
+use Rattle.model.specs.Refusals.{Check, shortTable, badCount, badLimit, badLength, noWeight, badWalk, heavyNode, badMarks, shortScratch, markRefused, pageRefused, badOutput, noArchive, formChecks, treeChecks, planChecks, judgeChecks, readChecks, readTree, passes, refused, accepted, firstOf}
 use Rattle.model.specs.declared.Place.{Place}
 use Rattle.model.specs.declared.Place.the-variants.{At, Nowhere}
 use Rattle.model.specs.declared.Verdict.{Verdict}
@@ -21,6 +21,10 @@ use Rattle.model.specs.declared.Answer.{Answer}
 -- the checks of the head and the length, before any node is looked at
 unfoldable pub headChecks : List ℕ → List Check
 headChecks t = shortTable t ∷ badCount t ∷ badLimit t ∷ badLength t ∷ []
+
+-- the checks of a planner after the tree's: of what is lent
+unfoldable pub lentChecks : List ℕ → List ℕ → List ℕ → List Check
+lentChecks t m s = badMarks (nodeCount t) m ∷ shortScratch t s ∷ []
 
 -- every check of the list has a number, so that 0 is left for acceptance
 unfoldable pub HasNumbers : List Check → Type 0
@@ -63,6 +67,11 @@ module _ (v : Verdict) where
       go (At p) ih h = refl
       go Nowhere ih h = ih h
 
+-- where all checks pass, the answer stands
+pub firstOf-all : (cs : List Check) (a : Answer) → passes cs ≡ true → firstOf cs a ≡ a
+unfolding firstOf
+firstOf-all cs a e = ap (λ (ds : List Check). firstOf ds a) (sym (append-nil cs)) ∙ firstOf-pass cs [] a e
+
 -- one check before others, as a program puts an answer together
 pub firstOf-cons : (c : Check) (cs : List Check) (a : Answer) (p : Place) (rest r : Answer) → r ≡ atPlace p (refused (c .number)) rest
     → p ≡ c .place → rest ≡ firstOf cs a → r ≡ firstOf (c ∷ cs) a
@@ -73,7 +82,36 @@ pub firstOf-none : (a r : Answer) → r ≡ a → r ≡ firstOf [] a
 unfolding firstOf
 firstOf-none a r e = e
 
--- ---- the tree reader's checks: those of the head, and those that look at nodes
+-- ---- Every check of an entry has a number
+
+numbers-append : (cs ds : List Check) → HasNumbers cs → HasNumbers ds → HasNumbers (cs ++ ds)
+unfolding HasNumbers
+numbers-append [] ds h k = k
+numbers-append (c ∷ cs) ds h k = (h .0, numbers-append cs ds (h .1) k)
+
+pub form-numbers : (t : List ℕ) → HasNumbers (formChecks t)
+unfolding HasNumbers formChecks shortTable badCount badLimit badLength noWeight badWalk
+form-numbers t = (omega arith, (omega arith, (omega arith, (omega arith, (omega arith, (omega arith, tt))))))
+
+pub tree-numbers : (t : List ℕ) → HasNumbers (treeChecks t)
+unfolding HasNumbers treeChecks heavyNode
+tree-numbers t = numbers-append (formChecks t) (heavyNode t ∷ []) (form-numbers t) (omega arith, tt)
+
+pub plan-numbers : (t m s : List ℕ) → HasNumbers (planChecks t m s)
+unfolding HasNumbers planChecks lentChecks badMarks shortScratch
+plan-numbers t m s = numbers-append (treeChecks t) (lentChecks t m s) (tree-numbers t) (omega arith, (omega arith, tt))
+
+pub judge-numbers : (t m : List ℕ) → HasNumbers (judgeChecks t m)
+unfolding HasNumbers judgeChecks badMarks markRefused pageRefused
+judge-numbers t m =
+    numbers-append (treeChecks t) (badMarks (nodeCount t) m ∷ markRefused t m ∷ pageRefused t m ∷ []) (tree-numbers t)
+    (omega arith, (omega arith, (omega arith, tt)))
+
+pub read-numbers : (a t m : List ℕ) → HasNumbers (readChecks a t m)
+unfolding HasNumbers readChecks noArchive badOutput badMarks
+read-numbers a t m = (omega arith, (omega arith, (omega arith, tt)))
+
+-- ---- The tree reader's checks: those of the head, and those that look at nodes
 
 unfoldable pub nodeChecks : List ℕ → List Check
 nodeChecks t = noWeight t ∷ badWalk t ∷ heavyNode t ∷ []

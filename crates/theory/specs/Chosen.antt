@@ -9,11 +9,13 @@ use mathlib.Core.Logic.{_⊎_, inl, inr}
 use mathlib.Core.List.{List, [], _∷_, _++_}
 use lib.ListN.{length, getD, length-append, List·getD-append}
 use lib.Seq.{getD-append-seam}
+use lib.Dec.{leb}
+use borrow.Author.Tests.{leb-true, leb-false}
 use Rattle.model.specs.Basics.{pick, countTo, listTo}
-use Rattle.theory.specs.Ranges.{pick-true, pick-false, upto-suc, countTo-zero, countTo-suc, countTo-yes, countTo-no, listTo-zero, listTo-suc, append-nil}
+use Rattle.theory.specs.Ranges.{Upto, pick-true, pick-false, upto-suc, countTo-zero, countTo-suc, countTo-yes, countTo-no, listTo-zero, listTo-suc, append-nil}
 
 module _ (p : ℕ → Bool) where
-  pub countTo-step : (n : ℕ) → countTo n p ≤ countTo (suc n) p
+  countTo-step : (n : ℕ) → countTo n p ≤ countTo (suc n) p
   countTo-step n = omega (arith, countTo-suc n p)
 
   pub countTo-mono : (m n : ℕ) → m ≤ n → countTo m p ≤ countTo n p
@@ -39,7 +41,7 @@ module _ (p : ℕ → Bool) where
     pub passed : p v ≡ true
     pub rank : countTo v p ≡ q
 
-  pub ranked-more : {n q v : ℕ} → Ranked n q v → Ranked (suc n) q v
+  ranked-more : {n q v : ℕ} → Ranked n q v → Ranked (suc n) q v
   ranked-more r = record { low = r .low; high = omega (arith, r .high); passed = r .passed; rank = r .rank }
 
   pub ranked : (n q : ℕ) → 1 ≤ q → q ≤ countTo n p → (v : ℕ) × Ranked n q v
@@ -56,32 +58,42 @@ module _ (p : ℕ → Bool) where
       go true e ih = last e (upto-suc (countTo n p) q (omega (arith, countTo-yes n p e))) ih
       go false e ih = let r = ih (omega (arith, countTo-no n p e)) in (r .0, ranked-more (r .1))
 
+  -- two that pass and count the same are the same
+  pub countTo-same : (u v : ℕ) → p u ≡ true → p v ≡ true → countTo u p ≡ countTo v p → u ≡ v
+  countTo-same u v a b e = go (leb u v) refl (leb v u) refl
+    where
+      go : (x : Bool) → leb u v ≡ x → (y : Bool) → leb v u ≡ y → u ≡ v
+      go true q true q′ = omega (arith, leb-true u v q, leb-true v u q′)
+      go true q false q′ =
+          let h : u < v = leb-false v u q′ in absurd (omega (arith, countTo-pass v (omega arith) b u h))
+      go false q y q′ = let h : v < u = leb-false u v q in absurd (omega (arith, countTo-pass u (omega arith) a v h))
+
   -- there is one of each rank
   pub ranked-one : {n q u v : ℕ} → Ranked n q u → Ranked n q v → u ≡ v
-  ranked-one {n} {q} {u} {v} r s = go (upto-cases u v)
+  ranked-one {n} {q} {u} {v} r s = countTo-same u v (r .passed) (s .passed) (r .rank ∙ sym (s .rank))
+
+  -- the only one that passes
+  pub countTo-only : (n v : ℕ) → 1 ≤ v → v ≤ n → p v ≡ true → Upto n (λ u. p u ≡ true → u ≡ v) → countTo n p ≡ 1
+  countTo-only n v low high e only = go (leb (countTo n p) 1) refl
     where
-      upto-cases : (a b : ℕ) → (a < b) ⊎ (b ≤ a)
-      upto-cases a zero = inr (omega arith)
-      upto-cases zero (suc b) = inl (omega arith)
-      upto-cases (suc a) (suc b) = more (upto-cases a b)
-        where
-          more : (a < b) ⊎ (b ≤ a) → (suc a < suc b) ⊎ (suc b ≤ suc a)
-          more (inl h) = inl (omega arith)
-          more (inr h) = inr (omega arith)
-
-      last : (v < u) ⊎ (u ≤ v) → v ≤ u → u ≡ v
-      last (inl h) k = absurd (omega (arith, countTo-pass u (r .low) (r .passed) v h, r .rank, s .rank))
-      last (inr h) k = omega arith
-
-      go : (u < v) ⊎ (v ≤ u) → u ≡ v
-      go (inl h) = absurd (omega (arith, countTo-pass v (s .low) (s .passed) u h, r .rank, s .rank))
-      go (inr h) = last (upto-cases v u) h
+      go : (b : Bool) → leb (countTo n p) 1 ≡ b → countTo n p ≡ 1
+      go true q = omega (arith, leb-true (countTo n p) 1 q, countTo-some n v low high e)
+      go false q =
+          let more : 1 < countTo n p = leb-false (countTo n p) 1 q in
+          let a = ranked n 1 (omega arith) (omega arith) in
+          let b = ranked n 2 (omega arith) (omega arith) in
+          let same : a .0 ≡ b .0 =
+          only (a .0) (a .1 .low) (a .1 .high) (a .1 .passed) ∙ sym (only (b .0) (b .1 .low) (b .1 .high) (b .1 .passed)) in
+          absurd (omega (arith, a .1 .rank, b .1 .rank, ap (λ u. countTo u p) same))
 
 -- ---- The list of what is made of each that passes
 
 module _ {ℓ} {X : Type ℓ} (p : ℕ → Bool) (f : ℕ → X) where
   abbrev pub chosen : ℕ → List X
   chosen n = listTo n (λ v. pick (p v) (f v ∷ []) [])
+
+  pub chosen-zero : chosen 0 ≡ []
+  chosen-zero = listTo-zero (λ v. pick (p v) (f v ∷ []) [])
 
   pub chosen-yes : (n : ℕ) → p (suc n) ≡ true → chosen (suc n) ≡ chosen n ++ (f (suc n) ∷ [])
   chosen-yes n e =
@@ -94,7 +106,7 @@ module _ {ℓ} {X : Type ℓ} (p : ℕ → Bool) (f : ℕ → X) where
       ∙ ap (λ (r : List X). chosen n ++ r) (pick-false (p (suc n)) (f (suc n) ∷ []) [] e) ∙ append-nil (chosen n)
 
   pub length-chosen : (n : ℕ) → length (chosen n) ≡ countTo n p
-  length-chosen zero = ap length (listTo-zero (λ v. pick (p v) (f v ∷ []) [])) ∙ sym (countTo-zero p)
+  length-chosen zero = ap length chosen-zero ∙ sym (countTo-zero p)
   length-chosen (suc n) = go (p (suc n)) refl (length-chosen n)
     where
       go : (b : Bool) → p (suc n) ≡ b → length (chosen n) ≡ countTo n p → length (chosen (suc n)) ≡ countTo (suc n) p

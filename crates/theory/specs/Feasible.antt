@@ -13,13 +13,12 @@ use lib.Dec.{eqb, ltb}
 use borrow.Author.Tests.{eqb-true, eq-eqb, le-ltb, ltb-false, not-false}
 use Rattle.model.specs.Table.{nodeCount, limitOf, treeOf}
 use Rattle.model.specs.Plan.{markAt, pageCount, pageWeight, badMark, heavyPage, verdictOf}
-use Rattle.model.specs.Refusals.{Check, passes, treeChecks, badMarks, markRefused, pageRefused, judgeChecks, acceptedTree, feasiblePlan, accepted, firstOf, judgePlan}
+use Rattle.model.specs.Refusals.{passes, treeChecks, badMarks, markRefused, pageRefused, judgeChecks, acceptedTree, feasiblePlan, accepted, judgePlan}
 use Rattle.model.specs.declared.Place.the-variants.{Nowhere}
 use Rattle.model.specs.declared.Verdict.the-variants.{Feasible}
-use Rattle.model.specs.declared.Answer.{Answer}
-use Rattle.theory.specs.Ranges.{Upto, when-false, when-nowhere, atPlace-nowhere, firstTo-none, firstTo-nowhere, append-nil}
+use Rattle.theory.specs.Ranges.{Upto, when-false, when-nowhere, atPlace-nowhere, firstTo-none, firstTo-nowhere}
 use Rattle.theory.specs.Sound.{SoundFacts, AcceptedFacts, accepted-facts, facts-accepted, both-true, passes-first, passes-rest, passes-cons, passes-append}
-use Rattle.theory.specs.Checks.{firstOf-pass}
+use Rattle.theory.specs.Checks.{firstOf-all}
 use Rattle.theory.specs.Shape.{allowed, weighed, AllWithin}
 use Rattle.theory.specs.Numbered.{tree-size}
 use Rattle.theory.specs.Laid.{FeasibleShape}
@@ -90,11 +89,6 @@ judged-feasible {t} {m} j =
   where
     tree : passes (treeChecks t) ≡ true
     tree = facts-accepted t (j .tree)
-
--- where all checks pass, the answer stands
-pub firstOf-all : (cs : List Check) (a : Answer) → passes cs ≡ true → firstOf cs a ≡ a
-unfolding firstOf
-firstOf-all cs a e = ap (λ l. firstOf l a) (sym (append-nil cs)) ∙ firstOf-pass cs [] a e
 
 pub judged-verdict : {t m : List ℕ} → Judged t m → verdictOf t m ≡ Feasible (pageCount t m) (pageWeight t m 1)
 unfolding verdictOf

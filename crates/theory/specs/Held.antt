@@ -20,14 +20,15 @@ use Rattle.model.specs.declared.Place.the-variants.{At, Nowhere}
 use Rattle.model.specs.declared.Verdict.{Verdict}
 use Rattle.model.specs.declared.Verdict.the-variants.{NotJudged}
 use Rattle.theory.specs.Ranges.{Upto, pick-true, pick-false, atPlace-at, atPlace-nowhere, sumTo-cong, countTo-le, countTo-all, firstTo-none}
-use Rattle.theory.specs.Sums.{sumTo-only}
+use Rattle.theory.specs.Sums.{sumTo-only, sumTo-one}
 use Rattle.theory.specs.Sound.{SoundFacts, sound-facts, accepted-facts, facts-accepted, heavy-none, both-true}
-use Rattle.theory.specs.Checks.{HasNumbers, firstOf-pass, accepted-pass, firstOf-stop}
+use Rattle.theory.specs.Checks.{form-numbers, firstOf-pass, accepted-pass, firstOf-stop}
 use Rattle.theory.specs.Pages.{bad-none, good-first, good-later, pageOf-begins}
-use Rattle.theory.specs.Listed.{every-all, sumTo-one}
+use Rattle.theory.specs.Listed.{every-all}
 use Rattle.theory.specs.RunLists.{HoldFacts, holds-facts, home-first}
+use Rattle.theory.specs.MarkedRuns.{length-runsOf}
 use Rattle.theory.specs.SameRuns.{SameRuns, sameRun, same-home, same-weight, same-root, same-limit, same-length, same-times}
-use Rattle.theory.specs.RunsOfPlan.{runs-facts, runs-hold, runs-count, root-weight, within-heavy}
+use Rattle.theory.specs.RunsOfPlan.{runs-facts, runs-hold, root-weight, within-heavy}
 use Rattle.theory.specs.PlanOfRuns.{marksOf, marks-length, marks-good, runs-of-marks, one-plan}
 
 -- ---- The runs of a plan
@@ -40,10 +41,10 @@ pub record PlanRuns (t m : List ℕ) : Type 0 where
   pub limit : (withinLimit t (runsOf t m) ≡ true) ↔ (heavyPage t m ≡ Nowhere)
 
 pub plan-runs : {t : List ℕ} → SoundFacts t → (m : List ℕ) → badMark t m ≡ Nowhere → PlanRuns t m
-plan-runs s m good =
+plan-runs {t} s m good =
     record {
       held = runs-hold s m good;
-      count = runs-count s m good;
+      count = length-runsOf t m;
       root = root-weight s m good;
       limit = within-heavy s m good;
     }
@@ -74,7 +75,7 @@ runs-plan {t} s rs e =
       runs = same;
       times = same-times s (runsOf t m) rs (runs-facts s m good) h same;
       only = λ m′ long′ good′ same′. one-plan s m′ good′ rs long′ same′;
-      count = sym (runs-count s m good) ∙ same-length s (runsOf t m) rs (runs-facts s m good) h same;
+      count = sym (length-runsOf t m) ∙ same-length s (runsOf t m) rs (runs-facts s m good) h same;
       home = same-home s (runsOf t m) rs (runs-facts s m good) same;
       weight = same-weight s (runsOf t m) rs (runs-facts s m good) same;
       root = sym (root-weight s m good) ∙ same-root s (runsOf t m) rs (runs-facts s m good) same;
@@ -218,10 +219,6 @@ firstOf-numbers k v (c ∷ cs) n = go (c .place) (firstOf-numbers k v cs (n .1))
         → (atPlace o (refused (c .number)) (firstOf cs (accepted v))) .number ≤ k
     go (At p) ih = n .0
     go Nowhere ih = ih
-
-form-numbers : (t : List ℕ) → HasNumbers (formChecks t)
-unfolding HasNumbers formChecks shortTable badCount badLimit badLength noWeight badWalk
-form-numbers t = (omega arith, (omega arith, (omega arith, (omega arith, (omega arith, (omega arith, tt))))))
 
 form-to-six : (t : List ℕ) → NumbersTo 6 (formChecks t)
 unfolding NumbersTo formChecks shortTable badCount badLimit badLength noWeight badWalk

@@ -9,10 +9,10 @@ use lib.Dec.{eqb}
 use borrow.Author.Tests.{eqb-true, eqb-false}
 use Rattle.model.specs.Basics.{pick, sumTo, countTo}
 use Rattle.model.specs.Table.{nodeCount, firstAt}
-use Rattle.model.specs.Plan.{prevAt, parentFrom, parentAt, hasMark, begins, continues, pageFrom, pageOf}
-use Rattle.theory.specs.Ranges.{Upto, upto-less, upto-last, pick-true, pick-false, sumTo-zero, sumTo-suc, countTo-zero, countTo-le, lastTo-zero}
+use Rattle.model.specs.Plan.{prevAt, parentAt, hasMark, begins, continues, pageFrom, pageOf}
+use Rattle.theory.specs.Ranges.{Upto, upto-less, upto-last, pick-true, pick-false, pick-both, sumTo-zero, sumTo-suc, countTo-zero, countTo-le}
 use Rattle.theory.specs.Sound.{SoundFacts}
-use Rattle.theory.specs.Links.{first-step, prevAt-less, parentAt-one, parentAt-less, parentAt-later, parent-low, parent-first}
+use Rattle.theory.specs.Links.{first-step, prevAt-none, prevAt-less, parentAt-none, parentAt-one, parentAt-less, parentAt-later, parent-low, parent-first}
 
 -- ---- The step back
 
@@ -20,30 +20,12 @@ use Rattle.theory.specs.Links.{first-step, prevAt-less, parentAt-one, pa
 abbrev pub stepBack : List ℕ → List ℕ → ℕ → ℕ
 stepBack t m v = pick (hasMark m continues v) (prevAt t v) (parentAt t v)
 
-pub prevAt-none : (t : List ℕ) → prevAt t 0 ≡ 0
-unfolding prevAt
-prevAt-none t = lastTo-zero _
-
-pub parentAt-none : (t : List ℕ) → parentAt t 0 ≡ 0
-unfolding parentAt parentFrom
-parentAt-none t = refl
-
-pick-same {ℓ} : {X : Type ℓ} (b : Bool) (x y z : X) → x ≡ z → y ≡ z → pick b x y ≡ z
-unfolding pick
-pick-same true x y z p q = p
-pick-same false x y z p q = q
-
-pick-less : (b : Bool) (x y z : ℕ) → x < z → y < z → pick b x y < z
-unfolding pick
-pick-less true x y z p q = p
-pick-less false x y z p q = q
-
 back-none : (t m : List ℕ) → stepBack t m 0 ≡ 0
-back-none t m = pick-same (hasMark m continues 0) (prevAt t 0) (parentAt t 0) 0 (prevAt-none t) (parentAt-none t)
+back-none t m = pick-both (λ u. u ≡ 0) (hasMark m continues 0) (prevAt t 0) (parentAt t 0) (prevAt-none t) (parentAt-none t)
 
 pub back-less : (t m : List ℕ) (v : ℕ) → 1 ≤ v → stepBack t m v < v
 back-less t m v low =
-    pick-less (hasMark m continues v) (prevAt t v) (parentAt t v) v (prevAt-less t v low) (parentAt-less t v low)
+    pick-both (λ u. u < v) (hasMark m continues v) (prevAt t v) (parentAt t v) (prevAt-less t v low) (parentAt-less t v low)
 
 -- ---- Pages
 
@@ -56,8 +38,8 @@ pageFrom-none : (f : ℕ) (t m : List ℕ) → pageFrom f t m 0 ≡ 0
 unfolding pageFrom
 pageFrom-none zero t m = refl
 pageFrom-none (suc f) t m =
-    pick-same (hasMark m begins 0) (countTo 0 (hasMark m begins)) (pageFrom f t m (stepBack t m 0)) 0 (countTo-zero (hasMark m begins))
-    (ap (pageFrom f t m) (back-none t m) ∙ pageFrom-none f t m)
+    pick-both (λ p. p ≡ 0) (hasMark m begins 0) (countTo 0 (hasMark m begins)) (pageFrom f t m (stepBack t m 0))
+    (countTo-zero (hasMark m begins)) (ap (pageFrom f t m) (back-none t m) ∙ pageFrom-none f t m)
 
 -- the page is found with v steps or more
 pageFrom-enough : (f : ℕ) (t m : List ℕ) (v g : ℕ) → v ≤ f → v ≤ g → pageFrom f t m v ≡ pageFrom g t m v
@@ -91,17 +73,12 @@ pageOf-step t m (suc v) low =
     ∙ ap (pick (hasMark m begins (suc v)) (countTo (suc v) (hasMark m begins)))
     (pageFrom-enough v t m (stepBack t m (suc v)) (stepBack t m (suc v)) (omega arith) (omega arith))
 
-pick-le : (b : Bool) (x y z : ℕ) → x ≤ z → y ≤ z → pick b x y ≤ z
-unfolding pick
-pick-le true x y z p q = p
-pick-le false x y z p q = q
-
 pageFrom-le : (f : ℕ) (t m : List ℕ) (v : ℕ) → pageFrom f t m v ≤ v
 unfolding pageFrom
 pageFrom-le zero t m v = omega arith
 pageFrom-le (suc f) t m zero = omega (arith, pageFrom-none (suc f) t m)
 pageFrom-le (suc f) t m (suc v) =
-    pick-le (hasMark m begins (suc v)) (countTo (suc v) (hasMark m begins)) (pageFrom f t m (stepBack t m (suc v))) (suc v)
+    pick-both (λ p. p ≤ suc v) (hasMark m begins (suc v)) (countTo (suc v) (hasMark m begins)) (pageFrom f t m (stepBack t m (suc v)))
     (countTo-le (suc v) (hasMark m begins))
     (omega (arith, pageFrom-le f t m (stepBack t m (suc v)), back-less t m (suc v) (omega arith)))
 

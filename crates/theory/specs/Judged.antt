@@ -4,14 +4,13 @@ use mathlib.Core.Path.{_≡_, refl, sym, ap, _∙_}
 use mathlib.Core.Bool.{true, not}
 use mathlib.Core.List.{List, [], _∷_}
 use Prim.Native.Nat.{ℕ, _≤_}
-use native.Mathlib.Omega.{arith}
 use lib.Dec.{eqb}
 use lib.ListN.{length}
 use borrow.Author.Tests.{eq-eqb, ne-eqb}
 use Rattle.model.specs.Basics.{when, atPlace}
 use Rattle.model.specs.Table.{nodeCount}
 use Rattle.model.specs.Plan.{badMark, heavyPage, pageCount, pageWeight, verdictOf}
-use Rattle.model.specs.Refusals.{shortTable, badCount, badLimit, badLength, noWeight, badWalk, heavyNode, badMarks, markRefused, pageRefused, formChecks, treeChecks, judgeChecks, acceptedTree, refused, accepted, firstOf, readTree, judgePlan}
+use Rattle.model.specs.Refusals.{badMarks, markRefused, pageRefused, treeChecks, judgeChecks, acceptedTree, refused, accepted, firstOf, readTree, judgePlan}
 use Rattle.model.specs.declared.Place.{Place}
 use Rattle.model.specs.declared.Place.the-variants.{At, Nowhere}
 use Rattle.model.specs.declared.Cause.the-variants.{BadMark, HeavyPage}
@@ -20,14 +19,9 @@ use Rattle.model.specs.declared.Verdict.the-variants.{NotJudged, Feasible, Fail
 use Rattle.model.specs.declared.Answer.{Answer}
 use Rattle.theory.specs.Ranges.{when-true, when-false, atPlace-at, atPlace-nowhere, countTo-le}
 use Rattle.theory.specs.Sound.{AcceptedFacts, accepted-facts}
-use Rattle.theory.specs.Checks.{HasNumbers, firstOf-pass, firstOf-stop, accepted-pass}
+use Rattle.theory.specs.Checks.{tree-numbers, firstOf-pass, firstOf-stop, accepted-pass}
 
 -- ---- The tree
-
-tree-numbers : (t : List ℕ) → HasNumbers (treeChecks t)
-unfolding HasNumbers treeChecks formChecks shortTable badCount badLimit badLength noWeight badWalk heavyNode
-tree-numbers t =
-    (omega arith, (omega arith, (omega arith, (omega arith, (omega arith, (omega arith, (omega arith, tt)))))))
 
 -- a tree that the reader does not refuse is accepted
 pub tree-accepted : (t : List ℕ) → readTree t .number ≡ 0 → acceptedTree t ≡ true

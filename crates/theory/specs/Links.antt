@@ -206,6 +206,15 @@ module _ {t : List ℕ} (s : SoundFacts t) where
 
 -- ---- Siblings and parents of any table
 
+-- there is no node 0
+pub prevAt-none : (t : List ℕ) → prevAt t 0 ≡ 0
+unfolding prevAt
+prevAt-none t = lastTo-zero (λ u. eqb (nextAt t u) 0)
+
+pub parentAt-none : (t : List ℕ) → parentAt t 0 ≡ 0
+unfolding parentAt parentFrom
+parentAt-none t = refl
+
 pub prevAt-one : (t : List ℕ) → prevAt t 1 ≡ 0
 unfolding prevAt
 prevAt-one t = lastTo-zero (λ u. eqb (nextAt t u) 1)

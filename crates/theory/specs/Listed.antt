@@ -1,18 +1,15 @@
--- Lists made of those numbers from 1 to n that pass a test, and counts and tests over lists.
--- Defines listed. Proves which elements it has, its length, where each stands, and what is counted in it. Assumes nothing.
-use Prim.Native.Nat.{ℕ, zero, suc, _+_, _≤_, _<_}
+-- Tests and counts over lists, and over the list of what is made of each of 1 to n that passes a test: which elements it has, and what
+-- is counted in it. Defines Mem, From. Assumes nothing.
+use Prim.Native.Nat.{ℕ, zero, suc, _+_, _≤_}
 use native.Mathlib.Omega.{arith}
 use mathlib.Core.Bool.{Bool, true, false, _&&_, true≢false}
 use mathlib.Core.Path.{_≡_, refl, sym, _∙_, ap}
 use mathlib.Core.Logic.{_⊎_, inl, inr}
 use mathlib.Core.List.{List, [], _∷_, _++_, List·Memᴰ, List·Memᴰ·head, List·Memᴰ·tail, List·Memᴰ·not-nil, List·Memᴰ·append-cases, List·Memᴰ·eq-of-singleton, Memᴰ·append-left, Memᴰ·append-right}
-use lib.ListN.{length, length-append}
-use lib.Dec.{leb}
-use borrow.Author.Tests.{leb-true, leb-false}
-use Rattle.model.specs.Basics.{pick, sumTo, countTo, listTo, every}
+use Rattle.model.specs.Basics.{countTo, every}
 use Rattle.model.specs.Runs.{countOf}
-use Rattle.theory.specs.Ranges.{Upto, upto-suc, pick-true, pick-false, sumTo-suc, countTo-zero, countTo-yes, countTo-no, listTo-zero, listTo-suc, append-nil}
-use Rattle.theory.specs.Sums.{countTo-grows, countTo-passed, Counted, countTo-reach}
+use Rattle.theory.specs.Ranges.{upto-suc, pick-true, pick-false, countTo-zero, countTo-yes, countTo-no}
+use Rattle.theory.specs.Chosen.{chosen, chosen-zero, chosen-yes, chosen-no}
 use Rattle.theory.specs.Sound.{both-true}
 
 abbrev pub Mem {ℓ} : {X : Type ℓ} → X → List X → Type ℓ
@@ -96,71 +93,9 @@ countOf-le {X = X} p q (x ∷ xs) h = go (p x) refl (countOf-le p q xs (λ y m. 
     go true e ih = omega (arith, countOf-yes p x xs e, countOf-yes q x xs (h x (List·Memᴰ·head refl) e))
     go false e ih = omega (arith, countOf-no p x xs e, countOf-more q x xs)
 
--- ---- Counts of numbers
-
-module _ (p : ℕ → Bool) where
-  -- a number that passes counts itself
-  pub countTo-low : (v : ℕ) → 1 ≤ v → p v ≡ true → 1 ≤ countTo v p
-  countTo-low v low e = omega (arith, countTo-passed p 0 v (omega arith) e)
-
-  -- the only one that passes
-  pub countTo-only : (n v : ℕ) → 1 ≤ v → v ≤ n → p v ≡ true → Upto n (λ u. p u ≡ true → u ≡ v) → countTo n p ≡ 1
-  countTo-only n v low high e only = go (leb (countTo n p) 1) refl
-    where
-      least : countTo v p ≤ countTo n p
-      least = countTo-grows p v n high
-
-      go : (b : Bool) → leb (countTo n p) 1 ≡ b → countTo n p ≡ 1
-      go true q = omega (arith, leb-true (countTo n p) 1 q, countTo-low v low e, least)
-      go false q =
-          let more : 1 < countTo n p = leb-false (countTo n p) 1 q in
-          let a : Counted p n 1 = countTo-reach p n 1 (omega arith) (omega arith) in
-          let b : Counted p n 2 = countTo-reach p n 2 (omega arith) (omega arith) in
-          let same : a .at ≡ b .at =
-          only (a .at) (a .low) (a .high) (a .passed) ∙ sym (only (b .at) (b .low) (b .high) (b .passed)) in
-          absurd (omega (arith, a .count, b .count, ap (λ u. countTo u p) same))
-
--- one number of a sum
-pub sumTo-one : (n v : ℕ) (f : ℕ → ℕ) → 1 ≤ v → v ≤ n → f v ≤ sumTo n f
-sumTo-one zero v f low high = absurd (omega arith)
-sumTo-one (suc n) v f low high = go (upto-suc n v high) (sumTo-one n v f low)
-  where
-    go : (v ≤ n) ⊎ (v ≡ suc n) → (v ≤ n → f v ≤ sumTo n f) → f v ≤ sumTo (suc n) f
-    go (inl l) ih = omega (arith, ih l, sumTo-suc n f)
-    go (inr e) ih = omega (arith, sumTo-suc n f, ap f e)
-
--- ---- Those that pass, listed
-
-unfoldable pub listed {ℓ} : {X : Type ℓ} → ℕ → (ℕ → Bool) → (ℕ → X) → List X
-listed n p f = listTo n (λ v. pick (p v) (f v ∷ []) [])
+-- ---- Lists of what is made of each number that passes
 
 module _ {ℓ} {X : Type ℓ} (p : ℕ → Bool) (f : ℕ → X) where
-  pub listed-zero : listed 0 p f ≡ []
-  unfolding listed
-  listed-zero = listTo-zero (λ v. pick (p v) (f v ∷ []) [])
-
-  pub listed-yes : (n : ℕ) → p (suc n) ≡ true → listed (suc n) p f ≡ listed n p f ++ (f (suc n) ∷ [])
-  unfolding listed
-  listed-yes n e =
-      listTo-suc n (λ v. pick (p v) (f v ∷ []) [])
-      ∙ ap (λ l. listed n p f ++ l) (pick-true (p (suc n)) (f (suc n) ∷ []) [] e)
-
-  pub listed-no : (n : ℕ) → p (suc n) ≡ false → listed (suc n) p f ≡ listed n p f
-  unfolding listed
-  listed-no n e =
-      listTo-suc n (λ v. pick (p v) (f v ∷ []) [])
-      ∙ ap (λ l. listed n p f ++ l) (pick-false (p (suc n)) (f (suc n) ∷ []) [] e)
-      ∙ append-nil (listed n p f)
-
-  pub length-listed : (n : ℕ) → length (listed n p f) ≡ countTo n p
-  length-listed zero = ap length listed-zero ∙ sym (countTo-zero p)
-  length-listed (suc n) = go (p (suc n)) refl (length-listed n)
-    where
-      go : (b : Bool) → p (suc n) ≡ b → length (listed n p f) ≡ countTo n p → length (listed (suc n) p f) ≡ countTo (suc n) p
-      go true e ih =
-          omega (arith, ap length (listed-yes n e), length-append (listed n p f) (f (suc n) ∷ []), countTo-yes n p e)
-      go false e ih = ap length (listed-no n e) ∙ ih ∙ sym (countTo-no n p e)
-
   -- what is listed
   pub record From (n : ℕ) (x : X) : Type ℓ where
     pub number : ℕ
@@ -173,43 +108,43 @@ module _ {ℓ} {X : Type ℓ} (p : ℕ → Bool) (f : ℕ → X) where
   from-more n x r =
       record { number = r .number; low = r .low; high = omega (arith, r .high); passed = r .passed; same = r .same }
 
-  pub listed-from : (n : ℕ) (x : X) → Mem x (listed n p f) → From n x
-  listed-from zero x h = absurd (List·Memᴰ·not-nil (rw listed-zero at h))
-  listed-from (suc n) x h = go (p (suc n)) refl (listed-from n x)
+  pub chosen-from : (n : ℕ) (x : X) → Mem x (chosen p f n) → From n x
+  chosen-from zero x h = absurd (List·Memᴰ·not-nil (rw (chosen-zero p f) at h))
+  chosen-from (suc n) x h = go (p (suc n)) refl (chosen-from n x)
     where
-      go : (b : Bool) → p (suc n) ≡ b → (Mem x (listed n p f) → From n x) → From (suc n) x
-      go true e ih = by (List·Memᴰ·append-cases (listed n p f) (rw (listed-yes n e) at h))
+      go : (b : Bool) → p (suc n) ≡ b → (Mem x (chosen p f n) → From n x) → From (suc n) x
+      go true e ih = by (List·Memᴰ·append-cases (chosen p f n) (rw (chosen-yes p f n e) at h))
         where
-          by : Mem x (listed n p f) ⊎ Mem x (f (suc n) ∷ []) → From (suc n) x
+          by : Mem x (chosen p f n) ⊎ Mem x (f (suc n) ∷ []) → From (suc n) x
           by (inl m) = from-more n x (ih m)
           by (inr m) =
               record { number = suc n; low = omega arith; high = omega arith; passed = e; same = List·Memᴰ·eq-of-singleton m }
-      go false e ih = from-more n x (ih (rw (listed-no n e) at h))
+      go false e ih = from-more n x (ih (rw (chosen-no p f n e) at h))
 
-  pub listed-mem : (n v : ℕ) → 1 ≤ v → v ≤ n → p v ≡ true → Mem (f v) (listed n p f)
-  listed-mem zero v low high e = absurd (omega arith)
-  listed-mem (suc n) v low high e = go (upto-suc n v high) (p (suc n)) refl (listed-mem n v low)
+  pub chosen-mem : (n v : ℕ) → 1 ≤ v → v ≤ n → p v ≡ true → Mem (f v) (chosen p f n)
+  chosen-mem zero v low high e = absurd (omega arith)
+  chosen-mem (suc n) v low high e = go (upto-suc n v high) (p (suc n)) refl (chosen-mem n v low)
     where
-      go : (v ≤ n) ⊎ (v ≡ suc n) → (b : Bool) → p (suc n) ≡ b → (v ≤ n → p v ≡ true → Mem (f v) (listed n p f))
-          → Mem (f v) (listed (suc n) p f)
-      go (inl l) true q ih = rw (listed-yes n q) (Memᴰ·append-left (f (suc n) ∷ []) (ih l e))
-      go (inl l) false q ih = rw (listed-no n q) (ih l e)
-      go (inr r) true q ih = rw (listed-yes n q) (Memᴰ·append-right (listed n p f) (List·Memᴰ·head (ap f r)))
+      go : (v ≤ n) ⊎ (v ≡ suc n) → (b : Bool) → p (suc n) ≡ b → (v ≤ n → p v ≡ true → Mem (f v) (chosen p f n))
+          → Mem (f v) (chosen p f (suc n))
+      go (inl l) true q ih = rw (chosen-yes p f n q) (Memᴰ·append-left (f (suc n) ∷ []) (ih l e))
+      go (inl l) false q ih = rw (chosen-no p f n q) (ih l e)
+      go (inr r) true q ih = rw (chosen-yes p f n q) (Memᴰ·append-right (chosen p f n) (List·Memᴰ·head (ap f r)))
       go (inr r) false q ih = absurd (true≢false (sym e ∙ ap p r ∙ q))
 
   -- what is counted in it
-  pub countOf-listed : (q : X → Bool) (n : ℕ) → countOf q (listed n p f) ≡ countTo n (λ v. p v && q (f v))
-  countOf-listed q zero = ap (countOf q) listed-zero ∙ countOf-nil q ∙ sym (countTo-zero (λ v. p v && q (f v)))
-  countOf-listed q (suc n) = go (p (suc n)) refl (q (f (suc n))) refl (countOf-listed q n)
+  pub countOf-chosen : (q : X → Bool) (n : ℕ) → countOf q (chosen p f n) ≡ countTo n (λ v. p v && q (f v))
+  countOf-chosen q zero = ap (countOf q) (chosen-zero p f) ∙ countOf-nil q ∙ sym (countTo-zero (λ v. p v && q (f v)))
+  countOf-chosen q (suc n) = go (p (suc n)) refl (q (f (suc n))) refl (countOf-chosen q n)
     where
-      go : (b : Bool) → p (suc n) ≡ b → (c : Bool) → q (f (suc n)) ≡ c → countOf q (listed n p f) ≡ countTo n (λ v. p v && q (f v))
-          → countOf q (listed (suc n) p f) ≡ countTo (suc n) (λ v. p v && q (f v))
+      go : (b : Bool) → p (suc n) ≡ b → (c : Bool) → q (f (suc n)) ≡ c → countOf q (chosen p f n) ≡ countTo n (λ v. p v && q (f v))
+          → countOf q (chosen p f (suc n)) ≡ countTo (suc n) (λ v. p v && q (f v))
       go true e true e′ ih =
           let yes′ : (p (suc n) && q (f (suc n))) ≡ true = rw (e, e′) in
           omega (
             arith,
-            ap (countOf q) (listed-yes n e),
-            countOf-append q (listed n p f) (f (suc n) ∷ []),
+            ap (countOf q) (chosen-yes p f n e),
+            countOf-append q (chosen p f n) (f (suc n) ∷ []),
             countOf-yes q (f (suc n)) [] e′,
             countOf-nil q,
             countTo-yes n (λ v. p v && q (f v)) yes′,
@@ -218,12 +153,12 @@ module _ {ℓ} {X : Type ℓ} (p : ℕ → Bool) (f : ℕ → X) where
           let no′ : (p (suc n) && q (f (suc n))) ≡ false = rw (e, e′) in
           omega (
             arith,
-            ap (countOf q) (listed-yes n e),
-            countOf-append q (listed n p f) (f (suc n) ∷ []),
+            ap (countOf q) (chosen-yes p f n e),
+            countOf-append q (chosen p f n) (f (suc n) ∷ []),
             countOf-no q (f (suc n)) [] e′,
             countOf-nil q,
             countTo-no n (λ v. p v && q (f v)) no′,
           )
       go false e c e′ ih =
           let no′ : (p (suc n) && q (f (suc n))) ≡ false = rw e in
-          ap (countOf q) (listed-no n e) ∙ ih ∙ sym (countTo-no n (λ v. p v && q (f v)) no′)
+          ap (countOf q) (chosen-no p f n e) ∙ ih ∙ sym (countTo-no n (λ v. p v && q (f v)) no′)

@@ -7,16 +7,17 @@ use mathlib.Core.Bool.{Bool, true, false, not, _&&_, _||_, true≢false}
 use mathlib.Core.Path.{_≡_, refl, sym, _∙_, ap}
 use mathlib.Core.Logic.{_⊎_, inl, inr}
 use mathlib.Core.List.{List}
+use lib.ListN.{length}
 use lib.Dec.{eqb}
 use borrow.Author.Tests.{eqb-true, eqb-false, ne-eqb, not-true}
 use Rattle.model.specs.Table.{nodeCount, nextAt}
-use Rattle.model.specs.Plan.{begins, continues, markAt, hasMark, inRun, runLastFrom, runLast}
+use Rattle.model.specs.Plan.{begins, continues, markAt, hasMark, inRun, pageCount, runLastFrom, runLast}
 use Rattle.model.specs.Runs.{Run, isMember, runsOf}
 use Rattle.theory.specs.Ranges.{pick-true, pick-false}
 use Rattle.theory.specs.Sound.{SoundFacts, both-true}
 use Rattle.theory.specs.Links.{next-later, next-le}
 use Rattle.theory.specs.Chains.{Reach, here, step, Before, reach-after, reach-last, reach-stop, reach-stop-one, reach-common, reach-between}
-use Rattle.theory.specs.Listed.{listed}
+use Rattle.theory.specs.Chosen.{chosen, length-chosen}
 use Rattle.theory.specs.RunLists.{RunFacts, member-inside, inside-member}
 
 -- ---- The run that goes from a node
@@ -61,9 +62,14 @@ goesOn-no t m v e a p =
 abbrev pub runAt : List ℕ → List ℕ → ℕ → Run
 runAt t m u = record { first = u; last = runLast t m u }
 
-pub runsOf-listed : (t m : List ℕ) → runsOf t m ≡ listed (nodeCount t) (hasMark m begins) (runAt t m)
-unfolding runsOf listed
-runsOf-listed t m = refl
+pub runsOf-chosen : (t m : List ℕ) → runsOf t m ≡ chosen (hasMark m begins) (runAt t m) (nodeCount t)
+unfolding runsOf
+runsOf-chosen t m = refl
+
+-- a run for each page
+pub length-runsOf : (t m : List ℕ) → length (runsOf t m) ≡ pageCount t m
+unfolding runsOf pageCount
+length-runsOf t m = length-chosen (hasMark m begins) (runAt t m) (nodeCount t)
 
 -- marks of the nodes of a run
 pub inRun-begins : (m : List ℕ) (v : ℕ) → hasMark m begins v ≡ true → inRun m v ≡ true

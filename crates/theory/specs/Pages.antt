@@ -11,105 +11,28 @@ use mathlib.Core.List.{List}
 use lib.Dec.{eqb}
 use borrow.Author.Tests.{eqb-true, eqb-false, eq-eqb, ne-eqb, not-true, not-false}
 use Rattle.model.specs.Basics.{pick, sumTo, countTo}
-use Rattle.model.specs.Table.{nodeCount, weightAt, nextAt}
-use Rattle.model.specs.Plan.{prevAt, parentFrom, parentAt, begins, continues, stays, markAt, hasMark, inRun, goodMark, pageFrom, pageOf, pageCount, pageWeight, badMark}
+use Rattle.model.specs.Table.{nodeCount, weightAt}
+use Rattle.model.specs.Plan.{prevAt, parentAt, begins, continues, stays, markAt, hasMark, inRun, goodMark, pageOf, pageCount, pageWeight, badMark}
 use Rattle.model.specs.declared.Place.the-variants.{Nowhere}
-use Rattle.theory.specs.Ranges.{Upto, pick-true, pick-false, sumTo-cong, countTo-zero, countTo-yes, firstTo-none, firstTo-nowhere, First, lastTo-zero}
-use Rattle.theory.specs.Sums.{sumTo-swap, sumTo-only, countTo-grows, countTo-passed, countTo-same, Counted, countTo-reach}
+use Rattle.theory.specs.Ranges.{Upto, pick-true, pick-false, sumTo-cong, countTo-zero, countTo-yes, firstTo-none, firstTo-nowhere, First}
+use Rattle.theory.specs.Sums.{sumTo-swap, sumTo-only}
+use Rattle.theory.specs.Chosen.{countTo-mono, countTo-pass, countTo-same, ranked}
 use Rattle.theory.specs.Sound.{SoundFacts, both-true}
-use Rattle.theory.specs.Links.{prevAt-less, parentAt-less, parent-low}
+use Rattle.theory.specs.Links.{parent-low}
+use Rattle.theory.specs.JudgePages.{stepBack, back-less, pageOf-step}
 
 -- ---- The page of a node, by its mark
 
-prevAt-none : (t : List ℕ) → prevAt t 0 ≡ 0
-unfolding prevAt
-prevAt-none t = lastTo-zero (λ u. eqb (nextAt t u) 0)
-
-parentAt-none : (t : List ℕ) → parentAt t 0 ≡ 0
-unfolding parentAt parentFrom
-parentAt-none t = refl
-
--- the node whose page a node shares that begins no run
-unfoldable pub sharesWith : List ℕ → List ℕ → ℕ → ℕ
-sharesWith t m v = pick (hasMark m continues v) (prevAt t v) (parentAt t v)
-
-sharesWith-less : (t m : List ℕ) (v : ℕ) → 1 ≤ v → sharesWith t m v < v
-unfolding sharesWith pick
-sharesWith-less t m v low = go (hasMark m continues v)
-  where
-    go : (b : Bool) → pick b (prevAt t v) (parentAt t v) < v
-    go true = prevAt-less t v low
-    go false = parentAt-less t v low
-
-shares-none : (t m : List ℕ) → sharesWith t m 0 ≡ 0
-unfolding sharesWith pick
-shares-none t m = go (hasMark m continues 0)
-  where
-    go : (b : Bool) → pick b (prevAt t 0) (parentAt t 0) ≡ 0
-    go true = prevAt-none t
-    go false = parentAt-none t
-
-pageFrom-begins : (f : ℕ) (t m : List ℕ) (v : ℕ) → hasMark m begins v ≡ true → pageFrom (suc f) t m v ≡ countTo v (hasMark m begins)
-unfolding pageFrom
-pageFrom-begins f t m v e = pick-true (hasMark m begins v) (countTo v (hasMark m begins)) _ e
-
-pageFrom-shares : (f : ℕ) (t m : List ℕ) (v : ℕ) → hasMark m begins v ≡ false → pageFrom (suc f) t m v ≡ pageFrom f t m (sharesWith t m v)
-unfolding pageFrom sharesWith
-pageFrom-shares f t m v e =
-    pick-false (hasMark m begins v) (countTo v (hasMark m begins))
-    (pageFrom f t m (pick (hasMark m continues v) (prevAt t v) (parentAt t v))) e
-
--- there is no node 0, and so no page
-pageFrom-none : (f : ℕ) (t m : List ℕ) → pageFrom f t m 0 ≡ 0
-unfolding pageFrom
-pageFrom-none zero t m = refl
-pageFrom-none (suc f) t m = go (hasMark m begins 0) refl (pageFrom-none f t m)
-  where
-    go : (b : Bool) → hasMark m begins 0 ≡ b → pageFrom f t m 0 ≡ 0 → pageFrom (suc f) t m 0 ≡ 0
-    go true e ih = pageFrom-begins f t m 0 e ∙ countTo-zero (hasMark m begins)
-    go false e ih = pageFrom-shares f t m 0 e ∙ ap (pageFrom f t m) (shares-none t m) ∙ ih
-
--- the page is found with v steps or more
-pageFrom-enough : (f : ℕ) (t m : List ℕ) (v g : ℕ) → v ≤ f → v ≤ g → pageFrom f t m v ≡ pageFrom g t m v
-pageFrom-enough zero t m v g a b =
-    let z : v ≡ 0 = omega arith in rw z (pageFrom-none 0 t m ∙ sym (pageFrom-none g t m))
-pageFrom-enough (suc f) t m v zero a b =
-    let z : v ≡ 0 = omega arith in rw z (pageFrom-none (suc f) t m ∙ sym (pageFrom-none 0 t m))
-pageFrom-enough (suc f) t m zero (suc g) a b = pageFrom-none (suc f) t m ∙ sym (pageFrom-none (suc g) t m)
-pageFrom-enough (suc f) t m (suc v) (suc g) a b =
-    go (hasMark m begins (suc v)) refl (pageFrom-enough f t m (sharesWith t m (suc v)) g)
-  where
-    less : sharesWith t m (suc v) < suc v
-    less = sharesWith-less t m (suc v) (omega arith)
-
-    go : (x : Bool) → hasMark m begins (suc v) ≡ x
-        → (sharesWith t m (suc v) ≤ f → sharesWith t m (suc v) ≤ g
-        → pageFrom f t m (sharesWith t m (suc v)) ≡ pageFrom g t m (sharesWith t m (suc v)))
-        → pageFrom (suc f) t m (suc v) ≡ pageFrom (suc g) t m (suc v)
-    go true e ih = pageFrom-begins f t m (suc v) e ∙ sym (pageFrom-begins g t m (suc v) e)
-    go false e ih =
-        pageFrom-shares f t m (suc v) e ∙ ih (omega (arith, less)) (omega (arith, less)) ∙ sym (pageFrom-shares g t m (suc v) e)
-
-pub pageOf-none : (t m : List ℕ) → pageOf t m 0 ≡ 0
-unfolding pageOf
-pageOf-none t m = pageFrom-none 0 t m
-
 pub pageOf-begins : (t m : List ℕ) (v : ℕ) → 1 ≤ v → hasMark m begins v ≡ true → pageOf t m v ≡ countTo v (hasMark m begins)
-unfolding pageOf
-pageOf-begins t m zero low e = absurd (omega arith)
-pageOf-begins t m (suc v) low e = pageFrom-begins v t m (suc v) e
+pageOf-begins t m v low e =
+    pageOf-step t m v low ∙ pick-true (hasMark m begins v) (countTo v (hasMark m begins)) (pageOf t m (stepBack t m v)) e
 
-pub pageOf-shares : (t m : List ℕ) (v : ℕ) → 1 ≤ v → hasMark m begins v ≡ false → pageOf t m v ≡ pageOf t m (sharesWith t m v)
-unfolding pageOf
-pageOf-shares t m zero low e = absurd (omega arith)
-pageOf-shares t m (suc v) low e =
-    pageFrom-shares v t m (suc v) e
-    ∙ pageFrom-enough v t m (sharesWith t m (suc v)) (sharesWith t m (suc v))
-    (omega (arith, sharesWith-less t m (suc v) low))
-    (omega arith)
+-- a node that begins no run is on the page of the node one step back
+pageOf-shares : (t m : List ℕ) (v : ℕ) → 1 ≤ v → hasMark m begins v ≡ false → pageOf t m v ≡ pageOf t m (stepBack t m v)
+pageOf-shares t m v low e =
+    pageOf-step t m v low ∙ pick-false (hasMark m begins v) (countTo v (hasMark m begins)) (pageOf t m (stepBack t m v)) e
 
 pub pageOf-continues : (t m : List ℕ) (v : ℕ) → 1 ≤ v → hasMark m continues v ≡ true → pageOf t m v ≡ pageOf t m (prevAt t v)
-unfolding sharesWith
 pageOf-continues t m v low e =
     let two : markAt m v ≡ 2 = eqb-true (markAt m v) 2 e in
     pageOf-shares t m v low (ne-eqb (markAt m v) 1 (λ z. omega arith))
@@ -117,7 +40,6 @@ pageOf-continues t m v low e =
 
 pub pageOf-stays : (t m : List ℕ) (v : ℕ) → 1 ≤ v → hasMark m begins v ≡ false → hasMark m continues v ≡ false
     → pageOf t m v ≡ pageOf t m (parentAt t v)
-unfolding sharesWith
 pageOf-stays t m v low e e′ =
     pageOf-shares t m v low e ∙ ap (pageOf t m) (pick-false (hasMark m continues v) (prevAt t v) (parentAt t v) e′)
 
@@ -174,8 +96,7 @@ module _ {t : List ℕ} (s : SoundFacts t) (m : List ℕ) (good : badMark t m �
   root-begins = sym (good-first t m) ∙ good-node 1 (omega arith) (s .count-low)
 
   -- a node that begins no run shares the page of an earlier node
-  shares-low : (v : ℕ) → 1 ≤ v → v ≤ nodeCount t → hasMark m begins v ≡ false → 1 ≤ sharesWith t m v
-  unfolding sharesWith
+  shares-low : (v : ℕ) → 1 ≤ v → v ≤ nodeCount t → hasMark m begins v ≡ false → 1 ≤ stepBack t m v
   shares-low v low high e = go (hasMark m continues v) refl
     where
       other : v ≡ 1 → ⊥
@@ -194,24 +115,24 @@ module _ {t : List ℕ} (s : SoundFacts t) (m : List ℕ) (good : badMark t m �
 
   page-upto : (f v : ℕ) → v ≤ f → 1 ≤ v → v ≤ nodeCount t → (1 ≤ pageOf t m v) × (pageOf t m v ≤ countTo v (hasMark m begins))
   page-upto zero v bound low high = absurd (omega arith)
-  page-upto (suc f) v bound low high = go (hasMark m begins v) refl (page-upto f (sharesWith t m v))
+  page-upto (suc f) v bound low high = go (hasMark m begins v) refl (page-upto f (stepBack t m v))
     where
       u : ℕ
-      u = sharesWith t m v
+      u = stepBack t m v
 
       go : (b : Bool) → hasMark m begins v ≡ b
           → (u ≤ f → 1 ≤ u → u ≤ nodeCount t → (1 ≤ pageOf t m u) × (pageOf t m u ≤ countTo u (hasMark m begins)))
           → (1 ≤ pageOf t m v) × (pageOf t m v ≤ countTo v (hasMark m begins))
       go true e ih =
           let same : pageOf t m v ≡ countTo v (hasMark m begins) = pageOf-begins t m v low e in
-          let more : countTo 0 (hasMark m begins) < countTo v (hasMark m begins) = countTo-passed (hasMark m begins) 0 v low e in
+          let more : countTo 0 (hasMark m begins) < countTo v (hasMark m begins) = countTo-pass (hasMark m begins) v low e 0 low in
           (omega arith, omega arith)
       go false e ih =
           let same : pageOf t m v ≡ pageOf t m u = pageOf-shares t m v low e in
-          let less : u < v = sharesWith-less t m v low in
+          let less : u < v = back-less t m v low in
           let both = ih (omega arith) (shares-low v low high e) (omega arith) in
           let more : countTo u (hasMark m begins) ≤ countTo v (hasMark m begins) =
-          countTo-grows (hasMark m begins) u v (omega arith) in
+          countTo-mono (hasMark m begins) u v (omega arith) in
           (omega (arith, both .0), omega (arith, both .1))
 
   -- a page has a number, and no more than there are pages begun so far
@@ -223,7 +144,7 @@ module _ {t : List ℕ} (s : SoundFacts t) (m : List ℕ) (good : badMark t m �
 
   pub page-high : (v : ℕ) → 1 ≤ v → v ≤ nodeCount t → pageOf t m v ≤ pageCount t m
   unfolding pageCount
-  page-high v low high = omega (arith, page-early v low high, countTo-grows (hasMark m begins) v (nodeCount t) high)
+  page-high v low high = omega (arith, page-early v low high, countTo-mono (hasMark m begins) v (nodeCount t) high)
 
   pub page-root : pageOf t m 1 ≡ 1
   page-root =
@@ -249,7 +170,7 @@ module _ {t : List ℕ} (s : SoundFacts t) (m : List ℕ) (good : badMark t m �
               arith,
               pageOf-begins t m v low e,
               page-early u l (omega arith),
-              countTo-passed (hasMark m begins) u v h e,
+              countTo-pass (hasMark m begins) v low e u h,
             ));
       }
 
@@ -257,13 +178,14 @@ module _ {t : List ℕ} (s : SoundFacts t) (m : List ℕ) (good : badMark t m �
   pub page-begun : (p : ℕ) → 1 ≤ p → p ≤ pageCount t m → Begun t m p
   unfolding pageCount
   page-begun p low high =
-      let c : Counted (hasMark m begins) (nodeCount t) p = countTo-reach (hasMark m begins) (nodeCount t) p low high in
+      let c = ranked (hasMark m begins) (nodeCount t) p low high in
+      let r = c .1 in
       record {
-        at = c .at;
-        low = c .low;
-        high = c .high;
-        mark = c .passed;
-        page = pageOf-begins t m (c .at) (c .low) (c .passed) ∙ c .count;
+        at = c .0;
+        low = r .low;
+        high = r .high;
+        mark = r .passed;
+        page = pageOf-begins t m (c .0) (r .low) (r .passed) ∙ r .rank;
       }
 
   pub page-one : (u v : ℕ) → 1 ≤ u → 1 ≤ v → hasMark m begins u ≡ true → hasMark m begins v ≡ true → pageOf t m u ≡ pageOf t m v

@@ -4,22 +4,22 @@
 use Prim.Native.Nat.{ℕ}
 use mathlib.Core.Path.{_≡_, sym, ap, _∙_}
 use mathlib.Core.Bool.{true, false, true≢false}
-use mathlib.Core.List.{List, [], _∷_, _++_}
+use mathlib.Core.List.{List, _++_}
 use mathlib.Core.Logic.{_↔_, ⊎-elim}
 use native.Mathlib.Omega.{arith}
 use Rattle.model.specs.Basics.{atPlace}
 use Rattle.model.specs.Table.{Chain, nodeCount, limitOf, treeOf}
 use Rattle.model.specs.Runs.{runsOf}
 use Rattle.model.specs.Steps.{bestMarks}
-use Rattle.model.specs.Refusals.{Check, shortTable, badCount, badLimit, badLength, noWeight, badWalk, heavyNode, formChecks, badMarks, shortScratch, treeChecks, planChecks, passes, soundForm, acceptedTree, refused, accepted, firstOf, readTree, judgePlan, Planned, planned, planBest}
+use Rattle.model.specs.Refusals.{badMarks, shortScratch, treeChecks, planChecks, passes, soundForm, acceptedTree, refused, accepted, firstOf, readTree, judgePlan, Planned, planned, planBest}
 use Rattle.model.specs.declared.Answer.{Answer}
 use Rattle.model.specs.declared.Place.{Place}
 use Rattle.model.specs.declared.Place.the-variants.{At, Nowhere}
 use Rattle.model.specs.declared.Verdict.the-variants.{NotJudged, Feasible}
 use Rattle.theory.specs.Ranges.{bool-cases, pick-true, pick-false}
-use Rattle.theory.specs.Checks.{firstOf-pass, firstOf-stop, accepted-pass, HasNumbers}
+use Rattle.theory.specs.Checks.{lentChecks, firstOf-pass, firstOf-stop, firstOf-all, accepted-pass, tree-numbers, plan-numbers}
 use Rattle.theory.specs.Sound.{AcceptedFacts, accepted-facts, passes-append, both-true}
-use Rattle.theory.specs.Feasible.{judged-answer, firstOf-all}
+use Rattle.theory.specs.Feasible.{judged-answer}
 use Rattle.theory.specs.Held.{HeldWithin, refused-unheld, seven-refused}
 use Rattle.theory.specs.Lowest.{Lowest, best-judged, best-lowest}
 
@@ -30,17 +30,14 @@ pub record BestPromise (t m s : List ℕ) (r : Answer) (left : List ℕ) : Type 
   pub lowest : passes (planChecks t m s) ≡ true → (P : ℕ) × (W : ℕ) × (r ≡ accepted (Feasible P W)) × Lowest t P W (runsOf t left)
   pub refusal : soundForm t ≡ true → (r .number ≡ 7) ↔ (HeldWithin t → ⊥)
 
--- the checks of a planner after the tree's
-abbrev bufferChecks : List ℕ → List ℕ → List ℕ → List Check
-bufferChecks t m s = badMarks (nodeCount t) m ∷ shortScratch t s ∷ []
-
-tree-passes : (t m s : List ℕ) → passes (planChecks t m s) ≡ true → passes (treeChecks t) ≡ true
-unfolding planChecks
-tree-passes t m s e = both-true _ (passes (bufferChecks t m s)) (sym (passes-append (treeChecks t) (bufferChecks t m s)) ∙ e) .0
+-- the checks of the tree and of what is lent
+pub plan-parts : (t m s : List ℕ) → passes (planChecks t m s) ≡ true → (passes (treeChecks t) ≡ true) × (passes (lentChecks t m s) ≡ true)
+unfolding planChecks lentChecks
+plan-parts t m s e = both-true _ (passes (lentChecks t m s)) (sym (passes-append (treeChecks t) (lentChecks t m s)) ∙ e)
 
 pub plan-accepted : (t m s : List ℕ) → passes (planChecks t m s) ≡ true → AcceptedFacts t
 unfolding acceptedTree
-plan-accepted t m s e = accepted-facts t (tree-passes t m s e)
+plan-accepted t m s e = accepted-facts t (plan-parts t m s e .0)
 
 -- ---- A planner that was lent right buffers
 
@@ -57,11 +54,6 @@ module _ (steps : ℕ → Chain → List ℕ) (t m s : List ℕ) where
   unfolding planned
   planned-refused e = ap (λ (p : Planned). p .answer) (pick-false (passes (planChecks t m s)) _ _ e)
 
-plan-numbers : (t m s : List ℕ) → HasNumbers (planChecks t m s)
-unfolding HasNumbers planChecks treeChecks formChecks shortTable badCount badLimit badLength noWeight badWalk heavyNode badMarks shortScratch
-plan-numbers t m s =
-    (omega arith, (omega arith, (omega arith, (omega arith, (omega arith, (omega arith, (omega arith, (omega arith, (omega arith, tt)))))))))
-
 -- a planner that answers 0 was lent an accepted tree and right buffers
 pub plan-passes : (steps : ℕ → Chain → List ℕ) (t m s : List ℕ) → planned steps t m s .answer .number ≡ 0 → passes (planChecks t m s) ≡ true
 plan-passes steps t m s z = ⊎-elim (λ e. e) other (bool-cases (passes (planChecks t m s)))
@@ -73,14 +65,9 @@ plan-passes steps t m s z = ⊎-elim (λ e. e) other (bool-cases (passes (planCh
 
 -- ---- Refusal 7 is the tree reader's
 
-tree-numbers : (t : List ℕ) → HasNumbers (treeChecks t)
-unfolding HasNumbers treeChecks formChecks shortTable badCount badLimit badLength noWeight badWalk heavyNode
-tree-numbers t =
-    (omega arith, (omega arith, (omega arith, (omega arith, (omega arith, (omega arith, (omega arith, tt)))))))
-
-buffers-not-seven : (t m s : List ℕ) → firstOf (bufferChecks t m s) (accepted NotJudged) .number ≡ 7 → ⊥
-unfolding firstOf badMarks shortScratch atPlace refused
-buffers-not-seven t m s e = go (badMarks (nodeCount t) m .place) (shortScratch t s .place) e
+lent-not-seven : (t m s : List ℕ) → firstOf (lentChecks t m s) (accepted NotJudged) .number ≡ 7 → ⊥
+unfolding lentChecks firstOf badMarks shortScratch atPlace refused
+lent-not-seven t m s e = go (badMarks (nodeCount t) m .place) (shortScratch t s .place) e
   where
     go : (p q : Place) → atPlace p (refused 8) (atPlace q (refused 9) (accepted NotJudged)) .number ≡ 7 → ⊥
     go (At x) q h = omega arith
@@ -93,21 +80,21 @@ unfolding readTree
 read-zero t e = ap (λ (a : Answer). a .number) (firstOf-all (treeChecks t) (accepted NotJudged) e)
 
 seven-same : (t m s : List ℕ) → (firstOf (planChecks t m s) (accepted NotJudged) .number ≡ 7) ↔ (readTree t .number ≡ 7)
-unfolding planChecks readTree
+unfolding planChecks readTree lentChecks
 seven-same t m s = ⊎-elim good bad (bool-cases (passes (treeChecks t)))
   where
     good : passes (treeChecks t) ≡ true
-        → (firstOf (treeChecks t ++ bufferChecks t m s) (accepted NotJudged) .number ≡ 7) ↔ (firstOf (treeChecks t) (accepted NotJudged) .number ≡ 7)
+        → (firstOf (treeChecks t ++ lentChecks t m s) (accepted NotJudged) .number ≡ 7) ↔ (firstOf (treeChecks t) (accepted NotJudged) .number ≡ 7)
     good e = (
-      λ h. absurd (buffers-not-seven t m s (sym (ap (λ (a : Answer). a .number) (firstOf-pass (treeChecks t) (bufferChecks t m s) (accepted NotJudged) e)) ∙ h)),
+      λ h. absurd (lent-not-seven t m s (sym (ap (λ (a : Answer). a .number) (firstOf-pass (treeChecks t) (lentChecks t m s) (accepted NotJudged) e)) ∙ h)),
       λ h. absurd (omega (arith, read-zero t e)),
     )
 
     bad : passes (treeChecks t) ≡ false
-        → (firstOf (treeChecks t ++ bufferChecks t m s) (accepted NotJudged) .number ≡ 7) ↔ (firstOf (treeChecks t) (accepted NotJudged) .number ≡ 7)
+        → (firstOf (treeChecks t ++ lentChecks t m s) (accepted NotJudged) .number ≡ 7) ↔ (firstOf (treeChecks t) (accepted NotJudged) .number ≡ 7)
     bad e =
         let q = ap (λ (a : Answer). a .number)
-        (firstOf-stop NotJudged (treeChecks t) (bufferChecks t m s) (accepted NotJudged)
+        (firstOf-stop NotJudged (treeChecks t) (lentChecks t m s) (accepted NotJudged)
         (λ z. true≢false (sym (accepted-pass NotJudged (treeChecks t) (tree-numbers t) z) ∙ e))) in
         (λ h. sym q ∙ h, λ h. q ∙ h)
 
@@ -120,7 +107,7 @@ module _ (t m s : List ℕ) where
       made : passes (planChecks t m s) ≡ true → (planned bestMarks t m s .answer .number ≡ 7) ↔ (readTree t .number ≡ 7)
       made e =
           let q = ap (λ (a : Answer). a .number) (planned-judged bestMarks t m s e ∙ judged-answer (best-judged (plan-accepted t m s e))) in
-          (λ h. absurd (omega arith), λ h. absurd (omega (arith, read-zero t (tree-passes t m s e))))
+          (λ h. absurd (omega arith), λ h. absurd (omega (arith, read-zero t (plan-parts t m s e .0))))
 
       refused-too : passes (planChecks t m s) ≡ false → (planned bestMarks t m s .answer .number ≡ 7) ↔ (readTree t .number ≡ 7)
       refused-too e =

@@ -26,6 +26,12 @@ unfolding pick
 pick-false true x y e = absurd (true≢false e)
 pick-false false x y e = refl
 
+-- what holds of both holds of the choice
+pub pick-both {ℓ ℓ′} : {X : Type ℓ} (P : X → Type ℓ′) (b : Bool) (x y : X) → P x → P y → P (pick b x y)
+unfolding pick
+pick-both P true x y p q = p
+pick-both P false x y p q = q
+
 pub when-true : (b : Bool) (p : ℕ) → b ≡ true → when b p ≡ At p
 unfolding when
 when-true true p e = refl

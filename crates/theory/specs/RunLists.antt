@@ -10,13 +10,13 @@ use lib.Dec.{eqb, leb}
 use borrow.Author.Tests.{eqb-true, eq-eqb, leb-true, le-leb}
 use Rattle.model.specs.Basics.{countTo, every}
 use Rattle.model.specs.Table.{nodeCount}
-use Rattle.model.specs.Plan.{parentFrom, parentAt}
+use Rattle.model.specs.Plan.{parentAt}
 use Rattle.model.specs.Runs.{Run, comesAfter, isRun, isMember, rootRun, isRootRun, countOf, inOneAtMost, holds, runWith, homeFrom, homeOf}
 use Rattle.model.specs.declared.Place.{Place}
 use Rattle.model.specs.declared.Place.the-variants.{At, Nowhere}
 use Rattle.theory.specs.Ranges.{Upto, pick-true, pick-false, at-nowhere, at-same, atPlace-at, atPlace-nowhere, countTo-all, countTo-full}
 use Rattle.theory.specs.Sound.{SoundFacts, both-true}
-use Rattle.theory.specs.Links.{parentAt-less, parent-low}
+use Rattle.theory.specs.Links.{parentAt-none, parentAt-less, parent-low}
 use Rattle.theory.specs.Chains.{After, here, reach-le, comesAfter-after, after-comesAfter}
 use Rattle.theory.specs.Listed.{Mem, every-all, all-every, countOf-some, countOf-find, countOf-one}
 
@@ -190,10 +190,6 @@ module _ {t : List ℕ} (s : SoundFacts t) where
 
 -- ---- The page that a node is on
 
-parentAt-zero : (t : List ℕ) → parentAt t 0 ≡ 0
-unfolding parentAt parentFrom
-parentAt-zero t = refl
-
 homeFrom-run : (f : ℕ) (t : List ℕ) (rs : List Run) (v u : ℕ) → runWith t rs v ≡ At u → homeFrom (suc f) t rs v ≡ u
 unfolding homeFrom
 homeFrom-run f t rs v u e = atPlace-at (runWith t rs v) u (λ w. w) (homeFrom f t rs (parentAt t v)) e
@@ -210,7 +206,7 @@ homeFrom-zero t rs v = refl
 module _ (t : List ℕ) (rs : List Run) (z : runWith t rs 0 ≡ Nowhere) where
   homeFrom-none : (f : ℕ) → homeFrom f t rs 0 ≡ 0
   homeFrom-none zero = homeFrom-zero t rs 0
-  homeFrom-none (suc f) = homeFrom-up f t rs 0 z ∙ ap (homeFrom f t rs) (parentAt-zero t) ∙ homeFrom-none f
+  homeFrom-none (suc f) = homeFrom-up f t rs 0 z ∙ ap (homeFrom f t rs) (parentAt-none t) ∙ homeFrom-none f
 
   -- the page is found with v steps or more
   homeFrom-enough : (f g v : ℕ) → v ≤ f → v ≤ g → homeFrom f t rs v ≡ homeFrom g t rs v

@@ -8,7 +8,6 @@ use mathlib.Core.Bool.{Bool, true, false, not, _&&_, true≢false, false≢true}
 use mathlib.Core.Path.{_≡_, refl, sym, _∙_, ap}
 use mathlib.Core.Logic.{_↔_}
 use mathlib.Core.List.{List}
-use lib.ListN.{length}
 use lib.Dec.{eqb, leb, ltb}
 use borrow.Author.Tests.{eqb-true, eq-eqb, leb-true, le-leb, ltb-false, le-ltb}
 use Rattle.model.specs.Basics.{pick, countTo}
@@ -17,14 +16,14 @@ use Rattle.model.specs.Plan.{prevAt, parentAt, begins, continues, hasMark, inRu
 use Rattle.model.specs.Runs.{Run, isMember, rootRun, countOf, holds, runWith, homeOf, runWeight, withinLimit, rootWeight, runsOf}
 use Rattle.model.specs.declared.Place.the-variants.{At, Nowhere}
 use Rattle.theory.specs.Ranges.{pick-true, sumTo-cong, countTo-zero, countTo-yes, countTo-none, firstTo-none, firstTo-nowhere}
-use Rattle.theory.specs.Sums.{countTo-grows, countTo-same, Counted, countTo-reach}
+use Rattle.theory.specs.Chosen.{countTo-mono, countTo-some, ranked, countTo-same, countTo-only}
 use Rattle.theory.specs.Sound.{SoundFacts, both-true}
 use Rattle.theory.specs.Links.{prevAt-less, prevAt-next, parentAt-less, parent-low}
 use Rattle.theory.specs.Pages.{pageOf-begins, pageOf-continues, pageOf-stays, good-node, good-later, good-continues, root-begins}
 use Rattle.theory.specs.Chains.{here, reach-trans, reach-one, same-true}
-use Rattle.theory.specs.Listed.{Mem, every-all, all-every, countTo-low, countTo-only, length-listed, From, listed-from, listed-mem, countOf-listed}
+use Rattle.theory.specs.Listed.{Mem, every-all, all-every, From, chosen-from, chosen-mem, countOf-chosen}
 use Rattle.theory.specs.RunLists.{run-path, none-runWith, HoldFacts, facts-holds, runWith-at, runWith-zero, home-run, home-up}
-use Rattle.theory.specs.MarkedRuns.{Goes, runAt, runsOf-listed, neither-inRun, ends-runLast, runAt-facts, goes-member, member-goes, goes-inRun, goes-one}
+use Rattle.theory.specs.MarkedRuns.{Goes, runAt, runsOf-chosen, neither-inRun, ends-runLast, runAt-facts, goes-member, member-goes, goes-inRun, goes-one}
 
 -- the first node of the run that v is in
 pub record Headed (t m : List ℕ) (v : ℕ) : Type 0 where
@@ -82,15 +81,15 @@ module _ {t : List ℕ} (s : SoundFacts t) (m : List ℕ) (good : badMark t m �
   -- ---- They hold the tree
 
   pub mem-from : (r : Run) → Mem r (runsOf t m) → From (hasMark m begins) (runAt t m) (nodeCount t) r
-  mem-from r h = listed-from (hasMark m begins) (runAt t m) (nodeCount t) r (rw (runsOf-listed t m) at h)
+  mem-from r h = chosen-from (hasMark m begins) (runAt t m) (nodeCount t) r (rw (runsOf-chosen t m) at h)
 
   pub runs-mem : (u : ℕ) → 1 ≤ u → u ≤ nodeCount t → hasMark m begins u ≡ true → Mem (runAt t m u) (runsOf t m)
-  runs-mem u low high e = rw (runsOf-listed t m) (listed-mem (hasMark m begins) (runAt t m) (nodeCount t) u low high e)
+  runs-mem u low high e = rw (runsOf-chosen t m) (chosen-mem (hasMark m begins) (runAt t m) (nodeCount t) u low high e)
 
   -- a node is in the run of the node that begins it, and in no other
   members-count : (v : ℕ)
       → countOf (isMember t v) (runsOf t m) ≡ countTo (nodeCount t) (λ u. hasMark m begins u && isMember t v (runAt t m u))
-  members-count v = rw (runsOf-listed t m) (countOf-listed (hasMark m begins) (runAt t m) (isMember t v) (nodeCount t))
+  members-count v = rw (runsOf-chosen t m) (countOf-chosen (hasMark m begins) (runAt t m) (isMember t v) (nodeCount t))
 
   pub in-one : (v : ℕ) → 1 ≤ v → v ≤ nodeCount t → inRun m v ≡ true → countOf (isMember t v) (runsOf t m) ≡ 1
   in-one v low high e =
@@ -145,11 +144,6 @@ module _ {t : List ℕ} (s : SoundFacts t) (m : List ℕ) (good : badMark t m �
 
   pub runs-hold : holds t (runsOf t m) ≡ true
   runs-hold = facts-holds s (runsOf t m) runs-facts
-
-  -- one for each page
-  pub runs-count : length (runsOf t m) ≡ pageCount t m
-  unfolding pageCount
-  runs-count = ap length (runsOf-listed t m) ∙ length-listed (hasMark m begins) (runAt t m) (nodeCount t)
 
   -- ---- Homes and pages
 
@@ -258,13 +252,13 @@ module _ {t : List ℕ} (s : SoundFacts t) (m : List ℕ) (good : badMark t m �
   within-heavy = (
     λ e. firstTo-none (countTo (nodeCount t) (hasMark m begins)) (λ p. ltb (limitOf t) (pageWeight t m p))
         (λ p low high.
-        let c : Counted (hasMark m begins) (nodeCount t) p = countTo-reach (hasMark m begins) (nodeCount t) p low high in
-        let w : runWeight t (runsOf t m) (runAt t m (c .at)) ≤ limitOf t =
-        leb-true (runWeight t (runsOf t m) (runAt t m (c .at))) (limitOf t)
-        (every-all (λ r. leb (runWeight t (runsOf t m) r) (limitOf t)) (runsOf t m) e (runAt t m (c .at))
-        (runs-mem (c .at) (c .low) (c .high) (c .passed))) in
+        let c = ranked (hasMark m begins) (nodeCount t) p low high in
+        let w : runWeight t (runsOf t m) (runAt t m (c .0)) ≤ limitOf t =
+        leb-true (runWeight t (runsOf t m) (runAt t m (c .0))) (limitOf t)
+        (every-all (λ r. leb (runWeight t (runsOf t m) r) (limitOf t)) (runsOf t m) e (runAt t m (c .0))
+        (runs-mem (c .0) (c .1 .low) (c .1 .high) (c .1 .passed))) in
         le-ltb (limitOf t) (pageWeight t m p)
-        (omega (arith, weight-first (c .at) (runAt t m (c .at)) refl (c .passed), ap (pageWeight t m) (c .count)))),
+        (omega (arith, weight-first (c .0) (runAt t m (c .0)) refl (c .1 .passed), ap (pageWeight t m) (c .1 .rank)))),
     λ e. all-every (λ r. leb (runWeight t (runsOf t m) r) (limitOf t)) (runsOf t m)
         (λ r h.
         let f = mem-from r h in
@@ -272,8 +266,8 @@ module _ {t : List ℕ} (s : SoundFacts t) (m : List ℕ) (good : badMark t m �
         let light : pageWeight t m p ≤ limitOf t =
         ltb-false (limitOf t) (pageWeight t m p)
         (firstTo-nowhere (countTo (nodeCount t) (hasMark m begins)) (λ p. ltb (limitOf t) (pageWeight t m p)) e p
-        (countTo-low (hasMark m begins) (f .number) (f .low) (f .passed))
-        (countTo-grows (hasMark m begins) (f .number) (nodeCount t) (f .high))) in
+        (countTo-some (hasMark m begins) (f .number) (f .number) (f .low) (omega arith) (f .passed))
+        (countTo-mono (hasMark m begins) (f .number) (nodeCount t) (f .high))) in
         le-leb (runWeight t (runsOf t m) r) (limitOf t)
         (omega (arith, weight-first (f .number) r (ap (λ x. x .first) (f .same)) (f .passed)))),
   )

@@ -10,8 +10,9 @@ use Rattle.model.specs.Basics.{when}
 use Rattle.model.specs.Table.{nodeCount, limitOf}
 use Rattle.model.specs.Refusals.{badMarks, shortScratch, scratchWords, readTree}
 use Rattle.model.specs.declared.Answer.{Answer}
-use Rattle.theory.specs.Checks.{firstOf-cons, firstOf-none}
-use Rattle.planner.proofs.Planning.{lentChecks, tree-accepted, tree-refuses, tree-goes-on, words-fit}
+use Rattle.theory.specs.Checks.{lentChecks, firstOf-cons, firstOf-none}
+use Rattle.theory.specs.Judged.{tree-facts}
+use Rattle.planner.proofs.Planning.{tree-refuses, tree-goes-on, words-fit}
 use borrow.Author.Needs.{needs}
 use Rattle.planner.proofs.common.check_plan.Statement.{statement}
 use Rattle.planner.proofs.common.check_plan.Tie as tie
@@ -25,7 +26,7 @@ words-small : (c : tie.After-limit-of) → 4 * c .before .node-count .result * (
 words-small c =
     let e = c .before .before in
     let b = e .before .before .before .before .before .before in
-    let a = tree-accepted (now (b .args .table)) (now (b .args .marks)) (now (b .args .scratch)) (sym (number-is e) ∙ e .if1 .left) in
+    let a = tree-facts (now (b .args .table)) (sym (number-is e) ∙ e .if1 .left) in
     words-fit (c .before .node-count .result) (c .limit-of .result)
     (omega (arith, c .before .node-count .ensures, a .sound .count-high)) (omega (arith, c .limit-of .ensures, a .sound .limit-high))
 
