@@ -200,7 +200,7 @@ module _ {t m : List ℕ} (p : Planned t m) where
         ∙ sym (ap (parentIn (archiveOf t m)) first ∙ archive-parent t m b (x .low) (x .high))))
 
     continues-yes : markAt m v ≡ 2 → 1 ≤ countTo (pagesIn (archiveOf t m)) (continuesIn (archiveOf t m) v)
-    continues-yes two = go (in-run-of s g v low high two)
+    continues-yes two = go (in-run-of s m (p .marked) v low high two)
       where
         on : (b : ℕ) → InRunOf t m v b → (q : ℕ) × ((1 ≤ q) × (q ≤ pageCount t m)) × Page t m q b
             → 1 ≤ countTo (pagesIn (archiveOf t m)) (continuesIn (archiveOf t m) v)
@@ -212,7 +212,7 @@ module _ {t m : List ℕ} (p : Planned t m) where
         go r = on (r .0) (r .1) (page-of-first (r .0) (r .1 .low) (omega (arith, r .1 .less)) (r .1 .one))
 
     continues-no : (markAt m v ≡ 2 → ⊥) → countTo (pagesIn (archiveOf t m)) (continuesIn (archiveOf t m) v) ≡ 0
-    unfolding continuesIn s g
+    unfolding continuesIn s
     continues-no other = countTo-none (pagesIn a) test none
       where
         a : List ℕ
@@ -250,7 +250,7 @@ module _ {t m : List ℕ} (p : Planned t m) where
                 let same = eqb-true (parentIn a v) (parentIn a (pageFieldIn a q 0)) (both .1) in
                 absurd
                 (other
-                (runLast-marks s g b v (x .low) (omega (arith, first)) high (omega (arith, last))
+                (runLast-marks s m b v (x .low) (omega (arith, first)) high (omega (arith, last))
                 (sym (archive-parent t m b (x .low) (x .high)) ∙ sym (ap (parentIn a) first) ∙ sym same ∙ archive-parent t m v low high)))
 
     pub archive-mark : markIn (archiveOf t m) v ≡ markAt m v

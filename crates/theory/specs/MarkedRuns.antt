@@ -3,7 +3,7 @@
 -- Defines Goes, Ends, runAt. Assumes nothing.
 use Prim.Native.Nat.{ℕ, zero, suc, _+_, _≤_, _<_}
 use native.Mathlib.Omega.{arith}
-use mathlib.Core.Bool.{Bool, true, false, not, _&&_, _||_, true≢false}
+use mathlib.Core.Bool.{Bool, true, false, not, _&&_, _||_, true≢false, false≢true}
 use mathlib.Core.Path.{_≡_, refl, sym, _∙_, ap}
 use mathlib.Core.Logic.{_⊎_, inl, inr}
 use mathlib.Core.List.{List}
@@ -11,12 +11,14 @@ use lib.ListN.{length}
 use lib.Dec.{eqb}
 use borrow.Author.Tests.{eqb-true, eqb-false, ne-eqb, not-true}
 use Rattle.model.specs.Table.{nodeCount, nextAt}
-use Rattle.model.specs.Plan.{begins, continues, markAt, hasMark, inRun, pageCount, runLastFrom, runLast}
+use Rattle.model.specs.Plan.{prevAt, badMark, begins, continues, markAt, hasMark, inRun, pageCount, runLastFrom, runLast}
 use Rattle.model.specs.Runs.{Run, isMember, runsOf}
+use Rattle.model.specs.declared.Place.the-variants.{Nowhere}
 use Rattle.theory.specs.Ranges.{pick-true, pick-false}
 use Rattle.theory.specs.Sound.{SoundFacts, both-true}
-use Rattle.theory.specs.Links.{next-later, next-le}
-use Rattle.theory.specs.Chains.{Reach, here, step, Before, reach-after, reach-last, reach-stop, reach-stop-one, reach-common, reach-between}
+use Rattle.theory.specs.Links.{next-later, next-le, prevAt-less, prevAt-next}
+use Rattle.theory.specs.Pages.{good-node, good-continues, good-after}
+use Rattle.theory.specs.Chains.{Reach, here, step, Before, reach-trans, reach-one, reach-after, reach-last, reach-stop, reach-stop-one, reach-common, reach-between}
 use Rattle.theory.specs.Chosen.{chosen, length-chosen}
 use Rattle.theory.specs.RunLists.{RunFacts, member-inside, inside-member}
 
@@ -156,3 +158,41 @@ module _ {t : List ℕ} (s : SoundFacts t) (m : List ℕ) where
       go : Goes t m u u′ ⊎ Goes t m u′ u → u ≡ u′
       go (inl x) = last u u′ first′ (reach-last x)
       go (inr x) = sym (last u′ u first (reach-last x))
+
+-- ---- The run of a node
+
+-- the first node of the run that v is in
+pub record Headed (t m : List ℕ) (v : ℕ) : Type 0 where
+  pub head : ℕ
+  pub low : 1 ≤ head
+  pub high : head ≤ v
+  pub mark : hasMark m begins head ≡ true
+  pub goes : Goes t m head v
+
+module _ {t : List ℕ} (s : SoundFacts t) (m : List ℕ) (good : badMark t m ≡ Nowhere) where
+  head-upto : (f v : ℕ) → v ≤ f → 1 ≤ v → v ≤ nodeCount t → inRun m v ≡ true → Headed t m v
+  head-upto zero v bound low high e = absurd (omega arith)
+  head-upto (suc f) v bound low high e = go (hasMark m begins v) refl (hasMark m continues v) refl (head-upto f (prevAt t v))
+    where
+      go : (b : Bool) → hasMark m begins v ≡ b → (c : Bool) → hasMark m continues v ≡ c
+          → (prevAt t v ≤ f → 1 ≤ prevAt t v → prevAt t v ≤ nodeCount t → inRun m (prevAt t v) ≡ true → Headed t m (prevAt t v))
+          → Headed t m v
+      go true q c q′ ih = record { head = v; low = low; high = omega arith; mark = q; goes = here }
+      go false q true q′ ih =
+          let less : prevAt t v < v = prevAt-less t v low in
+          let one : 1 ≤ prevAt t v = good-continues t m v low (good-node s m good v low high) q′ in
+          let next : nextAt t (prevAt t v) ≡ v = prevAt-next t v one in
+          let p : Headed t m (prevAt t v) = ih (omega arith) one (omega arith) (good-after t m v low (good-node s m good v low high) q′) in
+          let last : Goes t m (prevAt t v) (nextAt t (prevAt t v)) =
+          reach-one (omega (arith, next)) (ap (hasMark m continues) next ∙ q′) in
+          record {
+            head = p .head;
+            low = p .low;
+            high = omega (arith, p .high);
+            mark = p .mark;
+            goes = reach-trans (p .goes) (rw next at last);
+          }
+      go false q false q′ ih = absurd (false≢true (sym (neither-inRun m v q q′) ∙ e))
+
+  pub headed : (v : ℕ) → 1 ≤ v → v ≤ nodeCount t → inRun m v ≡ true → Headed t m v
+  headed v low high e = head-upto v v (omega arith) low high e

@@ -18,7 +18,7 @@ use Rattle.theory.specs.Ranges.{Upto, pick-true, pick-false, sumTo-cong,
 use Rattle.theory.specs.Sums.{sumTo-swap, sumTo-only}
 use Rattle.theory.specs.Chosen.{countTo-mono, countTo-pass, countTo-same, ranked}
 use Rattle.theory.specs.Sound.{SoundFacts, both-true}
-use Rattle.theory.specs.Links.{parent-low}
+use Rattle.theory.specs.Links.{prevAt-less, parent-low}
 use Rattle.theory.specs.JudgePages.{stepBack, back-less, pageOf-step}
 
 -- ---- The page of a node, by its mark
@@ -77,6 +77,14 @@ good-continues t m v low good e = go (eqb v 1) refl
         (sym (pick-true (hasMark m continues v) _ _ e) ∙ sym (good-later t m v (omega arith)) ∙ good) in
         let some : prevAt t v ≡ 0 → ⊥ = eqb-false (prevAt t v) 0 (not-true (eqb (prevAt t v) 0) (both .0)) in
         omega arith
+
+-- just after one in the run
+pub good-after : (t m : List ℕ) (v : ℕ) → 1 ≤ v → goodMark t m v ≡ true → hasMark m continues v ≡ true → inRun m (prevAt t v) ≡ true
+good-after t m v low good e =
+    let one : 1 ≤ prevAt t v = good-continues t m v low good e in
+    let less : prevAt t v < v = prevAt-less t v low in
+    both-true (not (eqb (prevAt t v) 0)) (inRun m (prevAt t v))
+    (sym (pick-true (hasMark m continues v) _ _ e) ∙ sym (good-later t m v (omega arith)) ∙ good) .1
 
 -- ---- Pages of a plan with no bad mark
 

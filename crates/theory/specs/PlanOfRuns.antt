@@ -26,8 +26,8 @@ use Rattle.theory.specs.Chains.{here, step, After, reach-trans, reach-on
 use Rattle.theory.specs.Listed.{Mem, From}
 use Rattle.theory.specs.RunLists.{RunFacts, run-path, Inside, member-inside, member-range, inside-member, first-member, FoundRun, runWith-found, HoldFacts, runs-apart, runWith-at, runWith-root}
 use Rattle.theory.specs.SameRuns.{SameRuns, same-runWith}
-use Rattle.theory.specs.MarkedRuns.{Goes, runAt, inRun-begins, inRun-continues, ends-runLast, neither-inRun}
-use Rattle.theory.specs.RunsOfPlan.{Headed, headed, runs-facts, runs-mem, mem-from, runWith-goes, runWith-out}
+use Rattle.theory.specs.MarkedRuns.{Goes, Headed, headed, runAt, inRun-begins, inRun-continues, ends-runLast, neither-inRun}
+use Rattle.theory.specs.RunsOfPlan.{runs-facts, runs-mem, mem-from, runWith-goes, runWith-out}
 
 -- 1 for the first node of a run, 2 for any other node of one, else 0
 unfoldable pub markIn : List ℕ → List Run → ℕ → ℕ

@@ -4,7 +4,7 @@
 -- root-weight, within-heavy. Assumes nothing.
 use Prim.Native.Nat.{ℕ, zero, suc, _≤_, _<_}
 use native.Mathlib.Omega.{arith}
-use mathlib.Core.Bool.{Bool, true, false, not, _&&_, true≢false, false≢true}
+use mathlib.Core.Bool.{Bool, true, false, _&&_, true≢false}
 use mathlib.Core.Path.{_≡_, refl, sym, _∙_, ap}
 use mathlib.Core.Logic.{_↔_}
 use mathlib.Core.List.{List}
@@ -15,23 +15,15 @@ use Rattle.model.specs.Table.{nodeCount, limitOf, weightAt, nextAt}
 use Rattle.model.specs.Plan.{prevAt, parentAt, begins, continues, hasMark, inRun, pageOf, pageCount, pageWeight, badMark, heavyPage}
 use Rattle.model.specs.Runs.{Run, isMember, rootRun, countOf, holds, runWith, homeOf, runWeight, withinLimit, rootWeight, runsOf}
 use Rattle.model.specs.declared.Place.the-variants.{At, Nowhere}
-use Rattle.theory.specs.Ranges.{pick-true, sumTo-cong, countTo-zero, countTo-yes, countTo-none, firstTo-none, firstTo-nowhere}
+use Rattle.theory.specs.Ranges.{sumTo-cong, countTo-zero, countTo-yes, countTo-none, firstTo-none, firstTo-nowhere}
 use Rattle.theory.specs.Chosen.{countTo-mono, countTo-some, ranked, countTo-same, countTo-only}
 use Rattle.theory.specs.Sound.{SoundFacts, both-true}
 use Rattle.theory.specs.Links.{prevAt-less, prevAt-next, parentAt-less, parent-low}
-use Rattle.theory.specs.Pages.{pageOf-begins, pageOf-continues, pageOf-stays, good-node, good-later, good-continues, root-begins}
+use Rattle.theory.specs.Pages.{pageOf-begins, pageOf-continues, pageOf-stays, good-node, good-continues, good-after, root-begins}
 use Rattle.theory.specs.Chains.{here, reach-trans, reach-one, same-true}
 use Rattle.theory.specs.Listed.{Mem, every-all, all-every, From, chosen-from, chosen-mem, countOf-chosen}
 use Rattle.theory.specs.RunLists.{run-path, none-runWith, HoldFacts, facts-holds, runWith-at, runWith-zero, home-run, home-up}
-use Rattle.theory.specs.MarkedRuns.{Goes, runAt, runsOf-chosen, neither-inRun, ends-runLast, runAt-facts, goes-member, member-goes, goes-inRun, goes-one}
-
--- the first node of the run that v is in
-pub record Headed (t m : List ℕ) (v : ℕ) : Type 0 where
-  pub head : ℕ
-  pub low : 1 ≤ head
-  pub high : head ≤ v
-  pub mark : hasMark m begins head ≡ true
-  pub goes : Goes t m head v
+use Rattle.theory.specs.MarkedRuns.{Goes, Headed, headed, runAt, runsOf-chosen, neither-inRun, ends-runLast, runAt-facts, goes-member, member-goes, goes-inRun, goes-one}
 
 -- the node that begins the page of v
 pub record OnPage (t m : List ℕ) (v : ℕ) : Type 0 where
@@ -43,41 +35,6 @@ pub record OnPage (t m : List ℕ) (v : ℕ) : Type 0 where
   pub page : pageOf t m v ≡ countTo first (hasMark m begins)
 
 module _ {t : List ℕ} (s : SoundFacts t) (m : List ℕ) (good : badMark t m ≡ Nowhere) where
-  -- a node that continues a run comes just after one in the run
-  continues-after : (v : ℕ) → 1 ≤ v → v ≤ nodeCount t → hasMark m continues v ≡ true → inRun m (prevAt t v) ≡ true
-  continues-after v low high e =
-      let less : prevAt t v < v = prevAt-less t v low in
-      let one : 1 ≤ prevAt t v = good-continues t m v low (good-node s m good v low high) e in
-      both-true (not (eqb (prevAt t v) 0)) (inRun m (prevAt t v))
-      (sym (pick-true (hasMark m continues v) _ _ e) ∙ sym (good-later t m v (omega arith)) ∙ good-node s m good v low high) .1
-
-  head-upto : (f v : ℕ) → v ≤ f → 1 ≤ v → v ≤ nodeCount t → inRun m v ≡ true → Headed t m v
-  head-upto zero v bound low high e = absurd (omega arith)
-  head-upto (suc f) v bound low high e = go (hasMark m begins v) refl (hasMark m continues v) refl (head-upto f (prevAt t v))
-    where
-      go : (b : Bool) → hasMark m begins v ≡ b → (c : Bool) → hasMark m continues v ≡ c
-          → (prevAt t v ≤ f → 1 ≤ prevAt t v → prevAt t v ≤ nodeCount t → inRun m (prevAt t v) ≡ true → Headed t m (prevAt t v))
-          → Headed t m v
-      go true q c q′ ih = record { head = v; low = low; high = omega arith; mark = q; goes = here }
-      go false q true q′ ih =
-          let less : prevAt t v < v = prevAt-less t v low in
-          let one : 1 ≤ prevAt t v = good-continues t m v low (good-node s m good v low high) q′ in
-          let next : nextAt t (prevAt t v) ≡ v = prevAt-next t v one in
-          let p : Headed t m (prevAt t v) = ih (omega arith) one (omega arith) (continues-after v low high q′) in
-          let last : Goes t m (prevAt t v) (nextAt t (prevAt t v)) =
-          reach-one (omega (arith, next)) (ap (hasMark m continues) next ∙ q′) in
-          record {
-            head = p .head;
-            low = p .low;
-            high = omega (arith, p .high);
-            mark = p .mark;
-            goes = reach-trans (p .goes) (rw next at last);
-          }
-      go false q false q′ ih = absurd (false≢true (sym (neither-inRun m v q q′) ∙ e))
-
-  pub headed : (v : ℕ) → 1 ≤ v → v ≤ nodeCount t → inRun m v ≡ true → Headed t m v
-  headed v low high e = head-upto v v (omega arith) low high e
-
   -- ---- They hold the tree
 
   pub mem-from : (r : Run) → Mem r (runsOf t m) → From (hasMark m begins) (runAt t m) (nodeCount t) r
@@ -93,7 +50,7 @@ module _ {t : List ℕ} (s : SoundFacts t) (m : List ℕ) (good : badMark t m �
 
   pub in-one : (v : ℕ) → 1 ≤ v → v ≤ nodeCount t → inRun m v ≡ true → countOf (isMember t v) (runsOf t m) ≡ 1
   in-one v low high e =
-      let h : Headed t m v = headed v low high e in
+      let h : Headed t m v = headed s m good v low high e in
       let top : h .head ≤ nodeCount t = omega (arith, h .high) in
       let own : (hasMark m begins (h .head) && isMember t v (runAt t m (h .head))) ≡ true =
       rw (h .mark, goes-member s m (h .head) v (h .low) top (h .goes)) in
@@ -180,7 +137,7 @@ module _ {t : List ℕ} (s : SoundFacts t) (m : List ℕ) (good : badMark t m �
           let one : 1 ≤ prevAt t v = good-continues t m v low (good-node s m good v low high) q′ in
           let next : nextAt t (prevAt t v) ≡ v = prevAt-next t v one in
           let p : OnPage t m (prevAt t v) = ih (prevAt t v) (omega arith) one (omega arith) in
-          let h : Headed t m (prevAt t v) = headed (prevAt t v) one (omega arith) (continues-after v low high q′) in
+          let h : Headed t m (prevAt t v) = headed s m good (prevAt t v) one (omega arith) (good-after t m v low (good-node s m good v low high) q′) in
           let top : h .head ≤ nodeCount t = omega (arith, h .high) in
           let last : Goes t m (prevAt t v) (nextAt t (prevAt t v)) =
           reach-one (omega (arith, next)) (ap (hasMark m continues) next ∙ q′) in

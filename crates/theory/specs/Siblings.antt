@@ -13,7 +13,8 @@ use Rattle.model.specs.Table.{nodeCount, firstAt, nextAt}
 use Rattle.model.specs.Plan.{prevAt, parentAt}
 use Rattle.theory.specs.Ranges.{pick-true, pick-false, atPlace-at, atPlace-nowhere, firstTo-none, firstTo-first}
 use Rattle.theory.specs.Sound.{SoundFacts, both-true}
-use Rattle.theory.specs.Links.{Source, first-step, first-cases, next-cases, linked, prevAt-less, prevAt-next, parentAt-later, parentAt-less, next-parent, first-parent, parent-low, parent-first}
+use Rattle.theory.specs.Chains.{After, reach-first, reach-one, reach-trans, reach-le}
+use Rattle.theory.specs.Links.{Source, next-le, first-step, first-cases, next-cases, linked, prevAt-less, prevAt-next, parentAt-later, parentAt-less, next-parent, first-parent, parent-low, parent-first}
 
 pub and-false-left : (a b : Bool) → a ≡ false → (a && b) ≡ false
 and-false-left a b e = rw e
@@ -38,26 +39,39 @@ module _ {t : List ℕ} (s : SoundFacts t) where
   abbrev Follows : ℕ → ℕ → Type 0
   Follows v u = (1 ≤ nextAt t v) × (nextAt t v ≤ u)
 
+  follows : (v u : ℕ) → 1 ≤ v → v ≤ nodeCount t → v < u → After t v u → Follows v u
+  follows v u low high less r = go (reach-first r)
+    where
+      go : (v ≡ u) ⊎ ((1 ≤ nextAt t v) × Unit {0} × After t (nextAt t v) u) → Follows v u
+      go (inl e) = absurd (omega arith)
+      go (inr x) = (x .0, reach-le s (x .2) (x .0) (next-le s v low high) .0)
+
   -- f bounds the nodes
-  sibling-upto : (f u v : ℕ) → u ≤ f → 1 ≤ v → v < u → u ≤ nodeCount t → parentAt t v ≡ parentAt t u → Follows v u
+  sibling-upto : (f u v : ℕ) → u ≤ f → 1 ≤ v → v < u → u ≤ nodeCount t → parentAt t v ≡ parentAt t u → After t v u
   sibling-upto zero u v bound low less high same = absurd (omega arith)
   sibling-upto (suc f) u v bound low less high same = go (eqb (prevAt t u) 0) refl (sibling-upto f)
     where
-      before : prevAt t u < u
-      before = prevAt-less t u (omega arith)
-
       by-order : (w : ℕ) → w < u → nextAt t w ≡ u → 1 ≤ w → parentAt t u ≡ parentAt t w
-          → ((a b : ℕ) → a ≤ f → 1 ≤ b → b < a → a ≤ nodeCount t → parentAt t b ≡ parentAt t a → Follows b a)
-          → (v < w) ⊎ ((v ≡ w) ⊎ (w < v)) → Follows v u
-      by-order w wu q one p ih (inl h) =
-          let r = ih w v (omega arith) low h (omega arith) (same ∙ p) in (r .0, omega (arith, r .1))
-      by-order w wu q one p ih (inr (inl e)) = (omega (arith, ap (nextAt t) e), omega (arith, ap (nextAt t) e))
-      by-order w wu q one p ih (inr (inr h)) =
-          let r = ih v w (omega arith) one h (omega arith) (sym p ∙ sym same) in absurd (omega (arith, r .1))
+          → ((a b : ℕ) → a ≤ f → 1 ≤ b → b < a → a ≤ nodeCount t → parentAt t b ≡ parentAt t a → After t b a)
+          → (v < w) ⊎ ((v ≡ w) ⊎ (w < v)) → After t v u
+      by-order w wu q one p ih cases = by cases
+        where
+          some : 1 ≤ nextAt t w
+          some = omega (arith, q)
+
+          last : After t w u
+          last = rw (← q) (reach-one some tt)
+
+          by : (v < w) ⊎ ((v ≡ w) ⊎ (w < v)) → After t v u
+          by (inl h) = reach-trans (ih w v (omega arith) low h (omega arith) (same ∙ p)) last
+          by (inr (inl e)) = rw e last
+          by (inr (inr h)) =
+              let r = follows w v one (omega arith) h (ih v w (omega arith) one h (omega arith) (sym p ∙ sym same)) in
+              absurd (omega (arith, r .1))
 
       go : (b : Bool) → eqb (prevAt t u) 0 ≡ b
-          → ((a b : ℕ) → a ≤ f → 1 ≤ b → b < a → a ≤ nodeCount t → parentAt t b ≡ parentAt t a → Follows b a)
-          → Follows v u
+          → ((a b : ℕ) → a ≤ f → 1 ≤ b → b < a → a ≤ nodeCount t → parentAt t b ≡ parentAt t a → After t b a)
+          → After t v u
       go true e ih =
           let z : prevAt t u ≡ 0 = eqb-true (prevAt t u) 0 e in
           let first : firstAt t (parentAt t u) ≡ u = parent-first s u (omega arith) high z in
@@ -67,11 +81,16 @@ module _ {t : List ℕ} (s : SoundFacts t) where
       go false e ih =
           let other : prevAt t u ≡ 0 → ⊥ = eqb-false (prevAt t u) 0 e in
           let one : 1 ≤ prevAt t u = omega arith in
-          by-order (prevAt t u) before (prevAt-next t u one) one (parentAt-later t u (omega arith) one) ih (order-cases v (prevAt t u))
+          by-order (prevAt t u) (prevAt-less t u (omega arith)) (prevAt-next t u one) one (parentAt-later t u (omega arith) one) ih
+          (order-cases v (prevAt t u))
 
-  -- a later brother is the next sibling or comes after it
-  pub sibling-next : (v u : ℕ) → 1 ≤ v → v < u → u ≤ nodeCount t → parentAt t v ≡ parentAt t u → Follows v u
-  sibling-next v u low less high same = sibling-upto u u v (omega arith) low less high same
+  -- a later brother comes after it in the chain
+  pub sibling-after : (v u : ℕ) → 1 ≤ v → v < u → u ≤ nodeCount t → parentAt t v ≡ parentAt t u → After t v u
+  sibling-after v u low less high same = sibling-upto u u v (omega arith) low less high same
+
+  -- and so is the next sibling or comes after that
+  sibling-next : (v u : ℕ) → 1 ≤ v → v < u → u ≤ nodeCount t → parentAt t v ≡ parentAt t u → Follows v u
+  sibling-next v u low less high same = follows v u low (omega arith) less (sibling-after v u low less high same)
 
   -- ---- First child and next sibling, from parents alone
 
