@@ -3,35 +3,30 @@
 -- Defines Planned, tableRow. Assumes nothing.
 use Prim.Native.Nat.{ℕ, zero, suc, _+_, _-_, _*_, _/_, _%_, _≤_, _<_}
 use native.Mathlib.Omega.{arith}
-use mathlib.Core.Bool.{Bool, true, false, not, _&&_, false≢true}
+use mathlib.Core.Bool.{Bool, true, false, _&&_, false≢true}
 use mathlib.Core.Path.{_≡_, refl, sym, _∙_, ap, ap₂}
 use mathlib.Core.Logic.{_⊎_, inl, inr, _↔_}
 use mathlib.Core.List.{List, [], _∷_}
 use lib.ListN.{length, getD}
 use lib.Seq.{ext-getD}
 use lib.Dec.{eqb, ltb, leb}
-use borrow.Author.Tests.{eqb-true, eqb-false, eq-eqb, ne-eqb, ltb-true, ltb-false, lt-ltb, le-ltb, le-leb, leb-true, not-false}
+use borrow.Author.Tests.{eqb-true, eqb-false, eq-eqb, ne-eqb, ltb-true, ltb-false, lt-ltb, le-ltb, le-leb, leb-true}
 use Rattle.model.specs.Basics.{pick, atPlace, countTo, firstTo, listTo, sameList}
 use Rattle.model.specs.Table.{wordAt, bytesOf, nodeCount, limitOf, fieldAt, weightAt, labelAt, firstAt, nextAt, tableBytes}
-use Rattle.model.specs.Plan.{parentAt, stays, begins, continues, markAt, hasMark, badMark, heavyPage, pageCount, pageWeight, runLast}
+use Rattle.model.specs.Plan.{parentAt, stays, begins, continues, markAt, hasMark, heavyPage, pageCount, pageWeight, runLast}
 use Rattle.model.specs.Archive.{archiveOf, pagesIn, pageFieldIn, nodeFieldIn, parentIn, firstIn, nextIn, tableIn, beginsIn, continuesIn, markIn, marksIn}
-use Rattle.model.specs.Refusals.{badMarks, markRefused, pageRefused, treeChecks, judgeChecks, passes, acceptedTree, feasiblePlan, isArchive}
+use Rattle.model.specs.Refusals.{feasiblePlan, isArchive}
 use Rattle.model.specs.declared.Place.{Place}
 use Rattle.model.specs.declared.Place.the-variants.{At, Nowhere}
-use Rattle.theory.specs.Ranges.{Upto, pick-true, pick-false, when-false, when-nowhere, atPlace-at, atPlace-nowhere, place-cases, countTo-none, firstTo-cong, firstTo-at, firstTo-nowhere, listTo-cong, length-listTo, getD-listTo}
-use Rattle.theory.specs.Sound.{SoundFacts, AcceptedFacts, accepted-facts, facts-accepted, both-true, passes-first, passes-rest, passes-cons, passes-append}
+use Rattle.theory.specs.Ranges.{Upto, pick-true, pick-false, atPlace-at, atPlace-nowhere, place-cases, countTo-none, firstTo-cong, firstTo-at, firstTo-nowhere, listTo-cong, length-listTo, getD-listTo}
+use Rattle.theory.specs.Sound.{SoundFacts, both-true}
 use Rattle.theory.specs.Chosen.{countTo-mono, countTo-pass, countTo-some}
 use Rattle.theory.specs.Siblings.{and-true, and-false-left, first-by-parent, next-by-parent}
 use Rattle.theory.specs.RunMarks.{GoodMarks, good-marks, InRunOf, in-run-of, runLast-marks}
 use Rattle.theory.specs.Encode.{Bytes, word-small}
 use Rattle.theory.specs.ArchiveWords.{getD-fours, length-fours, words-tell, Words, words-bytes, words-cons, words-nil, words-listTo, Page, page-first, archive-nodes, archive-limit, archive-pages, archive-page, archive-node, archive-parent}
-
 -- an accepted tree and a feasible plan, in bytes
-pub record Planned (t m : List ℕ) : Type 0 where
-  pub tree : AcceptedFacts t
-  pub long : length m ≡ nodeCount t
-  pub marked : badMark t m ≡ Nowhere
-  pub light : heavyPage t m ≡ Nowhere
+pub use Rattle.theory.specs.Feasible.{Judged as Planned, feasible-judged as feasible-planned, judged-feasible as planned-feasible}
 
 -- a feasible plan's pages are within the limit
 pub planned-light : {t m : List ℕ} → Planned t m → Upto (pageCount t m) (λ q. pageWeight t m q ≤ limitOf t)
@@ -291,38 +286,6 @@ module _ {t m : List ℕ} (p : Planned t m) where
       (λ v low high. ap (λ k. k ∷ []) (archive-mark v low high))
       ∙ ext-getD 0 (listTo (nodeCount t) (λ v. markAt m v ∷ [])) m (length-listTo (nodeCount t) (markAt m) ∙ sym (p .long))
       (λ i h. getD-listTo (nodeCount t) i (markAt m) 0 (rw (length-listTo (nodeCount t) (markAt m)) at h) ∙ ap (λ j. getD m j 0) (omega arith))
-
--- ---- Feasible plans
-
-pub feasible-planned : (t m : List ℕ) → feasiblePlan t m ≡ true → Planned t m
-unfolding feasiblePlan judgeChecks badMarks markRefused pageRefused acceptedTree
-feasible-planned t m e =
-    let both =
-    both-true (passes (treeChecks t)) (passes (badMarks (nodeCount t) m ∷ markRefused t m ∷ pageRefused t m ∷ []))
-    (sym (passes-append (treeChecks t) (badMarks (nodeCount t) m ∷ markRefused t m ∷ pageRefused t m ∷ [])) ∙ e) in
-    let e₂ = passes-rest (badMarks (nodeCount t) m) (markRefused t m ∷ pageRefused t m ∷ []) (both .1) in
-    let e₃ = passes-rest (markRefused t m) (pageRefused t m ∷ []) e₂ in
-    record {
-      tree = accepted-facts t (both .0);
-      long =
-          eqb-true (length m) (nodeCount t)
-          (not-false (eqb (length m) (nodeCount t))
-          (when-nowhere (not (eqb (length m) (nodeCount t))) (nodeCount t)
-          (passes-first (badMarks (nodeCount t) m) (markRefused t m ∷ pageRefused t m ∷ []) (both .1))));
-      marked = passes-first (markRefused t m) (pageRefused t m ∷ []) e₂;
-      light = passes-first (pageRefused t m) [] e₃;
-    }
-
-pub planned-feasible : {t m : List ℕ} → Planned t m → feasiblePlan t m ≡ true
-unfolding feasiblePlan judgeChecks badMarks markRefused pageRefused acceptedTree passes
-planned-feasible {t} {m} p =
-    passes-append (treeChecks t) (badMarks (nodeCount t) m ∷ markRefused t m ∷ pageRefused t m ∷ [])
-    ∙ and-true (passes (treeChecks t)) (passes (badMarks (nodeCount t) m ∷ markRefused t m ∷ pageRefused t m ∷ []))
-    (facts-accepted t (p .tree))
-    (passes-cons (badMarks (nodeCount t) m) (markRefused t m ∷ pageRefused t m ∷ [])
-    (when-false (not (eqb (length m) (nodeCount t))) (nodeCount t) (ap not (eq-eqb (length m) (nodeCount t) (p .long))))
-    ∙ passes-cons (markRefused t m) (pageRefused t m ∷ []) (p .marked)
-    ∙ passes-cons (pageRefused t m) [] (p .light))
 
 -- ---- The reader's test
 

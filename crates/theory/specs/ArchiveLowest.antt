@@ -80,7 +80,7 @@ module _ {t : List ℕ} (a : AcceptedFacts t) where
   best = bestMarks (limitOf t) (treeOf t)
 
   root-back : rootIn (archiveOf t best) ≡ pageWeight t best 1
-  root-back = archive-root t best (pages-low (a .sound) best (best-judged a .marks))
+  root-back = archive-root t best (pages-low (a .sound) best (best-judged a .marked))
 
   best-on-film : LowestOnFilm t (archiveOf t best) (accepted (verdictOf t best))
   best-on-film =

@@ -55,8 +55,8 @@ all-within K (x ∷ ps) h = (h 1 (omega arith) (omega arith), all-within K ps re
 pub record Judged (t m : List ℕ) : Type 0 where
   pub tree : AcceptedFacts t
   pub long : length m ≡ nodeCount t
-  pub marks : badMark t m ≡ Nowhere
-  pub pages : heavyPage t m ≡ Nowhere
+  pub marked : badMark t m ≡ Nowhere
+  pub light : heavyPage t m ≡ Nowhere
 
 pub feasible-judged : (t m : List ℕ) → feasiblePlan t m ≡ true → Judged t m
 unfolding feasiblePlan judgeChecks acceptedTree badMarks markRefused pageRefused
@@ -73,8 +73,8 @@ feasible-judged t m e =
           (not-false (eqb (length m) (nodeCount t))
           (when-nowhere (not (eqb (length m) (nodeCount t))) (nodeCount t)
           (passes-first (badMarks (nodeCount t) m) (markRefused t m ∷ pageRefused t m ∷ []) (both .1))));
-      marks = passes-first (markRefused t m) (pageRefused t m ∷ []) e₁;
-      pages = passes-first (pageRefused t m) [] e₂;
+      marked = passes-first (markRefused t m) (pageRefused t m ∷ []) e₁;
+      light = passes-first (pageRefused t m) [] e₂;
     }
 
 pub judged-feasible : {t m : List ℕ} → Judged t m → feasiblePlan t m ≡ true
@@ -84,15 +84,15 @@ judged-feasible {t} {m} j =
     ∙ ap (λ b. b && passes (badMarks (nodeCount t) m ∷ markRefused t m ∷ pageRefused t m ∷ [])) tree
     ∙ passes-cons (badMarks (nodeCount t) m) (markRefused t m ∷ pageRefused t m ∷ [])
     (when-false (not (eqb (length m) (nodeCount t))) (nodeCount t) (ap not (eq-eqb (length m) (nodeCount t) (j .long))))
-    ∙ passes-cons (markRefused t m) (pageRefused t m ∷ []) (j .marks)
-    ∙ passes-cons (pageRefused t m) [] (j .pages)
+    ∙ passes-cons (markRefused t m) (pageRefused t m ∷ []) (j .marked)
+    ∙ passes-cons (pageRefused t m) [] (j .light)
   where
     tree : passes (treeChecks t) ≡ true
     tree = facts-accepted t (j .tree)
 
 pub judged-verdict : {t m : List ℕ} → Judged t m → verdictOf t m ≡ Feasible (pageCount t m) (pageWeight t m 1)
 unfolding verdictOf
-judged-verdict {t} {m} j = atPlace-nowhere (badMark t m) _ _ (j .marks) ∙ atPlace-nowhere (heavyPage t m) _ _ (j .pages)
+judged-verdict {t} {m} j = atPlace-nowhere (badMark t m) _ _ (j .marked) ∙ atPlace-nowhere (heavyPage t m) _ _ (j .light)
 
 pub judged-answer : {t m : List ℕ} → Judged t m → judgePlan t m ≡ accepted (Feasible (pageCount t m) (pageWeight t m 1))
 unfolding judgePlan feasiblePlan
@@ -123,27 +123,18 @@ module _ {t : List ℕ} (s : SoundFacts t) (m : List ℕ) (long : length m ≡ n
         (within-all (limitOf t) (weighed (treeOf t) m .pages) h p low (omega (arith, count-bridge s m long ok))))),
   )
 
-  pub verdict-bridge : badMark t m ≡ Nowhere → heavyPage t m ≡ Nowhere
-      → verdictOf t m ≡ Feasible (length (weighed (treeOf t) m .pages)) (getD (weighed (treeOf t) m .pages) 0 0)
-  unfolding verdictOf
-  verdict-bridge e e′ =
-      let ok : allowed false (treeOf t) m ≡ true = marks-bridge s m long .0 e .1 in
-      atPlace-nowhere (badMark t m) _ _ e
-      ∙ atPlace-nowhere (heavyPage t m) _ _ e′
-      ∙ rw (count-bridge s m long ok, weight-bridge s m long ok 1 (omega arith))
-
 module _ {t : List ℕ} (a : AcceptedFacts t) (m : List ℕ) (long : length m ≡ nodeCount t) where
   -- the judge finds nothing: a plan by shape
   pub judged-bridge : Judged t m ↔ ShapePlan t m
   judged-bridge = (
     λ j.
-        let both = marks-bridge (a .sound) m long .0 (j .marks) in
-        record { first = both .0; allows = both .1; within = heavy-bridge (a .sound) m long (both .1) .0 (j .pages) },
+        let both = marks-bridge (a .sound) m long .0 (j .marked) in
+        record { first = both .0; allows = both .1; within = heavy-bridge (a .sound) m long (both .1) .0 (j .light) },
     λ p. record {
       tree = a;
       long = long;
-      marks = marks-bridge (a .sound) m long .1 (p .first, p .allows);
-      pages = heavy-bridge (a .sound) m long (p .allows) .1 (p .within);
+      marked = marks-bridge (a .sound) m long .1 (p .first, p .allows);
+      light = heavy-bridge (a .sound) m long (p .allows) .1 (p .within);
     },
   )
 
@@ -154,7 +145,8 @@ module _ {t : List ℕ} (a : AcceptedFacts t) (m : List ℕ) (long : length m �
       → judgePlan t m ≡ accepted (Feasible (length (weighed (treeOf t) m .pages)) (getD (weighed (treeOf t) m .pages) 0 0))
   judge-bridge p =
       let j : Judged t m = judged-bridge .1 p in
-      judged-answer j ∙ ap accepted (sym (judged-verdict j) ∙ verdict-bridge (a .sound) m long (j .marks) (j .pages))
+      judged-answer j
+      ∙ rw (count-bridge (a .sound) m long (p .allows), weight-bridge (a .sound) m long (p .allows) 1 (omega arith))
 
 -- what the judge says of a plan by shape
 pub shape-feasible : {t : List ℕ} → AcceptedFacts t → (m : List ℕ) (root : ℕ) → FeasibleShape (limitOf t) (treeOf t) m root

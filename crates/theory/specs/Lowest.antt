@@ -139,16 +139,16 @@ module _ {t : List ℕ} (a : AcceptedFacts t) where
   pub best-lowest : Lowest t (pageCount t best) (pageWeight t best 1) (runsOf t best)
   best-lowest =
       let b = best-judged in
-      let r : PlanRuns t best = plan-runs (a .sound) best (b .marks) in
+      let r : PlanRuns t best = plan-runs (a .sound) best (b .marked) in
       record {
         least =
             λ qs h w.
             let q : RunsPlan t qs = runs-plan (a .sound) qs h in
-            let j : Judged t (q .marks) = record { tree = a; long = q .long; marks = q .good; pages = q .limit .1 w } in
+            let j : Judged t (q .marks) = record { tree = a; long = q .long; marked = q .good; light = q .limit .1 w } in
             let n = best-least-plan (q .marks) j in
             (omega (arith, n .0, q .count), λ e. omega (arith, n .1 (q .count ∙ e), q .root));
         held = r .held;
-        within = r .limit .1 (b .pages);
+        within = r .limit .1 (b .light);
         count = r .count;
         root = r .root;
       }
