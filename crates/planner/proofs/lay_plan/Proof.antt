@@ -1,5 +1,7 @@
 -- `planner::lay_plan` meets its contract. Assumes nothing.
-use mathlib.Core.Path.{sym, ap, _∙_}
+use mathlib.Core.Path.{_≡_, sym, ap, _∙_}
+use mathlib.Core.List.{List}
+use Prim.Native.Nat.{ℕ}
 use denote.Ref.{now}
 use Rattle.model.specs.Table.{limitOf, treeOf}
 use Rattle.model.specs.Steps.{bestMarks, levelMarks}
@@ -8,6 +10,10 @@ use Rattle.planner.specs.Outcome.{stepsOf}
 use borrow.Author.Needs.{needs}
 use Rattle.planner.proofs.lay_plan.Statement.{statement}
 use Rattle.planner.proofs.lay_plan.Tie as tie
+
+-- the steps of the planner that was told
+by-steps : (t : List ℕ) {m : List ℕ} {p q : Planner} → p ≡ q → m ≡ stepsOf q (limitOf t) (treeOf t) → m ≡ stepsOf p (limitOf t) (treeOf t)
+by-steps t e h = h ∙ sym (ap (λ (p : Planner). stepsOf p (limitOf t) (treeOf t)) e)
 
 enum-told : tie.Need-enum-told
 enum-told c = search needs
@@ -44,8 +50,7 @@ unfolding bestMarks
 returns c =
     let l = c .before .before .before .before in
     let e = l .before .before .before in
-    let t = now (e .before .before .before .before .before .args .table) in
-    l .lay-best .ensures ∙ sym (ap (λ (p : Planner). stepsOf p (limitOf t) (treeOf t)) (e .enum-told .given .1))
+    by-steps (now (e .before .before .before .before .before .args .table)) (e .enum-told .given .1) (l .lay-best .ensures)
 
 same-length-3 : tie.Need-same-length-3
 same-length-3 c = search needs
@@ -58,8 +63,7 @@ unfolding levelMarks
 returns-2 c =
     let l = c .before .before .before .before in
     let e = l .before .before .before in
-    let t = now (e .before .before .before .before .before .args .table) in
-    l .lay-best2 .ensures ∙ sym (ap (λ (p : Planner). stepsOf p (limitOf t) (treeOf t)) (e .enum-told2 .given .1))
+    by-steps (now (e .before .before .before .before .before .args .table)) (e .enum-told2 .given .1) (l .lay-best2 .ensures)
 
 same-length-5 : tie.Need-same-length-5
 same-length-5 c = search needs
@@ -71,8 +75,7 @@ returns-3 : tie.Need-returns-3
 returns-3 c =
     let l = c .before .before .before .before in
     let e = l .before .before .before in
-    let t = now (e .before .before .before .before .before .args .table) in
-    l .lay-single .ensures ∙ sym (ap (λ (p : Planner). stepsOf p (limitOf t) (treeOf t)) (e .enum-told3 .given .1))
+    by-steps (now (e .before .before .before .before .before .args .table)) (e .enum-told3 .given .1) (l .lay-single .ensures)
 
 same-length-7 : tie.Need-same-length-7
 same-length-7 c = search needs
@@ -84,8 +87,7 @@ returns-4 : tie.Need-returns-4
 returns-4 c =
     let l = c .before .before .before .before in
     let e = l .before .before .before in
-    let t = now (e .before .before .before .before .before .args .table) in
-    l .lay-pair .ensures ∙ sym (ap (λ (p : Planner). stepsOf p (limitOf t) (treeOf t)) (e .enum-told4 .given .1))
+    by-steps (now (e .before .before .before .before .before .args .table)) (e .enum-told4 .given .1) (l .lay-pair .ensures)
 
 pub lay-plan-spec : {M : Type 1} → statement M
 lay-plan-spec =
