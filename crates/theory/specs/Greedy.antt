@@ -1,96 +1,36 @@
--- What `reduce` makes of a list of members: it takes the largest gains first, so whatever choice of gains brings the sum of the rests
+-- What `reduce` makes of the members of a run: it takes the largest gains first, so whatever choice of gains brings the sum of the rests
 -- down to the room, `reduce` does too, and takes no more of them.
 -- Defines Offers (what a child offers), Picked (an offer of each member of a run) and Offered (what a run's members are reduced to).
 -- Proves reduce-least and reduce-offered. Assumes nothing.
-use Prim.Native.Nat.{ℕ, zero, suc, _+_, _-_, _≤_, _<_, max}
+use Prim.Native.Nat.{ℕ, zero, suc, _+_, _-_, _≤_, max}
 use mathlib.Core.Path.{_≡_, refl, subst}
-use mathlib.Core.Bool.{Bool, true, false, _||_}
+use mathlib.Core.Bool.{Bool, true, false}
 use mathlib.Core.List.{List, [], _∷_, map}
+use mathlib.Core.Logic.{_⊎_, inl, inr}
 use native.Mathlib.Nat.{le-max-left, le-max-right}
 use native.Mathlib.Omega.{arith}
 use lib.ListN.{length}
-use lib.Dec.{eqb, leb}
-use borrow.Author.Tests.{leb-true, leb-false, eqb-true, eqb-false}
 use Rattle.model.specs.Basics.{pick}
-use Rattle.model.specs.Steps.{
-  Member,
-  restSum,
-  takenCount,
-  largestGain,
-  takeEarliest,
-  reduceFrom,
-  reduce,
-  Child,
-  asMember,
-  runOf,
-}
-
--- ---- One turn: the gain g is taken off the earliest member that has it
-
-data Takes (g : ℕ) : List Member → List Member → Type 0 where
-  nobody : Takes g [] []
-  here : {m : Member} {ms : List Member} → m .gain ≡ g → Takes g (m ∷ ms) (record { rest = m .rest - g; gain = 0; taken = true } ∷ ms)
-  there : {m : Member} {ms ns : List Member} → (m .gain ≡ g → ⊥) → Takes g ms ns → Takes g (m ∷ ms) (m ∷ ns)
-
-takes : (g : ℕ) (ms : List Member) → Takes g ms (takeEarliest g ms)
-unfolding takeEarliest pick
-takes g [] = nobody
-takes g (m ∷ ms) = turn (eqb (m .gain) g) refl (takes g ms)
-  where
-    turn : (b : Bool)
-        → eqb (m .gain) g ≡ b
-        → Takes g ms (takeEarliest g ms)
-        → Takes g (m ∷ ms) (pick b (record { rest = m .rest - g; gain = 0; taken = true } ∷ ms) (m ∷ takeEarliest g ms))
-    turn true e t = here (eqb-true (m .gain) g e)
-    turn false e t = there (eqb-false (m .gain) g e) t
-
--- every gain is part of its rest
-abbrev Sane : List Member → Type 0
-Sane [] = Unit {0}
-Sane (m ∷ ms) = (m .gain ≤ m .rest) × Sane ms
+use Rattle.model.specs.Steps.{Member, restSum, takenCount, largestGain, takeEarliest, reduceFrom, reduce, Child, asMember, runOf}
+use Rattle.theory.specs.Reduce.{Each, Earliest, here, there, Turns, Done, turns?, reduceFrom-stop, reduceFrom-turn, reduce-keeps}
+use Rattle.theory.specs.ReduceCount.{largest-earliest, Sound, asMember-sound, earliest-sound, earliest-rest, earliest-taken}
 
 -- no gain is above g
 abbrev GainsWithin : ℕ → List Member → Type 0
-GainsWithin g [] = Unit {0}
-GainsWithin g (m ∷ ms) = (m .gain ≤ g) × GainsWithin g ms
+GainsWithin g = Each (λ m. m .gain ≤ g)
 
 gains-within-more : (g h : ℕ) (ms : List Member) → g ≤ h → GainsWithin g ms → GainsWithin h ms
+unfolding Each
 gains-within-more g h [] l w = tt
-gains-within-more g h (m ∷ ms) l w = (omega arith, gains-within-more g h ms l (w .1))
+gains-within-more g h (m ∷ ms) l w = (omega (arith, w .0), gains-within-more g h ms l (w .1))
 
 gains-within-largest : (ms : List Member) → GainsWithin (largestGain ms) ms
-unfolding largestGain
+unfolding Each largestGain
 gains-within-largest [] = tt
 gains-within-largest (m ∷ ms) = (
   le-max-left (m .gain) (largestGain ms),
   gains-within-more (largestGain ms) (max (m .gain) (largestGain ms)) ms (le-max-right (m .gain) (largestGain ms)) (gains-within-largest ms),
 )
-
-takes-sane : {g : ℕ} {ms ns : List Member} → Takes g ms ns → Sane ms → Sane ns
-takes-sane nobody s = tt
-takes-sane (here e) s = (omega arith, s .1)
-takes-sane (there n t) s = (s .0, takes-sane t (s .1))
-
--- the rests weigh g less, if g is the largest gain
-takes-rest : {g : ℕ} {ms ns : List Member}
-    → Takes g ms ns
-    → Sane ms
-    → GainsWithin g ms
-    → 1 ≤ g
-    → g ≤ largestGain ms
-    → restSum ns + g ≡ restSum ms
-unfolding restSum largestGain
-takes-rest nobody s w p l = omega arith
-takes-rest (here e) s w p l = omega arith
-takes-rest {g} (there {m = m} {ms = ms} n t) s w p l =
-    let q : g ≤ largestGain ms = omega arith in
-    omega (arith, takes-rest t (s .1) (w .1) p q)
-
-takes-count : {g : ℕ} {ms ns : List Member} → Takes g ms ns → takenCount ns ≤ takenCount ms + 1
-unfolding takenCount pick
-takes-count nobody = omega arith
-takes-count (here e) = omega arith
-takes-count (there n t) = omega (arith, takes-count t)
 
 -- ---- A choice of m members, whose gains sum to t
 
@@ -133,13 +73,14 @@ fewer-head {ms} {m′ = m′} {t′ = t′} {n} e f h q c =
 
 -- leaving one chosen member
 drop-one : {ms : List Member} {g m t : ℕ} → Chosen ms m t → (n : ℕ) → m ≡ suc n → GainsWithin g ms → Fewer ms g n t
+unfolding Each
 drop-one (nobody e f) n q w = absurd (omega arith)
 drop-one (leave c) n q w = fewer-leave (drop-one c n q (w .1))
 drop-one (choose e f c) n q w = fewer-leave (fewer-head e f (w .0) q c)
 
 -- leaving the member whose gain is taken, or else another
-exchange : {ms ns : List Member} {g m t : ℕ} → Takes g ms ns → Chosen ms m t → (n : ℕ) → m ≡ suc n → GainsWithin g ms → Fewer ns g n t
-exchange nobody c n q w = drop-one c n q w
+exchange : {ms ns : List Member} {g m t : ℕ} → Earliest g ms ns → Chosen ms m t → (n : ℕ) → m ≡ suc n → GainsWithin g ms → Fewer ns g n t
+unfolding Each
 exchange (here e) (leave c) n q w = fewer-leave (drop-one c n q (w .1))
 exchange (here e) (choose e₁ f c) n q w = fewer-leave (fewer-head e₁ f (w .0) q c)
 exchange (there d k) (leave c) n q w = fewer-leave (exchange k c n q (w .1))
@@ -149,63 +90,41 @@ exchange (there d k) (choose e₁ f c) (suc n) q w = rw f (fewer-choose (exchang
 
 -- ---- All turns
 
-data Reduces (room : ℕ) : ℕ → List Member → List Member → Type 0 where
-  ended : {ms : List Member} → Reduces room 0 ms ms
-  fits : {f : ℕ} {ms : List Member} → restSum ms ≤ room → Reduces room (suc f) ms ms
-  bare : {f : ℕ} {ms : List Member} → largestGain ms ≡ 0 → Reduces room (suc f) ms ms
-  turn : {f : ℕ} {ms ns : List Member}
-      → room < restSum ms
-      → 1 ≤ largestGain ms
-      → Reduces room f (takeEarliest (largestGain ms) ms) ns
-      → Reduces room (suc f) ms ns
-
-reduces : (f room : ℕ) (ms : List Member) → Reduces room f ms (reduceFrom f room ms)
-unfolding reduceFrom pick
-reduces zero room ms = ended
-reduces (suc f) room ms =
-    step (leb (restSum ms) room) refl (eqb (largestGain ms) 0) refl (reduces f room (takeEarliest (largestGain ms) ms))
-  where
-    step : (a : Bool)
-        → leb (restSum ms) room ≡ a
-        → (b : Bool)
-        → eqb (largestGain ms) 0 ≡ b
-        → Reduces room f (takeEarliest (largestGain ms) ms) (reduceFrom f room (takeEarliest (largestGain ms) ms))
-        → Reduces room (suc f) ms (pick (a || b) ms (reduceFrom f room (takeEarliest (largestGain ms) ms)))
-    step true p b q r = fits (leb-true (restSum ms) room p)
-    step false p true q r = bare (eqb-true (largestGain ms) 0 q)
-    step false p false q r =
-        let h : largestGain ms ≡ 0 → ⊥ = eqb-false (largestGain ms) 0 q in
-        turn (leb-false (restSum ms) room p) (omega arith) r
-
 chosen-bare : {ms : List Member} {m t : ℕ} → Chosen ms m t → GainsWithin 0 ms → t ≡ 0
+unfolding Each
 chosen-bare (nobody e f) w = f
 chosen-bare (leave c) w = chosen-bare c (w .1)
-chosen-bare (choose e f c) w = omega (arith, chosen-bare c (w .1))
+chosen-bare (choose e f c) w = omega (arith, chosen-bare c (w .1), w .0)
 
 record Enough (room m : ℕ) (ms ns : List Member) : Type 0 where
   within : restSum ns ≤ room
   fewest : takenCount ns ≤ takenCount ms + m
 
-reduces-least : {room f m t : ℕ} {ms ns : List Member}
-    → Reduces room f ms ns
-    → Sane ms
-    → Chosen ms m t
-    → m ≤ f
-    → restSum ms ≤ room + t
-    → Enough room m ms ns
-reduces-least ended s c l h = record { within = omega (arith, chosen-zero c (omega arith)); fewest = omega arith }
-reduces-least (fits e) s c l h = record { within = e; fewest = omega arith }
-reduces-least (bare {ms = ms} e) s c l h =
-    record { within = omega (arith, chosen-bare c (rw e at (gains-within-largest ms))); fewest = omega arith }
-reduces-least {m = zero} (turn o p r) s c l h = absurd (omega (arith, chosen-zero c refl))
-reduces-least {m = suc m} (turn {ms = ms} {ns = ns} o p r) s c l h =
-    let g : ℕ = largestGain ms in
-    let k : Takes g ms (takeEarliest g ms) = takes g ms in
-    let w : GainsWithin g ms = gains-within-largest ms in
-    let less : Fewer (takeEarliest g ms) g m _ = exchange k c m refl w in
-    let sum : restSum (takeEarliest g ms) + g ≡ restSum ms = takes-rest k s w p (omega arith) in
-    let rec : Enough _ m (takeEarliest g ms) ns = reduces-least r (takes-sane k s) (less .fewer) (omega arith) (omega (arith, less .loses)) in
-    record { within = rec .within; fewest = omega (arith, rec .fewest, takes-count k) }
+reduceFrom-least : (f room : ℕ) (ms : List Member) (m t : ℕ) → Each Sound ms → Chosen ms m t → m ≤ f → restSum ms ≤ room + t
+    → Enough room m ms (reduceFrom f room ms)
+unfolding reduceFrom
+reduceFrom-least zero room ms m t s c l h = record { within = omega (arith, chosen-zero c (omega arith)); fewest = omega arith }
+reduceFrom-least (suc f) room ms m t s c l h = go (turns? room ms) m c l h (reduceFrom-least f room ns)
+  where
+    ns : List Member
+    ns = takeEarliest (largestGain ms) ms
+
+    go : Done room ms ⊎ Turns room ms → (m : ℕ) → Chosen ms m t → m ≤ suc f → restSum ms ≤ room + t
+        → ((n u : ℕ) → Each Sound ns → Chosen ns n u → n ≤ f → restSum ns ≤ room + u → Enough room n ns (reduceFrom f room ns))
+        → Enough room m ms (reduceFrom (suc f) room ms)
+    go (inl (inl e)) m c l h ih = rw (reduceFrom-stop (suc f) room ms (inl e)) (record { within = e; fewest = omega arith })
+    go (inl (inr e)) m c l h ih =
+        rw (reduceFrom-stop (suc f) room ms (inr e))
+        (record { within = omega (arith, chosen-bare c (rw e at (gains-within-largest ms))); fewest = omega arith })
+    go (inr x) zero c l h ih = absurd (omega (arith, chosen-zero c refl, x .over))
+    go (inr x) (suc n) c l h ih =
+        let k : Earliest (largestGain ms) ms ns = largest-earliest ms (x .some) in
+        let less : Fewer ns (largestGain ms) n t = exchange k c n refl (gains-within-largest ms) in
+        let sum : restSum ns + largestGain ms ≡ restSum ms = earliest-rest k s in
+        let rest : Enough room n ns (reduceFrom f room ns) =
+        ih n (less .sum) (earliest-sound k s) (less .fewer) (omega arith) (omega (arith, less .loses)) in
+        rw (reduceFrom-turn f room ms x)
+        (record { within = rest .within; fewest = omega (arith, rest .fewest, earliest-taken (x .some) k s) })
 
 -- ---- The members of a run
 
@@ -246,10 +165,10 @@ picked-chosen (pickedOne {k = k} {run = run} (second e₁ l f₁) e f p) =
     let t : Translated run _ _ = picked-chosen p in
     record { count = suc (t .count); sum = t .sum + k .gain; chosen = choose refl refl (t .chosen); same = omega arith; total = omega arith }
 
-run-sane : (run : List Child) → Gainful run → Sane (map asMember run)
-unfolding asMember
-run-sane [] g = tt
-run-sane (k ∷ run) g = (g .0, run-sane run (g .1))
+run-sound : (run : List Child) → Gainful run → Each Sound (map asMember run)
+unfolding Each
+run-sound [] g = tt
+run-sound (k ∷ run) g = (asMember-sound k (g .0), run-sound run (g .1))
 
 run-untaken : (run : List Child) → takenCount (map asMember run) ≡ 0
 unfolding takenCount asMember pick
@@ -267,8 +186,7 @@ reduce-least {room} {m} {z} {run} g p l =
     let t : Translated run m z = picked-chosen p in
     let ms : List Member = map asMember run in
     let r : Enough room (t .count) ms (reduceFrom (length ms) room ms) =
-    reduces-least (reduces (length ms) room ms) (run-sane run g) (t .chosen) (chosen-count (t .chosen)) (omega arith)
-    in
+    reduceFrom-least (length ms) room ms (t .count) (t .sum) (run-sound run g) (t .chosen) (chosen-count (t .chosen)) (omega arith) in
     record { within = r .within; fewest = omega (arith, run-untaken run, r .fewest) }
 
 -- what a run's members may be reduced to: each as it was, or with its second plan
@@ -293,30 +211,14 @@ unfolding asMember
 reduced-run [] = nobody
 reduced-run (k ∷ run) = whole refl refl refl (reduced-run run)
 
-reduced-takes : {g : ℕ} {run : List Child} {ms ns : List Member}
-    → Takes g ms ns
-    → Gainful run
-    → 1 ≤ g
-    → Reduced run ms
-    → Reduced run ns
-reduced-takes nobody g p nobody = nobody
-reduced-takes {g = v} (here {m = m} e) g p (whole {k = k} a b c r) =
+reduced-turn : {g : ℕ} {run : List Child} {ms ns : List Member} → Earliest g ms ns → Gainful run → 1 ≤ g → Reduced run ms → Reduced run ns
+reduced-turn {g = v} (here {m = m} e) g p (whole {k = k} a b c r) =
     let q : m .rest - v + k .gain ≡ k .rest = omega arith in
     let l : 1 ≤ k .gain = omega arith in
     less q l refl refl r
-reduced-takes (here e) g p (less a b c d r) = absurd (omega arith)
-reduced-takes (there n t) g p (whole a b c r) = whole a b c (reduced-takes t (g .1) p r)
-reduced-takes (there n t) g p (less a b c d r) = less a b c d (reduced-takes t (g .1) p r)
-
-reduced-reduces : {room f : ℕ} {run : List Child} {ms ns : List Member}
-    → Reduces room f ms ns
-    → Gainful run
-    → Reduced run ms
-    → Reduced run ns
-reduced-reduces ended g r = r
-reduced-reduces (fits e) g r = r
-reduced-reduces (bare e) g r = r
-reduced-reduces (turn {ms = ms} o p k) g r = reduced-reduces k g (reduced-takes (takes (largestGain ms) ms) g p r)
+reduced-turn (here e) g p (less a b c d r) = absurd (omega arith)
+reduced-turn (there n t) g p (whole a b c r) = whole a b c (reduced-turn t (g .1) p r)
+reduced-turn (there n t) g p (less a b c d r) = less a b c d (reduced-turn t (g .1) p r)
 
 -- each member of a reduced run follows what its child offers
 pub data Offered : List Child → List Member → Type 0 where
@@ -333,6 +235,7 @@ reduced-offered (whole {k = k} {m = m} a b c r) = offeredOne {k = k} {m = m} (rw
 reduced-offered (less {k = k} {m = m} a b c d r) = offeredOne {k = k} {m = m} (rw d (second refl b a)) (reduced-offered r)
 
 pub reduce-offered : (room : ℕ) (run : List Child) → Gainful run → Offered run (runOf room run)
-unfolding runOf reduce
+unfolding runOf
 reduce-offered room run g =
-    reduced-offered (reduced-reduces (reduces (length (map asMember run)) room (map asMember run)) g (reduced-run run))
+    reduced-offered
+    (reduce-keeps room (Reduced run) (λ xs ys x r c. reduced-turn r g (x .some) c) (map asMember run) (reduced-run run))
