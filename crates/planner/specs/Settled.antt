@@ -1,6 +1,6 @@
 -- The single planner settles the nodes from the last to the first: each cuts children and keeps its own remainder.
 -- Defines Fresh (the siblings of a chain keep their remainders, and all below them is laid), Settled (what settling a node does), Down
--- (nodes settled one after the other). Proves down-fresh, down-plan. Assumes nothing.
+-- (nodes settled one after the other). Proves down-done, down-kids, down-plan. Assumes nothing.
 use Prim.Native.Nat.{ℕ, suc, _+_, _-_, _≤_, _<_}
 use native.Mathlib.Omega.{arith}
 use mathlib.Core.Path.{_≡_, refl, sym, _∙_, ap}

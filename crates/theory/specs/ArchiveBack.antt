@@ -1,6 +1,6 @@
 -- Writing and reading back. The archive of an accepted tree and a feasible plan tells that very table and those very marks, so it
 -- passes the reader's test; an archive that passes the test is written by the tree and the plan that it tells, and so by some.
--- Defines Planned, tableRow. Assumes nothing.
+-- Defines tableRow. Proves write-read, read-write, archive-exact. Assumes nothing.
 use Prim.Native.Nat.{ℕ, zero, suc, _+_, _-_, _*_, _/_, _%_, _≤_, _<_}
 use native.Mathlib.Omega.{arith}
 use mathlib.Core.Bool.{Bool, true, false, _&&_, false≢true}

@@ -1,7 +1,6 @@
 -- Demand 3 read off the archive's bytes: where an archive is what the writer gives for a table and the marks of the best planner, the
 -- page count, the weight in page record 1 and the runs in its page records are the lowest there are.
--- Defines runsIn, rootIn, LowestOnFilm. Proves archive-runs and archive-root (they are the plan's), film-lowest, and film-answer (the
--- writer's answer is the planner's). Assumes nothing.
+-- Defines runsIn, rootIn, LowestOnFilm. Proves archive-runs and archive-root (they are the plan's), film-lowest. Assumes nothing.
 use Prim.Native.Nat.{ℕ, suc, _≤_, _<_}
 use native.Mathlib.Omega.{arith}
 use mathlib.Core.Path.{_≡_, sym, _∙_, ap, ap₂}

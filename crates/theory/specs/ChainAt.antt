@@ -1,6 +1,6 @@
 -- The chain that starts at a node of a table, by the node's number.
--- Defines chainAt, NodeAt (a node, the chain of its children and that of the siblings after it, with their numbers). Proves chain-none,
--- chain-tree, node-at (each node of a table of sound form is so) and chain-within. Assumes nothing.
+-- Defines chainAt, NodeAt (a node, the chain of its children and that of the siblings after it, with their numbers). Proves chain-is,
+-- chain-none, node-at (each node of a table of sound form is so), next-smaller and link-within. Assumes nothing.
 use Prim.Native.Nat.{ℕ, suc, _≤_, _<_}
 use native.Mathlib.Omega.{arith}
 use mathlib.Core.Path.{_≡_, sym, _∙_, ap₂}

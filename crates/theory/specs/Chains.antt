@@ -1,7 +1,6 @@
 -- The chain of siblings after a node. `Reach t P u v` says: v is u, or comes after it by links to siblings that each satisfy P;
--- `After t u v` asks nothing of them. In a table of sound form it is what `comesAfter` tests, however many links that may follow:
--- a partial order on the nodes, by number, total on the nodes after a common one and on those before a common one, and all
--- nodes of a chain have one parent. Assumes nothing.
+-- `After t u v` asks nothing of them. In a table of sound form it is what `comesAfter` tests; it goes by number, two nodes after one or
+-- before one are in one order, and all nodes of a chain have one parent. Defines Reach, After, Before. Assumes nothing.
 use Prim.Native.Nat.{ℕ, zero, suc, _+_, _≤_, _<_}
 use native.Mathlib.Omega.{arith}
 use mathlib.Core.Bool.{Bool, true, false, not, _&&_, _||_}

@@ -1,5 +1,6 @@
--- Lists of checks, one after the other: what an answer tells of the checks before it.
--- Defines headChecks, Numbered. Assumes nothing.
+-- Lists of checks, one after the other: what an answer tells of the checks before it; and each entry's checks have numbers above 0.
+-- Defines headChecks, lentChecks, HasNumbers, nodeChecks, headAnswer. Proves firstOf-pass, firstOf-stop, firstOf-all, accepted-pass; the
+-- numbers of each entry (form-numbers to read-numbers); head-refuses, head-goes-on, head-count. Assumes nothing.
 use mathlib.Core.Path.{_≡_, refl, sym, ap, ap₂, _∙_}
 use mathlib.Core.Bool.{true, false, false≢true}
 use mathlib.Core.List.{List, [], _∷_, _++_}

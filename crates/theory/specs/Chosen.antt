@@ -1,6 +1,6 @@
 -- The numbers of 1 to n that pass a test, by their rank: how many pass up to each, which is the first, second, .., and the list of
 -- what is made of each of them.
--- Defines Ranked, chosen. Assumes nothing.
+-- Defines Ranked, chosen. Proves ranked, ranked-one, countTo-only, length-chosen, getD-chosen. Assumes nothing.
 use Prim.Native.Nat.{ℕ, zero, suc, _≤_, _<_}
 use native.Mathlib.Omega.{arith}
 use mathlib.Core.Bool.{Bool, true, false, true≢false}

@@ -1,7 +1,7 @@
 -- Feasible plans by number and by shape: the judge finds nothing just where node 1 has mark 1, the marks of the tree are allowed and
 -- every page by shape is within the limit; the verdict is then the number of those pages and the weight of the first.
--- Defines Judged, ShapePlan. Proves feasible-judged, judged-feasible, judged-verdict, judged-answer; heavy-bridge, verdict-bridge,
--- judged-bridge, feasible-bridge, judge-bridge; feasible-shape and shape-feasible (with FeasibleShape). Assumes nothing.
+-- Defines Judged, ShapePlan. Proves feasible-judged, judged-feasible, judged-verdict, judged-answer; heavy-bridge, judged-bridge,
+-- feasible-bridge, judge-bridge; shape-feasible (from FeasibleShape). Assumes nothing.
 use Prim.Native.Nat.{ℕ, zero, suc, _-_, _≤_}
 use native.Mathlib.Omega.{arith}
 use mathlib.Core.Bool.{true, false, not, _&&_}

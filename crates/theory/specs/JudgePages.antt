@@ -1,5 +1,5 @@
 -- The page and the parent of a node by one step back, with no bound on the steps: what a pass over the nodes in their order computes.
--- Assumes nothing.
+-- Defines stepBack. Proves pageOf-none, pageOf-step, pageOf-le, parentAt-step; and sumTo-most (a bound of a sum). Assumes nothing.
 use Prim.Native.Nat.{ℕ, zero, suc, _-_, _*_, _≤_, _<_}
 use native.Mathlib.Omega.{arith}
 use mathlib.Core.Bool.{Bool, true, false}

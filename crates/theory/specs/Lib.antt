@@ -1,40 +1,42 @@
--- Laws about the definitions of document 01.
--- Numbers 1 to n, checks, tables of sound form
+-- Laws about the definitions of document 01, each file after those that it rests on.
+-- Numbers 1 to n, and lists of them
 pub mod Ranges
 pub mod Sums
-pub mod Checks
+pub mod Chosen
+-- Checks, and tables of sound form: facts, numbering, links, siblings, bytes
 pub mod Sound
+pub mod Checks
+pub mod Shape
 pub mod Numbered
 pub mod Links
 pub mod ChainAt
+pub mod Chains
 pub mod Siblings
 pub mod Encode
--- Plans by number and by shape
-pub mod Shape
+-- Plans by number: pages and the judge's answer
+pub mod JudgePages
 pub mod Pages
+pub mod Judged
+-- Plans by shape, and that both say the same
 pub mod Marks
 pub mod Bridge
-pub mod Feasible
-pub mod JudgePages
-pub mod Judged
 pub mod NodeMarks
 pub mod Laid
-pub mod Chosen
-pub mod RunMarks
--- The archive
-pub mod ArchiveWords
-pub mod ArchiveBack
-pub mod ArchiveAnswers
--- Sequences of sibling runs
-pub mod Chains
+pub mod Feasible
+-- Sequences of sibling runs, the runs of a plan and the plan of runs
 pub mod Listed
 pub mod RunLists
 pub mod SameRuns
 pub mod MarkedRuns
+pub mod RunMarks
 pub mod RunsOfPlan
 pub mod PlanOfRuns
 pub mod Held
--- Single and pair
+-- The archive
+pub mod ArchiveWords
+pub mod ArchiveBack
+pub mod ArchiveAnswers
+-- Gains taken off; single and pair
 pub mod Reduce
 pub mod ReduceCount
 pub mod ReduceLevel

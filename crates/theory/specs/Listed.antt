@@ -1,5 +1,5 @@
 -- Tests and counts over lists, and over the list of what is made of each of 1 to n that passes a test: which elements it has, and what
--- is counted in it. Defines Mem, From. Assumes nothing.
+-- is counted in it. Defines Mem, From. Proves every-all, all-every, countOf-one, chosen-from, chosen-mem, countOf-chosen. Assumes nothing.
 use Prim.Native.Nat.{ℕ, zero, suc, _+_, _≤_}
 use native.Mathlib.Omega.{arith}
 use mathlib.Core.Bool.{Bool, true, false, _&&_, true≢false}

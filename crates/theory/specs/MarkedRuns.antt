@@ -1,6 +1,6 @@
 -- The run that goes from a node by the marks: the node, and the siblings after it that continue the run. It stops at runLast, its
--- members are the nodes that it goes to, and no two nodes that begin a run go to the same one.
--- Defines Goes, Ends, runAt. Assumes nothing.
+-- members are the nodes that it goes to, no two nodes that begin a run go to the same one, and each node in a run has a first node.
+-- Defines Goes, Ends, runAt, Headed. Proves length-runsOf, runLast-ends, goes-member, member-goes, goes-one, headed. Assumes nothing.
 use Prim.Native.Nat.{ℕ, zero, suc, _+_, _≤_, _<_}
 use native.Mathlib.Omega.{arith}
 use mathlib.Core.Bool.{Bool, true, false, not, _&&_, _||_, true≢false, false≢true}

@@ -1,7 +1,7 @@
--- Pages by number: what page a node is on, step by step, and what the pages are where no mark is bad.
--- Proves pageOf-begins, pageOf-continues, pageOf-stays (a node by its mark); with no bad mark page-low, page-early, page-high,
--- page-root, page-first (a node that begins a run is the first of its page), page-begun, page-one (each page is begun by one node)
--- and pages-weigh (every node is on one page). Assumes nothing.
+-- Pages by number: the page of a node by its mark, the marks that are good, and what the pages are where no mark is bad.
+-- Proves pageOf-begins, pageOf-continues, pageOf-stays; good-first, good-later, good-continues, good-after; with no bad mark page-low,
+-- page-early, page-high, page-root, page-first (a node that begins a run is the first of its page), page-begun, page-one (each page is
+-- begun by one node) and pages-weigh (every node is on one page, so their weights sum to the tree's). Assumes nothing.
 use Prim.Native.Nat.{ℕ, zero, suc, _≤_, _<_}
 use native.Mathlib.Omega.{arith}
 use mathlib.Core.Bool.{Bool, true, false, not, _&&_, _||_, true≢false}

@@ -1,7 +1,6 @@
 -- The plan of the pair planner is feasible, by shape: the remainders of the two-way tree are the weights of pages.
 -- Proves sides-sum (what a node keeps of its two sides), remainder-fits, pair-laid (a chain that is uncut leaves its remainder to the
--- parent's page, or to the run that it continues, and a cut one leaves nothing), pair-page (the page that a cut node begins weighs
--- the remainder of the chain that starts at it), and pair-feasible (the plan of a tree). Assumes nothing.
+-- parent's page, or to the run that it continues, and a cut one leaves nothing) and pair-feasible (the plan of a tree). Assumes nothing.
 use Prim.Native.Nat.{ℕ, _+_, _-_, _≤_}
 use mathlib.Core.Path.{_≡_, refl}
 use mathlib.Core.Bool.{Bool, true, false}

@@ -1,6 +1,6 @@
 -- Demand 3 as the best planner's entry promises it, from its answer and the marks that it leaves.
--- Defines BestPromise. Proves best-promise, and plan-passes (a planner that answers 0 was lent an accepted tree and right buffers).
--- Assumes nothing.
+-- Defines BestPromise. Proves best-promise; plan-parts and plan-passes (a planner that answers 0 was lent an accepted tree and right
+-- buffers); planned-made, planned-judged, planned-refused (what a planner leaves). Assumes nothing.
 use Prim.Native.Nat.{ℕ}
 use mathlib.Core.Path.{_≡_, sym, ap, _∙_}
 use mathlib.Core.Bool.{true, false, true≢false}

@@ -1,9 +1,7 @@
 -- Laws of `reduce`, which takes gains off members, the largest first, until their sum has room.
--- Defines Each, sumOf, leastSum, gainers, Earliest and TurnOf (one turn), Turns, Done, Whole, Cuts, Reduced.
--- Proves: a turn, as a relation (earliest) and by sums (earliest-turn); what every turn keeps, reduce keeps (reduce-keeps); turns
--- enough end with room or with no gain left, and more of them change nothing (reduceFrom-done, reduceFrom-enough); the length is kept
--- (reduce-length); a sum that can have room has it (reduce-room); members that can be taken off whole always have room, and each is
--- kept or cut (reduce-whole). Assumes nothing.
+-- Defines Each, sumOf, leastSum, gainers, Earliest and TurnOf (one turn), Turns, Done, Whole, Cuts, Reduced. Proves earliest-turn (a turn
+-- by sums), reduce-keeps (what every turn keeps), reduceFrom-enough (more turns than gainers change nothing), reduce-length, reduce-room (a
+-- sum that can have room has it), reduce-whole (members that can be taken off whole have room, each kept or cut). Assumes nothing.
 use Prim.Native.Nat.{ℕ, zero, suc, _+_, _-_, _≤_, _<_}
 use mathlib.Core.Path.{_≡_, refl, sym, _∙_, ap}
 use mathlib.Core.Bool.{Bool, true, false}

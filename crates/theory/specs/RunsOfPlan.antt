@@ -1,7 +1,6 @@
--- The runs of a plan with no bad mark, in a table of sound form: they hold the tree, one for each page, in the order of the pages; a
--- node is in one of them where its mark says so, its home is the first node of its page's run, and the pages weigh the same.
--- Defines Headed, OnPage. Proves runs-hold, runs-count, runs-at, in-one, in-none, home-page, home-run-page, same-page, run-weight,
--- root-weight, within-heavy. Assumes nothing.
+-- The runs of a plan with no bad mark, in a table of sound form: they hold the tree; a node is in one of them where its mark says so,
+-- its home is the node that begins its page, and each run weighs what its page weighs.
+-- Defines OnPage. Proves in-one, in-none, runs-hold, home-page, root-weight, within-heavy. Assumes nothing.
 use Prim.Native.Nat.{ℕ, zero, suc, _≤_, _<_}
 use native.Mathlib.Omega.{arith}
 use mathlib.Core.Bool.{Bool, true, false, _&&_, true≢false}

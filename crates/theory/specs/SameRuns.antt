@@ -1,7 +1,6 @@
--- Two sequences with the same runs, in whatever order, tell the same.
--- Defines SameRuns, sameRun. Proves of a sequence that holds the tree and of one with the same runs that they have the same homes,
--- page weights and verdict on the limit, and, where the other holds the tree too, the same length and each run as often. Assumes
--- nothing.
+-- Two sequences with the same runs, in whatever order, tell the same: a sequence that holds the tree and one with the same runs have
+-- the same homes, page weights and verdict on the limit, and, where the other holds the tree too, the same length and each run as often.
+-- Defines SameRuns, sameRun. Assumes nothing.
 use Prim.Native.Nat.{ℕ, zero, suc, _+_, _≤_}
 use native.Mathlib.Omega.{arith}
 use mathlib.Core.Bool.{Bool, true, false, _&&_}

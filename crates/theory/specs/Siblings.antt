@@ -1,5 +1,6 @@
--- Brothers of a table of sound form: a later node with the same parent comes after the next sibling or is it. So the next sibling of a
--- node is the next node with its parent, and its first child is the node after it where that has it for its parent. Assumes nothing.
+-- Brothers of a table of sound form: a later node with the same parent comes after it in the chain (sibling-after). So the next sibling
+-- of a node is the next node with its parent (next-by-parent), and its first child is the node after it where that has it for its parent
+-- (first-by-parent). And tests of two Bools, and two numbers in order (order-cases). Assumes nothing.
 use Prim.Native.Nat.{ℕ, zero, suc, _+_, _≤_, _<_}
 use native.Mathlib.Omega.{arith}
 use mathlib.Core.Bool.{Bool, true, false, _&&_}
