@@ -10,6 +10,7 @@ use borrow.Author.Tests.{eqb-true, eqb-false}
 use Rattle.model.specs.Basics.{pick}
 use Rattle.model.specs.Table.{nodeCount, limitOf, firstAt, nextAt, weightAt, labelAt}
 use Rattle.model.specs.Steps.{remainder}
+use Rattle.theory.specs.Ranges.{pick-both}
 use Rattle.theory.specs.Sound.{SoundFacts}
 use Rattle.theory.specs.Numbered.{Between, numbered-le}
 use Rattle.theory.specs.Links.{first-step, first-le, next-later, next-le, first-one, next-one, first-not-next}
@@ -24,10 +25,8 @@ remainder-none : (t : List ℕ) → remainderAt t 0 ≡ 0
 unfolding remainder
 remainder-none t = rw chain-none
 
-pub unless-le : (cut : Bool) (r : ℕ) → unlessCut cut r ≤ r
-unfolding pick
-unless-le true r = omega arith
-unless-le false r = omega arith
+unless-le : (cut : Bool) (r : ℕ) → unlessCut cut r ≤ r
+unless-le cut r = pick-both (λ k. k ≤ r) cut 0 r (omega arith) (omega arith)
 
 module _ {t s : List ℕ} {v : ℕ} (ready : PairReady t s v) where
   sound : SoundFacts t

@@ -12,6 +12,7 @@ use borrow.Author.Tests.{leb-true, le-leb, ltb-true, ltb-false, eqb-true, eqb-fa
 use Rattle.model.specs.Basics.{pick}
 use Rattle.model.specs.Plan.{stays, begins}
 use Rattle.model.specs.Steps.{Member, Child, Entry, restSum, takenCount, better, leastOf, winner, staying, runChoices, running}
+use Rattle.theory.specs.Ranges.{pick-both}
 
 abbrev pub AllOf : (Entry → Type 0) → List Entry → Type 0
 AllOf P [] = Unit {0}
@@ -35,14 +36,11 @@ any-right P [] ds p = p
 any-right P (c ∷ cs) ds p = inr (any-right P cs ds p)
 
 better-all : (P : Entry → Type 0) (e c : Entry) → P e → P c → P (better e c)
-unfolding better pick
-better-all P e c p q = pickone (ltb (c .count) (e .count) || (eqb (c .count) (e .count) && ltb (c .rest) (e .rest)))
-  where
-    pickone : (b : Bool) → P (pick b c e)
-    pickone true = q
-    pickone false = p
+unfolding better
+better-all P e c p q = pick-both P (ltb (c .count) (e .count) || (eqb (c .count) (e .count) && ltb (c .rest) (e .rest))) c e q p
 
-least-all : (P : Entry → Type 0) (e : Entry) (cs : List Entry) → P e → AllOf P cs → P (leastOf e cs)
+-- what holds of each holds of the least
+pub least-all : (P : Entry → Type 0) (e : Entry) (cs : List Entry) → P e → AllOf P cs → P (leastOf e cs)
 unfolding leastOf
 least-all P e [] p q = p
 least-all P e (c ∷ cs) p q = least-all P (better e c) cs (better-all P e c p (q .0)) (q .1)

@@ -145,14 +145,10 @@ countTo-yes n p e = omega (arith, countTo-suc n p, pick-true {X = ℕ} (p (suc n
 pub countTo-no : (n : ℕ) (p : ℕ → Bool) → p (suc n) ≡ false → countTo (suc n) p ≡ countTo n p
 countTo-no n p e = omega (arith, countTo-suc n p, pick-false {X = ℕ} (p (suc n)) 1 0 e)
 
-pick-le-one : (b : Bool) → pick b 1 0 ≤ 1
-unfolding pick
-pick-le-one true = omega arith
-pick-le-one false = omega arith
-
 pub countTo-le : (n : ℕ) (p : ℕ → Bool) → countTo n p ≤ n
 countTo-le zero p = omega (arith, countTo-zero p)
-countTo-le (suc n) p = omega (arith, countTo-le n p, countTo-suc n p, pick-le-one (p (suc n)))
+countTo-le (suc n) p =
+    omega (arith, countTo-le n p, countTo-suc n p, pick-both (λ k. k ≤ 1) (p (suc n)) 1 0 (omega arith) (omega arith))
 
 pub countTo-all : (n : ℕ) (p : ℕ → Bool) → Upto n (λ v. p v ≡ true) → countTo n p ≡ n
 countTo-all zero p h = countTo-zero p
