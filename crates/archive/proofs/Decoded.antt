@@ -10,13 +10,12 @@ use mathlib.Core.Logic.{_⊎_, inl, inr}
 use lib.Dec.{eqb, ltb}
 use borrow.Author.Tests.{eqb-true, eqb-false, eq-eqb, ne-eqb, lt-ltb, le-ltb}
 use Rattle.model.specs.Basics.{pick, sameList}
-use Rattle.model.specs.Table.{nodeCount, limitOf, tableBytes}
+use Rattle.model.specs.Table.{nodeCount, limitOf, tableBytes, slots}
 use Rattle.model.specs.Refusals.{isArchive}
 use Rattle.model.specs.Archive.{parentIn, firstIn, tableIn, marksIn}
 use Rattle.theory.specs.Ranges.{pick-true, pick-false, bool-cases}
 use Rattle.theory.specs.ArchiveBack.{sameList-self, sameList-true}
 use Rattle.theory.specs.Siblings.{and-true, and-false-left, and-false-right}
-use Rattle.judge.specs.Rows.{slots}
 use Rattle.archive.specs.Put.{putWord, length-putWord, Starts, starts-none, starts-word}
 use Rattle.archive.specs.Onward.{Linked}
 use Rattle.archive.specs.Decode.{Told, told, told-nodes, Loaded, told-links, told-onward, treeUpto, length-treeUpto, tree-start, tree-told}

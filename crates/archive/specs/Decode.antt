@@ -12,7 +12,7 @@ use lib.Seq.{getD-set-same, getD-set-other}
 use lib.Dec.{eqb, ltb}
 use borrow.Author.Tests.{eqb-true, eqb-false, ltb-true, lt-ltb}
 use Rattle.model.specs.Basics.{pick, listTo}
-use Rattle.model.specs.Table.{bytesOf, nodeCount, limitOf, nextAt}
+use Rattle.model.specs.Table.{bytesOf, nodeCount, limitOf, nextAt, slots}
 use Rattle.model.specs.Plan.{parentAt, pageCount, runLast}
 use Rattle.model.specs.Archive.{archiveOf, pagesIn, pageFieldIn, nodeFieldIn, parentIn, firstIn, nextIn, tableIn, marksIn}
 use Rattle.model.specs.Refusals.{isArchive}
@@ -20,7 +20,6 @@ use Rattle.theory.specs.Ranges.{Upto, pick-true, pick-false, listTo-zero, listT
 use Rattle.theory.specs.Links.{parentAt-less}
 use Rattle.theory.specs.ArchiveWords.{Page, length-fours, archive-nodes, archive-pages, archive-page, archive-parent}
 use Rattle.theory.specs.ArchiveBack.{Planned, feasible-planned, read-write, archive-next}
-use Rattle.judge.specs.Rows.{slots}
 use Rattle.archive.specs.Put.{putRecord, Starts, starts-record}
 use Rattle.archive.specs.Onward.{nextWith, Linked, nextWith-cong}
 

@@ -12,7 +12,7 @@ use lib.Seq.{getD-set-same, getD-set-other, getD-take, length-take-le, ext-getD}
 use lib.Dec.{eqb, leb}
 use borrow.Author.Tests.{eqb-true, eqb-false, eq-eqb, ne-eqb, leb-true, le-leb, lt-leb}
 use Rattle.model.specs.Basics.{pick, countTo}
-use Rattle.model.specs.Table.{maxNodes, nodeCount, nextAt}
+use Rattle.model.specs.Table.{maxNodes, nodeCount, nextAt, slots}
 use Rattle.model.specs.Plan.{prevAt, begins, stays, markAt, hasMark, pageCount, runLast}
 use Rattle.model.specs.Archive.{pagesIn, pageFieldIn}
 use Rattle.theory.specs.Ranges.{Upto, pick-true, pick-false}
@@ -24,7 +24,7 @@ use Rattle.theory.specs.RunMarks.{good-marks, runLast-on, runLast-stop, runLast
 use Rattle.theory.specs.ArchiveWords.{Page, page-first}
 use Rattle.theory.specs.ArchiveBack.{Planned}
 use Rattle.theory.specs.Judged.{pageCount-le}
-use Rattle.judge.specs.Rows.{slots, Row}
+use Rattle.judge.specs.Rows.{Row}
 use Rattle.archive.specs.Decode.{Told, told-pages, told-first, told-last, fitted, fitted-same, fitted-le}
 
 -- the last of the run that node u is in, or 0 where it is in none

@@ -1,7 +1,7 @@
 // The page records and the node records of an archive, put into an output of its length.
 use crate::put::put_record;
 use judge::marks::mark_at;
-use judge::pages::SLOTS;
+use table::SLOTS;
 use table::words::label_at;
 use table::words::next_at;
 use table::words::node_count;
@@ -11,12 +11,12 @@ ghost use mathlib.Core.Bool.{_&&_, not};
 ghost use Prim.Native.Nat.{_≤_, _<_};
 ghost use lib.Dec.{eqb};
 ghost use lib.ListN.{length};
-ghost use Rattle.model.specs.Table.{nodeCount};
+ghost use Rattle.model.specs.Table.{nodeCount, slots};
 ghost use Rattle.model.specs.Plan.{hasMark, continues, runLast, pageCount, pageWeight};
 ghost use Rattle.model.specs.Archive.{nextPage, archiveBytes};
 ghost use Rattle.theory.specs.Sound.{SoundFacts};
 ghost use Rattle.theory.specs.ArchiveBack.{Planned};
-ghost use Rattle.judge.specs.Rows.{slots, Row};
+ghost use Rattle.judge.specs.Rows.{Row};
 ghost use Rattle.archive.specs.Put.{Starts};
 ghost use Rattle.archive.specs.Sheets.{headWords, pagesUpto, NodesPut};
 

@@ -6,8 +6,7 @@ use mathlib.Core.List.{List}
 use lib.ListN.{getD}
 use lib.Dec.{eqb}
 use Rattle.model.specs.Basics.{pick}
-use Rattle.model.specs.Table.{nodeCount}
-pub use Rattle.model.specs.Table.{slots}
+use Rattle.model.specs.Table.{slots, nodeCount}
 use Rattle.model.specs.Plan.{parentAt, pageOf, pageWeight, pageCount, badMark}
 use Rattle.theory.specs.Ranges.{Upto}
 use Rattle.judge.specs.declared.pages.Layout.{Layout}

@@ -2,7 +2,7 @@
 use crate::marks::is_good;
 use crate::marks::mark_at;
 use model::Place;
-pub use table::SLOTS;
+use table::SLOTS;
 use table::place_if;
 use table::words::next_at;
 use table::words::node_count;

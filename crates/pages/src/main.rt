@@ -6,9 +6,10 @@ use archive::size::MOST_NODES;
 use libc::STDIN_FILENO;
 use libc::STDOUT_FILENO;
 use report::report;
+use table::MAX_NODES;
 
 // One byte more than the longest table, so that a longer one shows.
-const INPUT_BYTES: usize = 8197;
+const INPUT_BYTES: usize = 4 + 8 * (MAX_NODES as usize) + 1;
 
 // The longest report: a head line, and a line for each page that an archive may have, none over 80 bytes.
 const REPORT_BYTES: usize = 80 * (MOST_NODES + 1);

@@ -9,7 +9,7 @@ use mathlib.Core.List.{List, [], _∷_}
 use lib.ListN.{length, replicate}
 use lib.Dec.{eqb, ltb}
 use borrow.Author.Tests.{eqb-true, ltb-false, not-false}
-use Rattle.model.specs.Table.{nodeCount, limitOf, Chain, treeOf}
+use Rattle.model.specs.Table.{maxNodes, maxLimit, nodeCount, limitOf, Chain, treeOf}
 use Rattle.model.specs.Refusals.{badMarks, shortScratch, scratchWords, treeChecks, planChecks, passes, acceptedTree, accepted, firstOf, readTree, judgePlan, Planned, planned, planBest}
 use Rattle.model.specs.declared.Verdict.the-variants.{NotJudged}
 use Rattle.model.specs.declared.Answer.{Answer}
@@ -35,8 +35,8 @@ module _ (t m s : List ℕ) where
   tree-goes-on e = sym (firstOf-pass (treeChecks t) (lentChecks t m s) (accepted NotJudged) (tree-accepted t e))
 
 -- the number of words fits
-pub words-fit : (n k : ℕ) → n ≤ 1024 → k ≤ 1024 → 4 * n * (k + 3) ≤ 4206592
-words-fit n k a b = mul-le-mul {n₁ = 4 * n} {m₁ = k + 3} {n₂ = 4096} {m₂ = 1027} (omega arith) (omega arith)
+pub words-fit : (n k : ℕ) → n ≤ maxNodes → k ≤ maxLimit → scratchWords n k ≤ scratchWords maxNodes maxLimit
+words-fit n k a b = mul-le-mul {n₁ = 4 * n} {m₁ = k + 3} {n₂ = 4 * maxNodes} {m₂ = maxLimit + 3} (omega arith) (omega arith)
 
 -- ---- The answer of the checks, and the outcome
 

@@ -5,7 +5,7 @@ use native.Mathlib.Omega.{arith}
 use mathlib.Core.Path.{_≡_, refl, _∙_, ap, ap₂}
 use mathlib.Core.List.{List}
 use lib.ListN.{length, set}
-use Rattle.model.specs.Table.{nodeCount, limitOf, weightAt, firstAt, Chain, end, node}
+use Rattle.model.specs.Table.{maxLimit, nodeCount, limitOf, weightAt, firstAt, Chain, end, node}
 use Rattle.model.specs.Steps.{restSum, whole, cutDown, remainders, reduce}
 use Rattle.theory.specs.Shape.{size, EachWithin}
 use Rattle.theory.specs.Numbered.{numbered-size, numbered-le}
@@ -17,7 +17,7 @@ use Rattle.planner.specs.Settled.{Settled, kidsOf, cutKids, Down, step}
 use Rattle.planner.specs.Cutting.{CutReady, CutDone, SettleReady, kidMembers}
 
 -- each remainder is within the limit
-remainders-small : (K : ℕ) (c : Chain) → EachWithin K c → K ≤ 1024 → restSum (remainders K c) ≤ 1024 * size c
+remainders-small : (K : ℕ) (c : Chain) → EachWithin K c → K ≤ maxLimit → restSum (remainders K c) ≤ maxLimit * size c
 unfolding EachWithin remainders restSum size whole
 remainders-small K end h l = omega arith
 remainders-small K (node w lab kids next) h l =

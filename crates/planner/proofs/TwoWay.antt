@@ -1,5 +1,5 @@
 -- The two-way tree: a node's sides by what the scratch keeps, its remainder, and the marks that it gives. Assumes nothing.
-use Prim.Native.Nat.{ℕ, zero, suc, _+_, _-_, _≤_, _<_}
+use Prim.Native.Nat.{ℕ, zero, suc, _+_, _-_, _*_, _≤_, _<_}
 use native.Mathlib.Omega.{arith}
 use mathlib.Core.Path.{_≡_, refl, sym, _∙_, ap}
 use mathlib.Core.Bool.{Bool, true, false}
@@ -8,7 +8,7 @@ use lib.ListN.{length, set, length-set}
 use lib.Dec.{eqb}
 use borrow.Author.Tests.{eqb-true, eqb-false}
 use Rattle.model.specs.Basics.{pick}
-use Rattle.model.specs.Table.{nodeCount, limitOf, firstAt, nextAt, weightAt, labelAt}
+use Rattle.model.specs.Table.{maxLimit, nodeCount, limitOf, firstAt, nextAt, weightAt, labelAt}
 use Rattle.model.specs.Steps.{remainder}
 use Rattle.theory.specs.Ranges.{pick-both}
 use Rattle.theory.specs.Sound.{SoundFacts}
@@ -73,7 +73,7 @@ module _ {t s : List ℕ} {v : ℕ} (ready : PairReady t s v) where
   next-fits =
       remainder-fits (limitOf t) (chainAt t (nextAt t v)) (link-within (ready .above .tree) (at-node .after) (at-node .inside))
 
-  pub sides-fit : weightAt t v + remainderAt t (firstAt t v) + remainderAt t (nextAt t v) ≤ 4096
+  pub sides-fit : weightAt t v + remainderAt t (firstAt t v) + remainderAt t (nextAt t v) ≤ 3 * maxLimit
   sides-fit = omega (arith, light, first-fits, next-fits, ready .above .tree .sound .limit-high)
 
   module _ {x : Sides} (at : SidesAt t v x) where
@@ -99,7 +99,7 @@ module _ {t s : List ℕ} {v : ℕ} (ready : PairReady t s v) where
             let n = remainder-node (limitOf t) (weightAt t v) (chainAt t (firstAt t v)) (chainAt t (nextAt t v)) (labelAt t v) in
             rw (el, er, ef, eg, first-is, next-is, at .weight, at .left, at .right, at-node .shape) (omega (arith, n))
 
-        pub weighs-fit : x .weight + l + r ≤ 4096
+        pub weighs-fit : x .weight + l + r ≤ 3 * maxLimit
         weighs-fit = omega (arith, el, er, unless-le f (x .left), unless-le g (x .right), at .fits)
 
   pub rests-step : (r : ℕ) → r ≡ remainderAt t v → Rests t (set s (v - 1) r) (v - 1)

@@ -1,10 +1,10 @@
 -- What the functions that cut children ask and promise.
 -- Defines Heaviest, CutReady, CutDone, SettleReady. Assumes nothing.
-use Prim.Native.Nat.{ℕ, _+_, _≤_}
+use Prim.Native.Nat.{ℕ, _+_, _*_, _≤_}
 use mathlib.Core.Path.{_≡_}
 use mathlib.Core.List.{List}
 use lib.ListN.{length}
-use Rattle.model.specs.Table.{nodeCount, limitOf, firstAt}
+use Rattle.model.specs.Table.{maxNodes, maxLimit, nodeCount, limitOf, firstAt}
 use Rattle.model.specs.Steps.{Member, restSum, reduce}
 use Rattle.theory.specs.Sound.{SoundFacts, AcceptedFacts}
 use Rattle.theory.specs.Shape.{size}
@@ -21,7 +21,7 @@ pub record Scanned (t s : List ℕ) (v : ℕ) : Type 0 where
 
 -- the sum of so many remainders at most, so that it fits a word
 abbrev pub mostSum : ℕ
-mostSum = 1048576
+mostSum = maxLimit * maxNodes
 
 -- of the siblings from v on, h has the largest remainder, the earliest among equals
 pub record Heaviest (t s : List ℕ) (v h : ℕ) : Type 0 where

@@ -2,7 +2,7 @@
 -- next sibling.
 -- Defines Rests, SidesAt, firstCut, nextCut, LinkMarks, put. Proves pair-plan: with these marks for every node, the marks are the plan.
 -- Assumes nothing.
-use Prim.Native.Nat.{ℕ, zero, suc, _+_, _-_, _≤_, _<_}
+use Prim.Native.Nat.{ℕ, zero, suc, _+_, _-_, _*_, _≤_, _<_}
 use native.Mathlib.Omega.{arith}
 use mathlib.Core.Path.{_≡_, refl, sym, _∙_, ap, ap₂}
 use mathlib.Core.Bool.{Bool, true}
@@ -11,7 +11,7 @@ use lib.ListN.{length, set, drop, length-set}
 use lib.Seq.{drop-cons, drop-length, getD-set-same, getD-set-other}
 use lib.Dec.{eqb}
 use Rattle.model.specs.Basics.{pick}
-use Rattle.model.specs.Table.{nodeCount, limitOf, firstAt, nextAt, weightAt, Chain, treeOf}
+use Rattle.model.specs.Table.{maxLimit, nodeCount, limitOf, firstAt, nextAt, weightAt, Chain, treeOf}
 use Rattle.model.specs.Steps.{sides, remainder, takenAt, layPair, pairMarks}
 use Rattle.theory.specs.Ranges.{append-nil}
 use Rattle.theory.specs.Sound.{SoundFacts, AcceptedFacts}
@@ -42,7 +42,7 @@ pub record SidesAt (t : List ℕ) (v : ℕ) (s : Sides) : Type 0 where
   pub weight : s .weight ≡ weightAt t v
   pub left : s .left ≡ remainderAt t (firstAt t v)
   pub right : s .right ≡ remainderAt t (nextAt t v)
-  pub fits : s .weight + s .left + s .right ≤ 4096
+  pub fits : s .weight + s .left + s .right ≤ 3 * maxLimit
 
 -- whether node u cuts its first child, and its next sibling
 unfoldable pub firstCut : List ℕ → ℕ → Bool

@@ -7,10 +7,10 @@ use table::words::next_at;
 use table::words::node_count;
 use table::words::weight_at;
 ghost use mathlib.Core.Path.{_≡_};
-ghost use Prim.Native.Nat.{_+_, _≤_};
+ghost use Prim.Native.Nat.{_+_, _*_, _≤_};
 ghost use lib.ListN.{length};
 ghost use Rattle.model.specs.Basics.{pick};
-ghost use Rattle.model.specs.Table.{nodeCount, limitOf, treeOf};
+ghost use Rattle.model.specs.Table.{maxLimit, nodeCount, limitOf, treeOf};
 ghost use Rattle.model.specs.Steps.{pairMarks};
 ghost use Rattle.theory.specs.PairShape.{unlessCut};
 ghost use Rattle.planner.specs.Cutting.{LayReady};
@@ -33,14 +33,14 @@ fn goes_first(left: u32, right: u32) -> bool
 }
 
 fn cuts_left(limit: u32, weight: u32, left: u32, right: u32) -> bool
-    requires { ⌜ weight + left + right ≤ 4096 ⌝ }
+    requires { ⌜ weight + left + right ≤ 3 * maxLimit ⌝ }
     ensures { λ r. ⌜ r ≡ leftCut limit weight left right ⌝ }
 {
     (limit < weight + left + right) & (goes_first(left, right) | (limit < weight + left))
 }
 
 fn cuts_right(limit: u32, weight: u32, left: u32, right: u32) -> bool
-    requires { ⌜ weight + left + right ≤ 4096 ⌝ }
+    requires { ⌜ weight + left + right ≤ 3 * maxLimit ⌝ }
     ensures { λ r. ⌜ r ≡ rightCut limit weight left right ⌝ }
 {
     (limit < weight + left + right) & (!goes_first(left, right) | (limit < weight + right))

@@ -4,7 +4,7 @@ use Prim.Native.Nat.{_+_, _-_, _≤_, _<_}
 use native.Mathlib.Omega.{arith}
 use lib.ListN.{length, getD, length-set, replicate, getD-replicate}
 use lib.Dec.{eqb}
-use Rattle.judge.specs.Rows.{slots}
+use Rattle.model.specs.Table.{slots}
 use Rattle.archive.specs.Ends.{MarksPass, marks-start, marks-turn}
 use Rattle.archive.proofs.Decoded.{sibling-small}
 use borrow.Author.Needs.{needs}

@@ -3,7 +3,7 @@ use mathlib.Core.Path.{_≡_, refl, ap, _∙_}
 use Prim.Native.Nat.{_-_, _≤_, _<_}
 use native.Mathlib.Omega.{arith}
 use lib.ListN.{length, length-set, replicate, getD-replicate}
-use Rattle.judge.specs.Rows.{slots}
+use Rattle.model.specs.Table.{slots}
 use Rattle.archive.specs.Decode.{fitted, fitted-small}
 use Rattle.archive.specs.Ends.{LastsPass, last-start, lasts-turn, lasts-end}
 use borrow.Author.Needs.{needs}

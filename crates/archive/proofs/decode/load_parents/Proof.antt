@@ -3,7 +3,7 @@ use mathlib.Core.Path.{_≡_, refl, ap, _∙_}
 use Prim.Native.Nat.{_-_, _≤_}
 use native.Mathlib.Omega.{arith}
 use lib.ListN.{length, length-set}
-use Rattle.judge.specs.Rows.{slots}
+use Rattle.model.specs.Table.{slots}
 use Rattle.archive.specs.Decode.{Loaded, fitted, loaded-turn}
 use borrow.Author.Needs.{needs}
 use Rattle.archive.proofs.decode.load_parents.Statement.{statement}

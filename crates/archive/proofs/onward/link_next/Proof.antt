@@ -6,7 +6,7 @@ use Prim.Native.Nat.{_≤_, _<_}
 use native.Mathlib.Omega.{arith}
 use lib.ListN.{length, getD}
 use lib.ListN.{length-set, replicate, getD-replicate}
-use Rattle.judge.specs.Rows.{slots}
+use Rattle.model.specs.Table.{slots}
 use Rattle.archive.specs.Onward.{Seen, LinkedFrom, seen-start, seen-turn, linked-start, linked-turn}
 use borrow.Author.Needs.{needs}
 use Rattle.archive.proofs.onward.link_next.Statement.{statement}

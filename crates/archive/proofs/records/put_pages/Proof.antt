@@ -5,13 +5,12 @@ use Prim.Native.Nat.{ℕ, _+_, _-_, _*_, _≤_, _<_}
 use native.Mathlib.Omega.{arith}
 use lib.ListN.{length}
 use Rattle.model.specs.Archive.{nextPage, archiveBytes}
-use Rattle.model.specs.Table.{nodeCount}
+use Rattle.model.specs.Table.{nodeCount, slots}
 use Rattle.model.specs.Basics.{countTo}
 use Rattle.model.specs.Plan.{begins, markAt, hasMark, pageCount}
 use Rattle.theory.specs.Ranges.{countTo-zero}
 use Rattle.theory.specs.ArchiveBack.{planned-light}
 use Rattle.theory.specs.Judged.{pageCount-le}
-use Rattle.judge.specs.Rows.{slots}
 use Rattle.archive.specs.Put.{Starts}
 use Rattle.archive.specs.Sheets.{pagesUpto, pages-start}
 use Rattle.archive.proofs.Turns.{record-length, page-no, page-yes, page-within, pages-pass, pages-next}

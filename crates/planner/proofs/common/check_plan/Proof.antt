@@ -7,7 +7,7 @@ use lib.ListN.{length}
 use lib.Dec.{eqb, ltb}
 use denote.Ref.{now}
 use Rattle.model.specs.Basics.{when}
-use Rattle.model.specs.Table.{nodeCount, limitOf}
+use Rattle.model.specs.Table.{maxNodes, maxLimit, nodeCount, limitOf}
 use Rattle.model.specs.Refusals.{badMarks, shortScratch, scratchWords, readTree}
 use Rattle.model.specs.declared.Answer.{Answer}
 use Rattle.theory.specs.Checks.{lentChecks, firstOf-cons, firstOf-none}
@@ -22,7 +22,7 @@ number-is : (c : tie.Else1) → c .before .before .read-tree .result .number ≡
 number-is c = ap (λ (a : Answer). a .number) (c .before .before .read-tree .ensures)
 
 -- the number of words, where the tree is accepted
-words-small : (c : tie.After-limit-of) → 4 * c .before .node-count .result * (c .limit-of .result + 3) ≤ 4206592
+words-small : (c : tie.After-limit-of) → scratchWords (c .before .node-count .result) (c .limit-of .result) ≤ scratchWords maxNodes maxLimit
 words-small c =
     let e = c .before .before in
     let b = e .before .before .before .before .before .before in

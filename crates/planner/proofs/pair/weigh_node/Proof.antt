@@ -1,8 +1,9 @@
 -- `planner::pair::weigh_node` meets its contract. Assumes nothing.
 use mathlib.Core.Path.{_≡_}
-use Prim.Native.Nat.{_+_, _≤_}
+use Prim.Native.Nat.{_+_, _*_, _≤_}
 use native.Mathlib.Omega.{arith}
 use denote.Ref.{now}
+use Rattle.model.specs.Table.{maxLimit}
 use Rattle.planner.specs.Pair.{remainderAt}
 use Rattle.planner.proofs.TwoWay.{weighs, weighs-fit}
 use borrow.Author.Needs.{needs}
@@ -13,7 +14,7 @@ use Rattle.planner.proofs.pair.weigh_node.Tie as tie
 weighed : (c : tie.After-struct-known)
     → (c .before .before .before .before .before .sides-at .result .weight + c .before .before .before .unless-cut .result + c .before .unless-cut2 .result
     ≡ remainderAt (now (c .before .before .before .before .before .before .before .before .args .table)) (c .before .before .before .before .before .before .before .before .args .v))
-    × (c .before .before .before .before .before .sides-at .result .weight + c .before .before .before .unless-cut .result + c .before .unless-cut2 .result ≤ 4096)
+    × (c .before .before .before .before .before .sides-at .result .weight + c .before .before .before .unless-cut .result + c .before .unless-cut2 .result ≤ 3 * maxLimit)
 weighed c =
     let u2 = c .before in
     let x2 = u2 .before in
