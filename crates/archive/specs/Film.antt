@@ -11,12 +11,13 @@ use borrow.Author.Tests.{eqb-true, eqb-false, eq-eqb, ne-eqb}
 use Rattle.model.specs.Basics.{pick}
 use Rattle.model.specs.Archive.{tableIn, marksIn}
 use Rattle.model.specs.Refusals.{Planned, planBest, Written, writeArchive, Restored, readArchive}
+use Rattle.model.specs.Demand.{LowestOnFilm}
 use Rattle.model.specs.declared.Answer.{Answer}
 use Rattle.theory.specs.Ranges.{bool-cases, pick-true, pick-false}
 use Rattle.theory.specs.Encode.{Bytes}
 use Rattle.theory.specs.ArchiveBack.{write-read}
 use Rattle.theory.specs.ArchiveAnswers.{writer-done, reader-accepts}
-use Rattle.theory.specs.ArchiveLowest.{LowestOnFilm, film-lowest}
+use Rattle.theory.specs.ArchiveLowest.{film-lowest}
 use Rattle.planner.specs.Outcome.{outcome}
 use Rattle.archive.specs.Answers.{written, restored}
 

@@ -5,7 +5,7 @@ use model::Answer;
 use planner::plan_best;
 ghost use mathlib.Core.Path.{_≡_};
 ghost use Rattle.model.specs.Refusals.{planBest, writeArchive};
-ghost use Rattle.theory.specs.ArchiveLowest.{LowestOnFilm};
+ghost use Rattle.model.specs.Demand.{LowestOnFilm};
 ghost use Rattle.archive.specs.Film.{filmed, thenWrite, returned, thenRead};
 
 // The best planner and, where it accepts, the writer.

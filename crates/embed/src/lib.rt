@@ -4,7 +4,7 @@ use model::Verdict;
 ghost use mathlib.Core.Path.{_≡_};
 ghost use Rattle.model.specs.Refusals.{readTree, judgePlan, planBest, planLevel, planSingle, planPair, writeArchive, readArchive};
 ghost use Rattle.embed.specs.Figures.{figuresOf};
-ghost use Rattle.embed.specs.Left.{left, leftBy, filled, filledBy, refilled, refilledBy};
+ghost use Rattle.embed.specs.Left.{left, leftBy, BestFigures, filled, filledBy, refilled, refilledBy};
 
 // A number and a place, and the verdict's page count and root weight, both 0 unless the number is 0.
 #[repr(C)]
@@ -60,6 +60,7 @@ pub extern "C" fn balduqen_judge(table: &[u8], marks: &[u8]) -> Figures
 #[no_mangle]
 pub extern "C" fn balduqen_plan_best(table: &[u8], marks: &mut [u8], scratch: &mut [u32]) -> Figures
     ensures { λ r. ⌜ left r (now (marks .exit)) (now (scratch .exit)) ≡ leftBy (planBest (now (table .entry)) (now (marks .entry)) (now (scratch .entry))) ⌝ }
+    ensures { λ r. ⌜ BestFigures (now (table .entry)) (now (marks .entry)) (now (scratch .entry)) r (now (marks .exit)) ⌝ }
 {
     flatten(planner::plan_best(table, marks, scratch))
 }

@@ -6,4 +6,5 @@ pub mod Runs
 pub mod Steps
 pub mod Archive
 pub mod Refusals
+pub mod Demand
 pub mod Cases

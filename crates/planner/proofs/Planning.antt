@@ -11,13 +11,14 @@ use lib.Dec.{eqb, ltb}
 use borrow.Author.Tests.{eqb-true, ltb-false, not-false}
 use Rattle.model.specs.Table.{maxNodes, maxLimit, nodeCount, limitOf, Chain, treeOf}
 use Rattle.model.specs.Refusals.{badMarks, shortScratch, scratchWords, treeChecks, planChecks, passes, acceptedTree, accepted, firstOf, readTree, judgePlan, Planned, planned, planBest}
+use Rattle.model.specs.Demand.{BestPromise}
 use Rattle.model.specs.declared.Verdict.the-variants.{NotJudged}
 use Rattle.model.specs.declared.Answer.{Answer}
 use Rattle.theory.specs.Ranges.{pick-true, pick-false, when-nowhere}
 use Rattle.theory.specs.Sound.{accepted-facts, passes-first, passes-rest}
 use Rattle.theory.specs.Checks.{lentChecks, plan-numbers, accepted-pass, firstOf-pass, firstOf-stop, firstOf-all}
 use Rattle.theory.specs.Judged.{tree-accepted}
-use Rattle.theory.specs.Promise.{BestPromise, plan-parts, best-promise}
+use Rattle.theory.specs.Promise.{plan-parts, best-promise}
 use Rattle.planner.specs.Outcome.{outcome, PlanReady}
 
 -- ---- The refusals

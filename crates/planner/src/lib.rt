@@ -13,7 +13,7 @@ use single::lay_single;
 ghost use mathlib.Core.Path.{_≡_};
 ghost use Rattle.model.specs.Table.{limitOf, treeOf};
 ghost use Rattle.model.specs.Refusals.{planned, planBest, planLevel, planSingle, planPair};
-ghost use Rattle.theory.specs.Promise.{BestPromise};
+ghost use Rattle.model.specs.Demand.{BestPromise};
 ghost use Rattle.planner.specs.Outcome.{outcome, stepsOf, PlanReady};
 
 // Whose steps make the plan.

@@ -1,6 +1,6 @@
 -- Demand 3 read off the archive's bytes: where an archive is what the writer gives for a table and the marks of the best planner, the
 -- page count, the weight in page record 1 and the runs in its page records are the lowest there are.
--- Defines runsIn, rootIn, LowestOnFilm. Proves archive-runs and archive-root (they are the plan's), film-lowest. Assumes nothing.
+-- Proves archive-runs and archive-root (they are the plan's), film-lowest. Assumes nothing.
 use Prim.Native.Nat.{ℕ, suc, _≤_, _<_}
 use native.Mathlib.Omega.{arith}
 use mathlib.Core.Path.{_≡_, sym, _∙_, ap, ap₂}
@@ -14,7 +14,7 @@ use Rattle.model.specs.Runs.{Run, rootRun, runsOf}
 use Rattle.model.specs.Steps.{bestMarks}
 use Rattle.model.specs.Archive.{archiveOf, pagesIn, pageFieldIn}
 use Rattle.model.specs.Refusals.{accepted, planBest, Written, writeArchive}
-use Rattle.model.specs.declared.Answer.{Answer}
+use Rattle.model.specs.Demand.{runIn, runsIn, rootIn, LowestOnFilm}
 use Rattle.model.specs.declared.Verdict.the-variants.{Feasible}
 use Rattle.theory.specs.Ranges.{length-listTo, getD-listTo}
 use Rattle.theory.specs.Sound.{AcceptedFacts}
@@ -23,27 +23,8 @@ use Rattle.theory.specs.Feasible.{judged-verdict}
 use Rattle.theory.specs.MarkedRuns.{length-runsOf}
 use Rattle.theory.specs.ArchiveWords.{page-first, getD-runsOf, archive-pages, archive-page}
 use Rattle.theory.specs.ArchiveAnswers.{writer-done}
-use Rattle.theory.specs.Lowest.{Lowest, best-judged, best-lowest}
+use Rattle.theory.specs.Lowest.{best-judged, best-lowest}
 use Rattle.theory.specs.Promise.{plan-passes, plan-accepted, planned-made}
-
--- the run in page q's record
-abbrev pub runIn : List ℕ → ℕ → Run
-runIn a q = record { first = pageFieldIn a q 0; last = pageFieldIn a q 1 }
-
--- the runs in the page records, page 1 first
-unfoldable pub runsIn : List ℕ → List Run
-runsIn a = listTo (pagesIn a) (λ q. runIn a q ∷ [])
-
--- the weight in page record 1
-unfoldable pub rootIn : List ℕ → ℕ
-rootIn a = pageFieldIn a 1 2
-
--- The answer r carries the archive's page count P and the weight W in page record 1. Every sequence of sibling runs that holds the table's
--- tree within the page limit has at least P runs and, where it has exactly P, a root page of at least W. The archive's own runs are such a
--- sequence, with exactly P runs and root page W.
-pub record LowestOnFilm (t a : List ℕ) (r : Answer) : Type 0 where
-  pub verdict : r ≡ accepted (Feasible (pagesIn a) (rootIn a))
-  pub lowest : Lowest t (pagesIn a) (rootIn a) (runsIn a)
 
 -- ---- The page records of a table and marks
 

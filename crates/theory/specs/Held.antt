@@ -15,6 +15,7 @@ use Rattle.model.specs.Table.{nodeCount, limitOf, weightAt}
 use Rattle.model.specs.Plan.{begins, continues, markAt, hasMark, goodMark, badMark, pageOf, pageCount, pageWeight, heavyPage}
 use Rattle.model.specs.Runs.{Run, countOf, holds, homeOf, runWeight, withinLimit, runCount, rootWeight, runsOf}
 use Rattle.model.specs.Refusals.{Check, shortTable, badCount, badLimit, badLength, noWeight, badWalk, heavyNode, formChecks, treeChecks, soundForm, acceptedTree, refusedForWeight, firstOf, refused, accepted, readTree}
+use Rattle.model.specs.Demand.{HeldWithin}
 use Rattle.model.specs.declared.Place.{Place}
 use Rattle.model.specs.declared.Place.the-variants.{At, Nowhere}
 use Rattle.model.specs.declared.Verdict.{Verdict}
@@ -155,12 +156,6 @@ module _ {t : List ℕ} (s : SoundFacts t) where
       le-ltb (limitOf t) (pageWeight t (ones (nodeCount t)) p) (omega (arith, ones-weight p low top, light p low top)))
 
 -- ---- Refusal 7
-
--- a sequence of runs that holds the tree within the page limit
-pub record HeldWithin (t : List ℕ) : Type 0 where
-  pub runs : List Run
-  pub held : holds t runs ≡ true
-  pub within : withinLimit t runs ≡ true
 
 module _ {t : List ℕ} (s : SoundFacts t) where
   -- a node weighs no more than its page

@@ -1,16 +1,18 @@
 -- The answer of the judge: a refusal of the tree stands; then the marks' length, the bad marks and the heavy pages.
--- Defines planAnswer. Assumes nothing.
+-- Defines planAnswer, Told. Proves judge-told: the number and the place of an answer are those that document 01 gives its verdict.
+-- Assumes nothing.
 use mathlib.Core.Path.{_≡_, refl, sym, ap, _∙_}
-use mathlib.Core.Bool.{true, not}
-use mathlib.Core.List.{List, [], _∷_}
+use mathlib.Core.Bool.{Bool, true, false, not}
+use mathlib.Core.List.{List, [], _∷_, _++_}
+use mathlib.Core.Logic.{_⊎_, inl, inr}
 use Prim.Native.Nat.{ℕ, _≤_}
 use lib.Dec.{eqb}
 use lib.ListN.{length}
-use borrow.Author.Tests.{eq-eqb, ne-eqb}
-use Rattle.model.specs.Basics.{when, atPlace}
+use borrow.Author.Tests.{eqb-true, eq-eqb, ne-eqb}
+use Rattle.model.specs.Basics.{pick, when, atPlace}
 use Rattle.model.specs.Table.{nodeCount}
 use Rattle.model.specs.Plan.{badMark, heavyPage, pageCount, pageWeight, verdictOf}
-use Rattle.model.specs.Refusals.{badMarks, markRefused, pageRefused, treeChecks, judgeChecks, acceptedTree, refused, accepted, firstOf, readTree, judgePlan}
+use Rattle.model.specs.Refusals.{Check, badMarks, markRefused, pageRefused, treeChecks, judgeChecks, acceptedTree, causeOf, numberOf, placeOf, refused, accepted, firstOf, readTree, judgePlan}
 use Rattle.model.specs.declared.Place.{Place}
 use Rattle.model.specs.declared.Place.the-variants.{At, Nowhere}
 use Rattle.model.specs.declared.Cause.the-variants.{BadMark, HeavyPage}
@@ -92,3 +94,41 @@ plan-answer t m = answer-verdict (badMark t m) (heavyPage t m) (Feasible (pageCo
 pub pageCount-le : (t m : List ℕ) → pageCount t m ≤ nodeCount t
 unfolding pageCount
 pageCount-le t m = countTo-le (nodeCount t) _
+
+-- ---- Number and place of a verdict
+
+-- nothing was judged, or number and place are the verdict's
+abbrev pub Told : Answer → Type 0
+Told a = (a .verdict ≡ NotJudged) ⊎ ((a .number ≡ numberOf (a .verdict)) × (a .place ≡ placeOf (a .verdict)))
+
+refused-told : (n p : ℕ) → Told (refused n p)
+unfolding refused causeOf pick
+refused-told n p = go (eqb n 10) (eqb n 11) refl refl
+  where
+    go : (a b : Bool) → eqb n 10 ≡ a → eqb n 11 ≡ b
+        → Told (record { number = n; place = p; verdict = pick a (Failed (BadMark p)) (pick b (Failed (HeavyPage p)) NotJudged) })
+    go true b e f = inr (eqb-true n 10 e, refl)
+    go false true e f = inr (eqb-true n 11 f, refl)
+    go false false e f = inl refl
+
+place-told : (o : Place) (n : ℕ) (a : Answer) → Told a → Told (atPlace o (refused n) a)
+unfolding atPlace
+place-told (At p) n a h = refused-told n p
+place-told Nowhere n a h = h
+
+first-told : (cs ds : List Check) (a : Answer) → Told (firstOf ds a) → Told (firstOf (cs ++ ds) a)
+unfolding firstOf
+first-told [] ds a h = h
+first-told (c ∷ cs) ds a h = place-told (c .place) (c .number) (firstOf (cs ++ ds) a) (first-told cs ds a h)
+
+pub judge-told : (t m : List ℕ) → Told (judgePlan t m)
+unfolding judgePlan judgeChecks firstOf badMarks planAnswer
+judge-told t m =
+    first-told (treeChecks t) (badMarks (nodeCount t) m ∷ markRefused t m ∷ pageRefused t m ∷ []) (accepted (verdictOf t m))
+    (place-told (when (not (eqb (length m) (nodeCount t))) (nodeCount t)) 8 (planAnswer t m) marks)
+  where
+    marks : Told (planAnswer t m)
+    marks =
+        let feasible : Answer = accepted (Feasible (pageCount t m) (pageWeight t m 1)) in
+        rw (← plan-answer t m)
+        (place-told (badMark t m) 10 (atPlace (heavyPage t m) (refused 11) feasible) (place-told (heavyPage t m) 11 feasible (inr (refl, refl))))

@@ -1,5 +1,5 @@
--- Demand 3: the best plan is the lowest there is, in the words of sibling runs told from the tree alone.
--- Defines Lowest, rootEntry. Proves best-judged, level-judged, single-judged, pair-judged (each planner's plan of an accepted tree is
+-- Demand 3: the best plan is the lowest there is.
+-- Defines rootEntry. Proves best-judged, level-judged, single-judged, pair-judged (each planner's plan of an accepted tree is
 -- feasible), best-figures and level-figures (the verdict has the entries' count and the rest of the root's entry), best-least-plan (no
 -- feasible plan is better than best's) and best-lowest. Assumes nothing.
 use Prim.Native.Nat.{ℕ, _≤_}
@@ -10,9 +10,10 @@ use native.Mathlib.Omega.{arith}
 use lib.ListN.{length, getD}
 use Rattle.model.specs.Table.{Chain, end, node, limitOf, treeOf, weightAt, labelAt}
 use Rattle.model.specs.Plan.{markAt, pageCount, pageWeight}
-use Rattle.model.specs.Runs.{Run, holds, withinLimit, runCount, rootWeight, runsOf}
+use Rattle.model.specs.Runs.{runsOf}
 use Rattle.model.specs.Steps.{Entry, entryAt, childrenOf, bestMarks, levelMarks, singleMarks, pairMarks}
 use Rattle.model.specs.Refusals.{accepted, judgePlan}
+use Rattle.model.specs.Demand.{Lowest}
 use Rattle.model.specs.declared.Verdict.the-variants.{Feasible}
 use Rattle.theory.specs.Sound.{AcceptedFacts}
 use Rattle.theory.specs.Numbered.{Rooted, sound-root, tree-within, tree-positive}
@@ -25,15 +26,6 @@ use Rattle.theory.specs.PairShape.{pair-feasible}
 use Rattle.theory.specs.BestLaid.{Figured, pagesOf}
 use Rattle.theory.specs.BestShape.{NoBetterThanBest, best-feasible, level-feasible, best-least}
 use Rattle.theory.specs.Held.{PlanRuns, plan-runs, RunsPlan, runs-plan}
-
--- A sequence of sibling runs that holds the tree within the page limit has at least P runs and, where it has exactly P, a root page of
--- at least W; and the runs rs are such a sequence, with exactly P runs and root page W.
-pub record Lowest (t : List ℕ) (P W : ℕ) (rs : List Run) : Type 0 where
-  pub least : (qs : List Run) → holds t qs ≡ true → withinLimit t qs ≡ true → (P ≤ runCount qs) × (runCount qs ≡ P → W ≤ rootWeight t qs)
-  pub held : holds t rs ≡ true
-  pub within : withinLimit t rs ≡ true
-  pub count : runCount rs ≡ P
-  pub root : rootWeight t rs ≡ W
 
 -- the entry of the root's best plan
 unfoldable pub rootEntry : Bool → ℕ → Chain → Entry

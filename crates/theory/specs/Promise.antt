@@ -1,5 +1,5 @@
 -- Demand 3 as the best planner's entry promises it, from its answer and the marks that it leaves.
--- Defines BestPromise. Proves best-promise; plan-parts and plan-passes (a planner that answers 0 was lent an accepted tree and right
+-- Proves best-promise; plan-parts and plan-passes (a planner that answers 0 was lent an accepted tree and right
 -- buffers); planned-made, planned-judged, planned-refused (what a planner leaves). Assumes nothing.
 use Prim.Native.Nat.{ℕ}
 use mathlib.Core.Path.{_≡_, sym, ap, _∙_}
@@ -12,6 +12,7 @@ use Rattle.model.specs.Table.{Chain, nodeCount, limitOf, treeOf}
 use Rattle.model.specs.Runs.{runsOf}
 use Rattle.model.specs.Steps.{bestMarks}
 use Rattle.model.specs.Refusals.{badMarks, shortScratch, treeChecks, planChecks, passes, soundForm, acceptedTree, refused, accepted, firstOf, readTree, judgePlan, Planned, planned, planBest}
+use Rattle.model.specs.Demand.{Lowest, BestPromise}
 use Rattle.model.specs.declared.Answer.{Answer}
 use Rattle.model.specs.declared.Place.{Place}
 use Rattle.model.specs.declared.Place.the-variants.{At, Nowhere}
@@ -20,15 +21,8 @@ use Rattle.theory.specs.Ranges.{bool-cases, pick-true, pick-false}
 use Rattle.theory.specs.Checks.{lentChecks, firstOf-pass, firstOf-stop, firstOf-all, accepted-pass, tree-numbers, plan-numbers}
 use Rattle.theory.specs.Sound.{AcceptedFacts, accepted-facts, passes-append, both-true}
 use Rattle.theory.specs.Feasible.{judged-answer}
-use Rattle.theory.specs.Held.{HeldWithin, refused-unheld, seven-refused}
-use Rattle.theory.specs.Lowest.{Lowest, best-judged, best-lowest}
-
--- What the best planner says with its answer r and the marks that it leaves, where it was lent the table t, the marks m and the scratch s.
--- Where the tree is accepted and the buffers are right: page count and root weight of the verdict are the lowest there are, and the runs of
--- the marks have just these. A tree of sound form is refused with 7 exactly when no sequence of sibling runs holds it within the limit.
-pub record BestPromise (t m s : List ℕ) (r : Answer) (left : List ℕ) : Type 0 where
-  pub lowest : passes (planChecks t m s) ≡ true → (P : ℕ) × (W : ℕ) × (r ≡ accepted (Feasible P W)) × Lowest t P W (runsOf t left)
-  pub refusal : soundForm t ≡ true → (r .number ≡ 7) ↔ (HeldWithin t → ⊥)
+use Rattle.theory.specs.Held.{refused-unheld, seven-refused}
+use Rattle.theory.specs.Lowest.{best-judged, best-lowest}
 
 -- the checks of the tree and of what is lent
 pub plan-parts : (t m s : List ℕ) → passes (planChecks t m s) ≡ true → (passes (treeChecks t) ≡ true) × (passes (lentChecks t m s) ≡ true)
