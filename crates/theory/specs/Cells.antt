@@ -7,6 +7,7 @@ use Prim.Native.Nat.{ℕ, zero, suc, _+_, _*_, _≤_, _<_}
 use mathlib.Core.Path.{_≡_, refl, _∙_, ap}
 use mathlib.Core.Bool.{Bool, true, false, _&&_, _||_}
 use mathlib.Core.List.{List, [], _∷_, _++_, map, reverse}
+use mathlib.Core.Logic.{inl}
 use native.Mathlib.Omega.{arith}
 use lib.ListN.{length, length-map, length-drop, drop}
 use lib.Dec.{eqb, ltb, leb}
@@ -35,7 +36,7 @@ use Rattle.model.specs.Steps.{
 }
 use Rattle.theory.specs.Reduce.{reduce-length}
 use Rattle.theory.specs.ReduceCount.{reduce-stop}
-use mathlib.Core.Logic.{inl}
+use Rattle.theory.specs.Candidates.{AllOf, all-append, least-all, stayed, ran, staying-all, running-all}
 
 -- ---- Words
 
@@ -130,32 +131,10 @@ pub record Within (K n : ℕ) (e : Entry) : Type 0 where
   pub rest-high : e .rest ≤ K
   pub count-high : e .count ≤ 2 * n
 
-unfoldable AllOf : (Entry → Type 0) → List Entry → Type 0
-AllOf P [] = Unit {0}
-AllOf P (e ∷ es) = P e × AllOf P es
-
-all-append : (P : Entry → Type 0) (es ds : List Entry) → AllOf P es → AllOf P ds → AllOf P (es ++ ds)
-unfolding AllOf
-all-append P [] ds p q = q
-all-append P (e ∷ es) ds p q = (p .0, all-append P es ds (p .1) q)
-
-better-keeps : (P : Entry → Type 0) (e d : Entry) → P e → P d → P (better e d)
-unfolding better pick
-better-keeps P e d p q = go (ltb (d .count) (e .count) || (eqb (d .count) (e .count) && ltb (d .rest) (e .rest)))
-  where
-    go : (b : Bool) → P (pick b d e)
-    go true = q
-    go false = p
-
-least-keeps : (P : Entry → Type 0) (e : Entry) (es : List Entry) → P e → AllOf P es → P (leastOf e es)
-unfolding AllOf leastOf
-least-keeps P e [] p q = p
-least-keeps P e (d ∷ es) p q = least-keeps P (better e d) es (better-keeps P e d p (q .0)) (q .1)
-
 winner-keeps : (P : Entry → Type 0) (s : ℕ) (es : List Entry) → P (record { count = 0; rest = s; choices = [] }) → AllOf P es → P (winner s es)
-unfolding AllOf winner
+unfolding winner
 winner-keeps P s [] p q = p
-winner-keeps P s (e ∷ es) p q = least-keeps P e es (q .0) (q .1)
+winner-keeps P s (e ∷ es) p q = least-all P e es (q .0) (q .1)
 
 taken-le-length : (ms : List Member) → takenCount ms ≤ length ms
 unfolding takenCount pick
@@ -174,23 +153,15 @@ run-taken K run =
 
 staying-within : (K s : ℕ) (k : Child) (ks : List Child) → (s + k .rest ≤ K → Within K (length ks) (entryAt K ks (s + k .rest)))
     → AllOf (Within K (suc (length ks))) (staying K s k (entryAt K ks (s + k .rest)))
-unfolding staying AllOf pick
-staying-within K s k ks h = go (leb (s + k .rest) K) refl
-  where
-    go : (b : Bool) → leb (s + k .rest) K ≡ b → AllOf (Within K (suc (length ks))) (staying K s k (entryAt K ks (s + k .rest)))
-    go true e =
-        let w = h (leb-true (s + k .rest) K e) in
-        rw e (record { rest-high = w .rest-high; count-high = omega (arith, w .count-high) }, tt)
-    go false e = rw e tt
+staying-within K s k ks h =
+    staying-all (Within K (suc (length ks))) K s k (entryAt K ks (s + k .rest))
+    (λ l. let w = h l in record { rest-high = w .rest-high; count-high = omega (arith, w .count-high) })
 
 running-within : (K n : ℕ) (run : List Child) (e : Entry) → Within K n e → 1 ≤ length run
     → AllOf (Within K (length run + n)) (running K (runOf K run) e)
-unfolding running AllOf pick
-running-within K n run e w low = go (leb (restSum (runOf K run)) K) refl
-  where
-    go : (b : Bool) → leb (restSum (runOf K run)) K ≡ b → AllOf (Within K (length run + n)) (running K (runOf K run) e)
-    go true q = rw q (record { rest-high = w .rest-high; count-high = omega (arith, w .count-high, run-taken K run) }, tt)
-    go false q = rw q tt
+running-within K n run e w low =
+    running-all (Within K (length run + n)) K (runOf K run) e
+    (λ l. record { rest-high = w .rest-high; count-high = omega (arith, w .count-high, run-taken K run) })
 
 abbrev EntriesWithin : ℕ → List Child → Type 0
 EntriesWithin K ks = (s : ℕ) → s ≤ K → Within K (length ks) (entryAt K ks s)
@@ -203,7 +174,7 @@ within-at : (K n m : ℕ) (es : List Entry) → n ≡ m → AllOf (Within K n) e
 within-at K n m es q h = rw q at h
 
 both-within : (K : ℕ) (ks : List Child) → EntriesWithin K ks × StretchesWithin K ks
-unfolding entryAt stretched AllOf pick
+unfolding entryAt stretched pick
 both-within K [] = (λ s h. record { rest-high = h; count-high = omega arith }, λ s k run h. tt)
 both-within K (j ∷ ks) = (entries (both-within K ks), stretches (both-within K ks))
   where
@@ -359,12 +330,6 @@ record First (K s : ℕ) (k : Child) (ks : List Child) : Type 0 where
   agrees : Agrees K s (k ∷ ks) entry (firstCell K k ks s)
   then : entryAt K (k ∷ ks) s ≡ leastOf entry (stretched K s (k ∷ []) ks)
 
-stayed : Entry → Entry
-stayed f = record { count = f .count; rest = f .rest; choices = stayChoice ∷ f .choices }
-
-ran : List Member → Entry → Entry
-ran ms f = record { count = f .count + 1 + takenCount ms; rest = f .rest; choices = reverse (runChoices begins ms) ++ f .choices }
-
 module _ (K : ℕ) (small : K < page) (k : Child) (ks : List Child) (s : ℕ) (high : s ≤ K) (light : k .rest ≤ K) (short : length (k ∷ ks) ≤ maxNodes) where
   alone : Pulled k ks 0 (k ∷ []) ks
   unfolding pulled
@@ -376,7 +341,7 @@ module _ (K : ℕ) (small : K < page) (k : Child) (ks : List Child) (s : ℕ) (h
 
   stay-first : leb (s + k .rest) K ≡ true → Agrees K (s + k .rest) ks (entryAt K ks (s + k .rest)) (cellAt K ks (s + k .rest))
       → Agrees K s ks (entryAt K ks s) (cellAt K ks s) → First K s k ks
-  unfolding entryAt winner staying stayCell rebuilt stayed Sane pick
+  unfolding entryAt winner staying stayCell rebuilt Sane pick
   stay-first q f g =
       record {
         entry = leastOf (stayed (entryAt K ks (s + k .rest))) (running K (runOf K (k ∷ [])) (entryAt K ks s));
@@ -391,7 +356,7 @@ module _ (K : ℕ) (small : K < page) (k : Child) (ks : List Child) (s : ℕ) (h
       }
 
   run-first : leb (s + k .rest) K ≡ false → Agrees K s ks (entryAt K ks s) (cellAt K ks s) → First K s k ks
-  unfolding entryAt winner staying running stayCell tryRun lower ran pick
+  unfolding entryAt winner staying running stayCell tryRun lower pick
   run-first q g =
       let ms : List Member = runOf K (k ∷ []) in
       let f : Entry = entryAt K ks s in

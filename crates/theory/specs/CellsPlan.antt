@@ -14,8 +14,9 @@ use lib.Dec.{eqb, leb}
 use borrow.Author.Tests.{eqb-true, eqb-false, leb-true}
 use Rattle.model.specs.Basics.{pick}
 use Rattle.model.specs.Table.{maxNodes, maxLimit, slots, nodeCount, limitOf, weightAt, firstAt}
-use Rattle.model.specs.Plan.{parentFrom, parentAt}
+use Rattle.model.specs.Plan.{parentAt}
 use Rattle.model.specs.Steps.{entryAt, secondStart, gainOf, childOf, childrenOf}
+use Rattle.theory.specs.Links.{parentAt-none}
 use Rattle.theory.specs.ChainAt.{chainAt}
 use Rattle.theory.specs.Cells.{page, wordOf, cellAt, GoodChild, Good, cell-entry}
 use Rattle.theory.specs.CellsFront.{childIn, frontOf, front-good, front-length, EachGood, cellIn}
@@ -129,10 +130,6 @@ set-child rests gains v a b u l m = go (eqb u v) refl
         let q : u ≡ v → ⊥ = eqb-false u v e in
         ap₂ (λ x y. record { rest = x; gain = y }) (getD-set-other rests v u a 0 q) (getD-set-other gains v u b 0 q)
 
-parent-none : (t : List ℕ) → parentAt t 0 ≡ 0
-unfolding parentAt parentFrom
-parent-none t = refl
-
 module _ {t rests gains prevs lasts xs ys : List ℕ} {g : Bool} {v r : ℕ} (low : 1 ≤ v) (high : v ≤ nodeCount t)
     (p : Planned t g v rests gains prevs lasts xs) (f : Filled t rests gains prevs v r xs ys)
     (rest gain : ℕ) (figure : record { rest = rest; gain = gain } ≡ figureAt t g v)
@@ -164,7 +161,7 @@ module _ {t rests gains prevs lasts xs ys : List ℕ} {g : Bool} {v r : ℕ} (lo
 
     not-kin : (w u : ℕ) → v < w → Kin t w u → parentAt t u ≡ v → ⊥
     not-kin w u h (inl e) q =
-        let z : parentAt t u ≡ 0 = ap (parentAt t) e ∙ parent-none t in
+        let z : parentAt t u ≡ 0 = ap (parentAt t) e ∙ parentAt-none t in
         omega (arith, z)
     not-kin w u h (inr k) q = omega (arith, k .2)
 
@@ -223,7 +220,7 @@ module _ {t rests gains prevs lasts xs ys : List ℕ} {g : Bool} {v r : ℕ} (lo
                 none = p .ready .none;
                 room = omega (arith, p .ready .room, f .long);
                 root = λ s h.
-                    f .others 0 s (λ q. omega (arith, parent-none t)) h ∙ p .ready .root s h;
+                    f .others 0 s (λ q. omega (arith, parentAt-none t)) h ∙ p .ready .root s h;
               };
           figures = step-figures;
           kin = λ w a b. step-last w a b .0;
