@@ -98,7 +98,7 @@ pub extern "C" fn balduqen_plan_pair(table: &[u8], marks: &mut [u8], scratch: &m
 pub extern "C" fn balduqen_write_archive(table: &[u8], marks: &[u8], archive: &mut [u8]) -> Figures
     ensures { λ r. ⌜ filled r (now (archive .exit)) ≡ filledBy (writeArchive (now (table .entry)) (now (marks .entry)) (now (archive .entry))) ⌝ }
 {
-    flatten(archive::write::write_archive(table, marks, archive))
+    flatten(archive::write_archive(table, marks, archive))
 }
 
 #[no_mangle]
@@ -109,5 +109,5 @@ pub extern "C" fn balduqen_read_archive(
 ) -> Figures
     ensures { λ r. ⌜ refilled r (now (table .exit)) (now (marks .exit)) ≡ refilledBy (readArchive (now (archive .entry)) (now (table .entry)) (now (marks .entry))) ⌝ }
 {
-    flatten(archive::read::read_archive(archive, table, marks))
+    flatten(archive::read_archive(archive, table, marks))
 }

@@ -3,15 +3,15 @@
 use mathlib.Core.Path.{_≡_, refl}
 use Prim.Native.Nat.{ℕ}
 use mathlib.Core.Bool.{Bool, true, not, _&&_}
-use mathlib.Core.List.{List, [], _∷_, _++_}
-use lib.ListN.{length, replicate, set}
+use mathlib.Core.List.{List, [], _∷_}
+use lib.ListN.{replicate}
 use lib.Dec.{eqb}
 use Rattle.model.specs.Basics.{pick, when, atPlace, sumTo, countTo, firstTo, lastTo, listTo, every, sameList}
-use Rattle.model.specs.Table.{wordAt, bytesOf, nodeCount, limitOf, fieldAt, weightAt, labelAt, firstAt, nextAt, walkFrom, walkPlace, chainFrom, treeOf}
+use Rattle.model.specs.Table.{wordAt, bytesOf, nodeCount, limitOf, fieldAt, walkFrom, walkPlace, chainFrom, treeOf}
 use Rattle.model.specs.Plan.{prevAt, ownerAt, parentFrom, parentAt, markAt, inRun, goodMark, pageFrom, pageOf, pageCount, pageWeight, badMark, heavyPage, verdictOf, runLastFrom, runLast}
 use Rattle.model.specs.Runs.{Run, comesFrom, comesAfter, isRun, isMember, countOf, holds, runWith, homeFrom, homeOf, runWeight, withinLimit, runsOf, runCount, rootWeight}
 use Rattle.model.specs.Steps.{restSum, gainSum, takenCount, largestGain, takeEarliest, reduceFrom, reduce, better, leastOf, winner, staying, asMember, runChoices, running, runOf, lightest, stopsAt, secondStart, gainOf, childOf, childrenFrom, childrenOf, choicesOf, layMarks, bestMarks, levelMarks, whole, cutDown, remainders, laySingle, singleMarks, sides, remainder, takenAt, layPair, pairMarks, entryAt, stretched}
-use Rattle.model.specs.Archive.{nextPage, pageRecords, nextOnPage, nodeRecord, archiveOf, pagesIn, pageFieldIn, nodeFieldIn, parentIn, firstIn, nextIn, tableIn, beginsIn, continuesIn, markIn, marksIn, archiveBytes}
+use Rattle.model.specs.Archive.{nextPage, pageRecords, nextOnPage, nodeRecord, archiveOf, pagesIn, pageFieldIn, nodeFieldIn, parentIn, firstIn, nextIn, tableIn, beginsIn, continuesIn, markIn, marksIn}
 use Rattle.model.specs.Refusals.{shortTable, badCount, badLimit, badLength, noWeight, badWalk, heavyNode, badMarks, shortScratch, markRefused, pageRefused, badOutput, noArchive, formChecks, treeChecks, planChecks, judgeChecks, writeChecks, passes, soundForm, acceptedTree, refusedForWeight, feasiblePlan, causeOf, refused, firstOf, readTree, judgePlan, planned, planBest, planLevel, planSingle, planPair, writeArchive, isArchive, readChecks, readArchive, scratchWords, Planned}
 use Rattle.model.specs.declared.Verdict.{Verdict}
 use Rattle.model.specs.declared.Verdict.the-variants.{NotJudged, Feasible, Failed}

@@ -6,7 +6,7 @@ use archive::fields::page_field;
 use archive::fields::pages_in;
 use archive::size::MOST_BYTES;
 use archive::size::archive_bytes;
-use archive::write::write_archive;
+use archive::write_archive;
 use judge::pages::lay_plan;
 use planner::plan_best;
 use table::words::limit_of;

@@ -10,9 +10,9 @@ use lib.Seq.{ext-getD}
 use Rattle.model.specs.Basics.{listTo}
 use Rattle.model.specs.Table.{limitOf, treeOf}
 use Rattle.model.specs.Plan.{pageCount, pageWeight, verdictOf}
-use Rattle.model.specs.Runs.{Run, rootRun, runsOf}
+use Rattle.model.specs.Runs.{rootRun, runsOf}
 use Rattle.model.specs.Steps.{bestMarks}
-use Rattle.model.specs.Archive.{archiveOf, pagesIn, pageFieldIn}
+use Rattle.model.specs.Archive.{archiveOf, pagesIn}
 use Rattle.model.specs.Refusals.{accepted, planBest, Written, writeArchive}
 use Rattle.model.specs.Demand.{runIn, runsIn, rootIn, LowestOnFilm}
 use Rattle.model.specs.declared.Verdict.the-variants.{Feasible}

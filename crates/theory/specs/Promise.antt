@@ -11,7 +11,7 @@ use Rattle.model.specs.Basics.{atPlace}
 use Rattle.model.specs.Table.{Chain, nodeCount, limitOf, treeOf}
 use Rattle.model.specs.Runs.{runsOf}
 use Rattle.model.specs.Steps.{bestMarks}
-use Rattle.model.specs.Refusals.{badMarks, shortScratch, treeChecks, planChecks, passes, soundForm, acceptedTree, refused, accepted, firstOf, readTree, judgePlan, Planned, planned, planBest}
+use Rattle.model.specs.Refusals.{badMarks, shortScratch, treeChecks, planChecks, passes, acceptedTree, refused, accepted, firstOf, readTree, judgePlan, Planned, planned, planBest}
 use Rattle.model.specs.Demand.{Lowest, BestPromise}
 use Rattle.model.specs.declared.Answer.{Answer}
 use Rattle.model.specs.declared.Place.{Place}
