@@ -10,7 +10,7 @@ use Rattle.model.specs.Basics.{sameList}
 use Rattle.model.specs.Table.{nodeCount, tableBytes}
 use Rattle.model.specs.Plan.{verdictOf}
 use Rattle.model.specs.Archive.{tableIn, marksIn}
-use Rattle.model.specs.Refusals.{accepted, refused, isArchive, readArchive}
+use Rattle.model.specs.Refusals.{answerOf, refused, isArchive, readArchive}
 use Rattle.model.specs.declared.Answer.{Answer}
 use Rattle.theory.specs.ArchiveAnswers.{read-none, read-table, read-marks, read-done}
 use Rattle.archive.specs.Size.{archiveNodes}
@@ -61,9 +61,9 @@ module _ (a t m t′ m′ : List ℕ) (r : Answer) (j : CopyJudged a t′ m′ r
       → restored r x y ≡ readArchive a t m
   reader-done z fits long x y x-is y-is =
       let k = j .accepts z in
-      let answer : r ≡ accepted (verdictOf (tableIn a) (marksIn a)) = k .3 ∙ ap₂ (λ p q. accepted (verdictOf p q)) (sym (k .1)) (sym (k .2)) in
+      let answer : r ≡ answerOf (verdictOf (tableIn a) (marksIn a)) = k .3 ∙ ap₂ (λ p q. answerOf (verdictOf p q)) (sym (k .1)) (sym (k .2)) in
       let table : x ≡ tableIn a = x-is ∙ sym (k .1) in
       let marks : y ≡ marksIn a = y-is ∙ sym (k .2) in
       ap (λ (q : Answer). restored q x y) answer
-      ∙ ap₂ (λ p q. restored (accepted (verdictOf (tableIn a) (marksIn a))) p q) table marks
+      ∙ ap₂ (λ p q. restored (answerOf (verdictOf (tableIn a) (marksIn a))) p q) table marks
       ∙ read-done a t m (k .0) fits long

@@ -1,5 +1,5 @@
 -- What the archive's entries promise: an answer with what is left in the lent buffers; and what the reader learns of a candidate.
--- Defines written, restored, CopyJudged. Assumes nothing.
+-- Defines written, restored, CopyJudged. Proves write-both, read-both. Assumes nothing.
 use Prim.Native.Nat.{ℕ, _<_}
 use native.Mathlib.Omega.{arith}
 use mathlib.Core.Bool.{true, false, _&&_, true≢false}
@@ -8,17 +8,18 @@ use mathlib.Core.Logic.{_⊎_, inl, inr}
 use mathlib.Core.List.{List}
 use lib.ListN.{length}
 use Rattle.model.specs.Basics.{sameList}
-use Rattle.model.specs.Table.{nodeCount}
+use Rattle.model.specs.Table.{Bytes, nodeCount}
 use Rattle.model.specs.Plan.{verdictOf}
 use Rattle.model.specs.Archive.{archiveOf, tableIn, marksIn}
-use Rattle.model.specs.Refusals.{feasiblePlan, refused, accepted, Written, writeArchive, isArchive, Restored}
+use Rattle.model.specs.Refusals.{feasiblePlan, refused, answerOf, Written, writeArchive, isArchive, Restored, readArchive}
 use Rattle.theory.specs.Ranges.{bool-cases}
 use Rattle.theory.specs.Siblings.{and-false-left, and-false-right}
-use Rattle.theory.specs.Encode.{Bytes}
 use Rattle.theory.specs.Judged.{pageCount-le}
 use Rattle.theory.specs.ArchiveWords.{length-archive, archive-nodes}
 use Rattle.theory.specs.ArchiveBack.{feasible-planned, sameList-true, write-read, read-write}
 use Rattle.theory.specs.ArchiveAnswers.{writer-done, writer-refused}
+use Rattle.theory.specs.ArchivePromise.{write-promise, read-promise}
+use Rattle.model.specs.Demand.{WritePromise, ReadPromise}
 use Rattle.model.specs.declared.Answer.{Answer}
 use Rattle.archive.specs.Size.{archiveNodes, longestArchive}
 
@@ -28,22 +29,29 @@ written r o = record { answer = r; archive = o }
 abbrev pub restored : Answer → List ℕ → List ℕ → Restored
 restored r t m = record { answer = r; table = t; marks = m }
 
+-- an answer and what is left, with the promise that they carry
+pub write-both : {t m out o : List ℕ} {r : Answer} → written r o ≡ writeArchive t m out → (written r o ≡ writeArchive t m out) × WritePromise t m out r o
+write-both {t} {m} {out} e = (e, rw (ap (λ (w : Written). w .answer) e, ap (λ (w : Written). w .archive) e) (write-promise t m out))
+
+pub read-both : {a table marks t m : List ℕ} {r : Answer} → Bytes a → restored r t m ≡ readArchive a table marks
+    → (restored r t m ≡ readArchive a table marks) × ReadPromise a table marks r t m
+read-both {a} {table} {marks} b e = (
+  e,
+  rw (ap (λ (x : Restored). x .answer) e, ap (λ (x : Restored). x .table) e, ap (λ (x : Restored). x .marks) e) (read-promise a table marks b),
+)
+
 -- ---- A candidate: an archive of bytes and the tree and the plan that were decoded of it
 
 -- It was accepted, and is what the archive tells; or it was refused with 13, and does not write the archive.
 pub record CopyJudged (a t m : List ℕ) (r : Answer) : Type 0 where
-  pub accepts : r .number ≡ 0 → (isArchive a ≡ true) × (tableIn a ≡ t) × (marksIn a ≡ m) × (r ≡ accepted (verdictOf t m))
+  pub accepts : r .number ≡ 0 → (isArchive a ≡ true) × (tableIn a ≡ t) × (marksIn a ≡ m) × (r ≡ answerOf (verdictOf t m))
   pub refuses : (r .number ≡ 0 → ⊥) → (r ≡ refused 13 0) × ((feasiblePlan t m && sameList (archiveOf t m) a) ≡ false)
-
-refused-number : (n p : ℕ) → refused n p .number ≡ n
-unfolding refused
-refused-number n p = refl
 
 pub copy-refused : {a t m : List ℕ} {r : Answer} → r ≡ refused 13 0 → (feasiblePlan t m && sameList (archiveOf t m) a) ≡ false
     → CopyJudged a t m r
 copy-refused {r} e h =
     record {
-      accepts = λ z. absurd (omega (arith, ap (λ (x : Answer). x .number) e, refused-number 13 0));
+      accepts = λ z. absurd (omega (arith, ap (λ (x : Answer). x .number) e));
       refuses = λ z. (e, h);
     }
 
@@ -74,7 +82,7 @@ module _ (a t m start out : List ℕ) (r : Answer) (w : written r out ≡ writeA
   pub copy-stopped : (r .number ≡ 0 → ⊥) → length start ≡ length a → (feasiblePlan t m && sameList (archiveOf t m) a) ≡ false
   copy-stopped h long = writer-refused t m start (λ z. h (number-is ∙ z)) a long
 
-  out-is : r .number ≡ 0 → (feasiblePlan t m ≡ true) × (r ≡ accepted (verdictOf t m)) × (out ≡ archiveOf t m)
+  out-is : r .number ≡ 0 → (feasiblePlan t m ≡ true) × (r ≡ answerOf (verdictOf t m)) × (out ≡ archiveOf t m)
   out-is z =
       let d = writer-done t m start (sym number-is ∙ z) in
       let all = w ∙ d .1 in

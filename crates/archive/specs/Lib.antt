@@ -6,4 +6,3 @@ pub mod Sheets
 pub mod Answers
 pub mod Decode
 pub mod Ends
-pub mod Film

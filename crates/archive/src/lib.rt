@@ -1,7 +1,6 @@
-// The archive: its writer and its reader, and the entries in turn. Refusals 12 and 13.
+// The archive: its writer and its reader. Refusals 12 and 13.
 mod decode;
 pub mod fields;
-mod film;
 mod onward;
 mod put;
 mod read;
@@ -9,7 +8,5 @@ mod records;
 pub mod size;
 mod write;
 
-pub use film::plan_and_write;
-pub use film::write_and_read;
 pub use read::read_archive;
 pub use write::write_archive;

@@ -12,6 +12,7 @@ ghost use mathlib.Core.Path.{_≡_};
 ghost use lib.ListN.{length};
 ghost use Rattle.model.specs.Basics.{sameList};
 ghost use Rattle.model.specs.Refusals.{readArchive};
+ghost use Rattle.model.specs.Demand.{ReadPromise};
 ghost use Rattle.archive.specs.Answers.{restored, CopyJudged};
 
 // Whether two strings of bytes are the same.
@@ -62,9 +63,10 @@ fn judge_copy(archive: &[u8], tree: &[u8], plan: &[u8]) -> Answer
     refuse(13, 0)
 }
 
-// Entry: the archive reader. 13, then 12, then 8.
+// Entry: the archive reader. 13, then 12, then 8. What was written reads back, and what is read is what writing gives.
 pub fn read_archive(archive: &[u8], table: &mut [u8], marks: &mut [u8]) -> Answer
     ensures { λ r. ⌜ restored r (now (table .exit)) (now (marks .exit)) ≡ readArchive (now (archive .entry)) (now (table .entry)) (now (marks .entry)) ⌝ }
+    ensures { λ r. ⌜ ReadPromise (now (archive .entry)) (now (table .entry)) (now (marks .entry)) r (now (table .exit)) (now (marks .exit)) ⌝ }
 {
     let nodes = node_count(archive);
     let count = nodes as usize;

@@ -16,6 +16,7 @@ ghost use lib.ListN.{length};
 ghost use Rattle.model.specs.Table.{nodeCount};
 ghost use Rattle.model.specs.Archive.{archiveOf, archiveBytes};
 ghost use Rattle.model.specs.Refusals.{writeArchive};
+ghost use Rattle.model.specs.Demand.{WritePromise};
 ghost use Rattle.theory.specs.ArchiveBack.{Planned};
 ghost use Rattle.judge.specs.Rows.{Laid};
 ghost use Rattle.archive.specs.Put.{putWord};
@@ -44,9 +45,10 @@ fn fill_archive(table: &[u8], marks: &[u8], plan: Layout, out: &mut [u8])
     put_nodes(table, &plan.parents, &onward, plan.pages, out);
 }
 
-// Entry: the archive writer. The refusals of the judge, and 12.
+// Entry: the archive writer. The refusals of the judge, and 12. The archive of a best plan is the lowest there is.
 pub fn write_archive(table: &[u8], marks: &[u8], out: &mut [u8]) -> Answer
     ensures { λ r. ⌜ written r (now (out .exit)) ≡ writeArchive (now (table .entry)) (now (marks .entry)) (now (out .entry)) ⌝ }
+    ensures { λ r. ⌜ WritePromise (now (table .entry)) (now (marks .entry)) (now (out .entry)) r (now (out .exit)) ⌝ }
 {
     let judged = judge_plan(table, marks);
     if judged.number != 0 {

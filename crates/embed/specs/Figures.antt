@@ -2,14 +2,19 @@
 use Prim.Native.Nat.{ℕ}
 use Rattle.model.specs.declared.Answer.{Answer}
 use Rattle.model.specs.declared.Verdict.{Verdict}
-use Rattle.model.specs.declared.Verdict.the-variants.{NotJudged, Feasible, Failed}
+use Rattle.model.specs.declared.Verdict.the-variants.{Feasible, Failed}
+use Rattle.model.specs.declared.Beside.{Beside}
+use Rattle.model.specs.declared.Beside.the-variants.{Given, Nothing}
 use Rattle.embed.specs.declared.Figures.{Figures}
 
 -- number and place, with the verdict's page count and root weight, or 0 and 0 where it has none
-abbrev pub figuresWith : ℕ → ℕ → Verdict → Figures
-figuresWith n p NotJudged = record { number = n; place = p; pages = 0; root = 0 }
-figuresWith n p (Feasible pages root) = record { number = n; place = p; pages = pages; root = root }
-figuresWith n p (Failed c) = record { number = n; place = p; pages = 0; root = 0 }
+abbrev pub figuresBy : ℕ → ℕ → Verdict → Figures
+figuresBy n p (Feasible pages root) = record { number = n; place = p; pages = pages; root = root }
+figuresBy n p (Failed c) = record { number = n; place = p; pages = 0; root = 0 }
+
+abbrev pub figuresWith : ℕ → ℕ → Beside → Figures
+figuresWith n p (Given v) = figuresBy n p v
+figuresWith n p Nothing = record { number = n; place = p; pages = 0; root = 0 }
 
 abbrev pub figuresOf : Answer → Figures
 figuresOf a = figuresWith (a .number) (a .place) (a .verdict)

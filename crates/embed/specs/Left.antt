@@ -3,7 +3,7 @@ use mathlib.Core.Path.{_≡_}
 use mathlib.Core.List.{List}
 use Prim.Native.Nat.{ℕ}
 use Rattle.model.specs.Refusals.{Planned, Written, Restored}
-use Rattle.model.specs.Demand.{BestPromise}
+use Rattle.model.specs.Demand.{PlanPromise, BestPromise, WritePromise, ReadPromise}
 use Rattle.model.specs.declared.Answer.{Answer}
 use Rattle.embed.specs.declared.Figures.{Figures}
 use Rattle.embed.specs.Figures.{figuresOf}
@@ -19,11 +19,23 @@ left f m s = record { figures = f; marks = m; scratch = s }
 abbrev pub leftBy : Planned → PlanLeft
 leftBy p = left (figuresOf (p .answer)) (p .marks) (p .scratch)
 
--- the four numbers are those of an answer of which demand 3 holds, with the marks that are left
-pub record BestFigures (t m s : List ℕ) (f : Figures) (marks : List ℕ) : Type 0 where
+-- the four numbers are those of an answer of which the entry's promise holds
+pub record FiguresOf (Promise : Answer → Type 0) (f : Figures) : Type 0 where
   pub answer : Answer
   pub figures : f ≡ figuresOf answer
-  pub promise : BestPromise t m s answer marks
+  pub promise : Promise answer
+
+abbrev pub PlanFigures : List ℕ → List ℕ → List ℕ → Figures → List ℕ → List ℕ → Type 0
+PlanFigures t m s f marks scratch = FiguresOf (λ r. PlanPromise t m s r marks scratch) f
+
+abbrev pub BestFigures : List ℕ → List ℕ → List ℕ → Figures → List ℕ → Type 0
+BestFigures t m s f marks = FiguresOf (λ r. BestPromise t m s r marks) f
+
+abbrev pub WriteFigures : List ℕ → List ℕ → List ℕ → Figures → List ℕ → Type 0
+WriteFigures t m out f archive = FiguresOf (λ r. WritePromise t m out r archive) f
+
+abbrev pub ReadFigures : List ℕ → List ℕ → List ℕ → Figures → List ℕ → List ℕ → Type 0
+ReadFigures a table marks f t m = FiguresOf (λ r. ReadPromise a table marks r t m) f
 
 pub record WriteLeft : Type 0 where
   pub figures : Figures

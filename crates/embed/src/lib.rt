@@ -1,10 +1,11 @@
 // Doors for C and Rust: each entry of the library under a plain name, with its answer as four numbers.
 use model::Answer;
+use model::Beside;
 use model::Verdict;
 ghost use mathlib.Core.Path.{_≡_};
 ghost use Rattle.model.specs.Refusals.{readTree, judgePlan, planBest, planLevel, planSingle, planPair, writeArchive, readArchive};
-ghost use Rattle.embed.specs.Figures.{figuresOf};
-ghost use Rattle.embed.specs.Left.{left, leftBy, BestFigures, filled, filledBy, refilled, refilledBy};
+ghost use Rattle.embed.specs.Figures.{figuresBy, figuresOf};
+ghost use Rattle.embed.specs.Left.{left, leftBy, PlanFigures, BestFigures, filled, filledBy, WriteFigures, refilled, refilledBy, ReadFigures};
 
 // A number and a place, and the verdict's page count and root weight, both 0 unless the number is 0.
 #[repr(C)]
@@ -15,12 +16,10 @@ pub struct Figures {
     pub root: u32,
 }
 
-fn flatten(answer: Answer) -> Figures
-    ensures { λ r. ⌜ r ≡ figuresOf answer ⌝ }
+// Number and place with the figures of a verdict.
+fn with_verdict(number: u32, place: u32, verdict: Verdict) -> Figures
+    ensures { λ r. ⌜ r ≡ figuresBy number place verdict ⌝ }
 {
-    let number = answer.number;
-    let place = answer.place;
-    let verdict = answer.verdict;
     match verdict {
         Verdict::Feasible { pages, root } => Figures {
             number,
@@ -28,13 +27,24 @@ fn flatten(answer: Answer) -> Figures
             pages,
             root,
         },
-        Verdict::NotJudged => Figures {
+        Verdict::Failed(_) => Figures {
             number,
             place,
             pages: 0,
             root: 0,
         },
-        Verdict::Failed(_) => Figures {
+    }
+}
+
+fn flatten(answer: Answer) -> Figures
+    ensures { λ r. ⌜ r ≡ figuresOf answer ⌝ }
+{
+    let number = answer.number;
+    let place = answer.place;
+    let beside = answer.verdict;
+    match beside {
+        Beside::Given(verdict) => with_verdict(number, place, verdict),
+        Beside::Nothing => Figures {
             number,
             place,
             pages: 0,
@@ -60,6 +70,7 @@ pub extern "C" fn balduqen_judge(table: &[u8], marks: &[u8]) -> Figures
 #[no_mangle]
 pub extern "C" fn balduqen_plan_best(table: &[u8], marks: &mut [u8], scratch: &mut [u32]) -> Figures
     ensures { λ r. ⌜ left r (now (marks .exit)) (now (scratch .exit)) ≡ leftBy (planBest (now (table .entry)) (now (marks .entry)) (now (scratch .entry))) ⌝ }
+    ensures { λ r. ⌜ PlanFigures (now (table .entry)) (now (marks .entry)) (now (scratch .entry)) r (now (marks .exit)) (now (scratch .exit)) ⌝ }
     ensures { λ r. ⌜ BestFigures (now (table .entry)) (now (marks .entry)) (now (scratch .entry)) r (now (marks .exit)) ⌝ }
 {
     flatten(planner::plan_best(table, marks, scratch))
@@ -72,6 +83,7 @@ pub extern "C" fn balduqen_plan_level(
     scratch: &mut [u32],
 ) -> Figures
     ensures { λ r. ⌜ left r (now (marks .exit)) (now (scratch .exit)) ≡ leftBy (planLevel (now (table .entry)) (now (marks .entry)) (now (scratch .entry))) ⌝ }
+    ensures { λ r. ⌜ PlanFigures (now (table .entry)) (now (marks .entry)) (now (scratch .entry)) r (now (marks .exit)) (now (scratch .exit)) ⌝ }
 {
     flatten(planner::plan_level(table, marks, scratch))
 }
@@ -83,6 +95,7 @@ pub extern "C" fn balduqen_plan_single(
     scratch: &mut [u32],
 ) -> Figures
     ensures { λ r. ⌜ left r (now (marks .exit)) (now (scratch .exit)) ≡ leftBy (planSingle (now (table .entry)) (now (marks .entry)) (now (scratch .entry))) ⌝ }
+    ensures { λ r. ⌜ PlanFigures (now (table .entry)) (now (marks .entry)) (now (scratch .entry)) r (now (marks .exit)) (now (scratch .exit)) ⌝ }
 {
     flatten(planner::plan_single(table, marks, scratch))
 }
@@ -90,6 +103,7 @@ pub extern "C" fn balduqen_plan_single(
 #[no_mangle]
 pub extern "C" fn balduqen_plan_pair(table: &[u8], marks: &mut [u8], scratch: &mut [u32]) -> Figures
     ensures { λ r. ⌜ left r (now (marks .exit)) (now (scratch .exit)) ≡ leftBy (planPair (now (table .entry)) (now (marks .entry)) (now (scratch .entry))) ⌝ }
+    ensures { λ r. ⌜ PlanFigures (now (table .entry)) (now (marks .entry)) (now (scratch .entry)) r (now (marks .exit)) (now (scratch .exit)) ⌝ }
 {
     flatten(planner::plan_pair(table, marks, scratch))
 }
@@ -97,6 +111,7 @@ pub extern "C" fn balduqen_plan_pair(table: &[u8], marks: &mut [u8], scratch: &m
 #[no_mangle]
 pub extern "C" fn balduqen_write_archive(table: &[u8], marks: &[u8], archive: &mut [u8]) -> Figures
     ensures { λ r. ⌜ filled r (now (archive .exit)) ≡ filledBy (writeArchive (now (table .entry)) (now (marks .entry)) (now (archive .entry))) ⌝ }
+    ensures { λ r. ⌜ WriteFigures (now (table .entry)) (now (marks .entry)) (now (archive .entry)) r (now (archive .exit)) ⌝ }
 {
     flatten(archive::write_archive(table, marks, archive))
 }
@@ -108,6 +123,7 @@ pub extern "C" fn balduqen_read_archive(
     marks: &mut [u8],
 ) -> Figures
     ensures { λ r. ⌜ refilled r (now (table .exit)) (now (marks .exit)) ≡ refilledBy (readArchive (now (archive .entry)) (now (table .entry)) (now (marks .entry))) ⌝ }
+    ensures { λ r. ⌜ ReadFigures (now (archive .entry)) (now (table .entry)) (now (marks .entry)) r (now (table .exit)) (now (marks .exit)) ⌝ }
 {
     flatten(archive::read_archive(archive, table, marks))
 }

@@ -3,42 +3,79 @@ pub mod marks;
 pub mod pages;
 
 use model::Answer;
+use model::Beside;
+use model::Cause;
+use model::Place;
 use model::Verdict;
 use pages::first_heavy;
 use pages::lay_plan;
-use table::earlier;
 use table::read_tree;
 use table::refuse;
 use table::words::limit_of;
 use table::words::node_count;
 ghost use mathlib.Core.Path.{_≡_};
-ghost use Rattle.model.specs.Refusals.{accepted, judgePlan};
+ghost use Rattle.model.specs.Basics.{atPlace};
+ghost use Rattle.model.specs.Plan.{verdictOf};
+ghost use Rattle.model.specs.Refusals.{answerOf, judgePlan};
 ghost use Rattle.theory.specs.Sound.{AcceptedFacts};
-ghost use Rattle.theory.specs.Judged.{planAnswer};
 
-// Nothing is refused: the verdict has the page count and the root's weight.
-fn accept_plan(pages: u16, root: u32) -> Answer
-    ensures { λ r. ⌜ r ≡ accepted (Verdict.Feasible pages root) ⌝ }
+// The verdict: a bad mark first, then a heavy page, else page count and root weight.
+fn find_verdict(bad: Place, heavy: Place, pages: u16, root: u32) -> Verdict
+    ensures { λ r. ⌜ r ≡ atPlace bad (λ v. Verdict.Failed (Cause.BadMark v))
+        (atPlace heavy (λ p. Verdict.Failed (Cause.HeavyPage p)) (Verdict.Feasible pages root)) ⌝ }
 {
-    Answer {
-        number: 0,
-        place: 0,
-        verdict: Verdict::Feasible {
-            pages: pages as u32,
-            root,
+    if let Place::At(v) = bad {
+        return Verdict::Failed(Cause::BadMark(v));
+    }
+    if let Place::At(p) = heavy {
+        return Verdict::Failed(Cause::HeavyPage(p));
+    }
+    Verdict::Feasible {
+        pages: pages as u32,
+        root,
+    }
+}
+
+// A verdict with its number and place.
+fn give(verdict: Verdict) -> Answer
+    ensures { λ r. ⌜ r ≡ answerOf verdict ⌝ }
+{
+    match verdict {
+        Verdict::Feasible { pages, root } => Answer {
+            number: 0,
+            place: 0,
+            verdict: Beside::Given(Verdict::Feasible { pages, root }),
+        },
+        Verdict::Failed(cause) => give_cause(cause),
+    }
+}
+
+// The answer of a plan that failed.
+fn give_cause(cause: Cause) -> Answer
+    ensures { λ r. ⌜ r ≡ answerOf (Verdict.Failed cause) ⌝ }
+{
+    match cause {
+        Cause::BadMark(v) => Answer {
+            number: 10,
+            place: v,
+            verdict: Beside::Given(Verdict::Failed(Cause::BadMark(v))),
+        },
+        Cause::HeavyPage(p) => Answer {
+            number: 11,
+            place: p,
+            verdict: Beside::Given(Verdict::Failed(Cause::HeavyPage(p))),
         },
     }
 }
 
-// 10 and 11, and the verdict, where the tree is accepted.
+// The verdict's answer, where the tree is accepted.
 fn judge_marks(table: &[u8], marks: &[u8]) -> Answer
     requires { ⌜ AcceptedFacts (now table) ⌝ }
-    ensures { λ r. ⌜ r ≡ planAnswer (now (table .entry)) (now (marks .entry)) ⌝ }
+    ensures { λ r. ⌜ r ≡ answerOf (verdictOf (now (table .entry)) (now (marks .entry))) ⌝ }
 {
     let plan = lay_plan(table, marks);
     let heavy = first_heavy(&plan.weights, plan.pages, limit_of(table));
-    let verdict = accept_plan(plan.pages, plan.weights[1]);
-    earlier(10, plan.bad, earlier(11, heavy, verdict))
+    give(find_verdict(plan.bad, heavy, plan.pages, plan.weights[1]))
 }
 
 // Entry: the judge of plans.

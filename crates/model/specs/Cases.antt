@@ -12,9 +12,10 @@ use Rattle.model.specs.Plan.{prevAt, ownerAt, parentFrom, parentAt, mark
 use Rattle.model.specs.Runs.{Run, comesFrom, comesAfter, isRun, isMember, countOf, holds, runWith, homeFrom, homeOf, runWeight, withinLimit, runsOf, runCount, rootWeight}
 use Rattle.model.specs.Steps.{restSum, gainSum, takenCount, largestGain, takeEarliest, reduceFrom, reduce, better, leastOf, winner, staying, asMember, runChoices, running, runOf, lightest, stopsAt, secondStart, gainOf, childOf, childrenFrom, childrenOf, choicesOf, layMarks, bestMarks, levelMarks, whole, cutDown, remainders, laySingle, singleMarks, sides, remainder, takenAt, layPair, pairMarks, entryAt, stretched}
 use Rattle.model.specs.Archive.{nextPage, pageRecords, nextOnPage, nodeRecord, archiveOf, pagesIn, pageFieldIn, nodeFieldIn, parentIn, firstIn, nextIn, tableIn, beginsIn, continuesIn, markIn, marksIn}
-use Rattle.model.specs.Refusals.{shortTable, badCount, badLimit, badLength, noWeight, badWalk, heavyNode, badMarks, shortScratch, markRefused, pageRefused, badOutput, noArchive, formChecks, treeChecks, planChecks, judgeChecks, writeChecks, passes, soundForm, acceptedTree, refusedForWeight, feasiblePlan, causeOf, refused, firstOf, readTree, judgePlan, planned, planBest, planLevel, planSingle, planPair, writeArchive, isArchive, readChecks, readArchive, scratchWords, Planned}
-use Rattle.model.specs.declared.Verdict.{Verdict}
-use Rattle.model.specs.declared.Verdict.the-variants.{NotJudged, Feasible, Failed}
+use Rattle.model.specs.Refusals.{shortTable, badCount, badLimit, badLength, noWeight, badWalk, heavyNode, badMarks, shortScratch, markRefused, pageRefused, badOutput, noArchive, formChecks, treeChecks, planChecks, judgeChecks, writeChecks, passes, soundForm, acceptedTree, refusedForWeight, feasiblePlan, refused, firstOf, readTree, judgePlan, planned, planBest, planLevel, planSingle, planPair, writeArchive, isArchive, readChecks, readArchive, scratchWords, Planned}
+use Rattle.model.specs.declared.Beside.{Beside}
+use Rattle.model.specs.declared.Beside.the-variants.{Given, Nothing}
+use Rattle.model.specs.declared.Verdict.the-variants.{Feasible, Failed}
 use Rattle.model.specs.declared.Answer.{Answer}
 
 -- ---- The trees, as tables; labels are node numbers
@@ -46,13 +47,13 @@ treeG = bytesOf (5 ∷ 5 ∷ 1 ∷ 1 ∷ 2 ∷ 0 ∷ 2 ∷ 2 ∷ 3 ∷ 4 ∷ 3 �
 
 -- a test, with every definition open, so that it computes
 pub computed : Bool → Bool
-unfolding pick when atPlace sumTo countTo firstTo lastTo listTo every sameList wordAt bytesOf fieldAt walkFrom walkPlace chainFrom treeOf prevAt ownerAt parentFrom parentAt markAt inRun goodMark pageFrom pageOf pageCount pageWeight badMark heavyPage verdictOf runLastFrom runLast comesFrom comesAfter isRun isMember countOf holds runWith homeFrom homeOf runWeight withinLimit runsOf restSum gainSum takenCount largestGain takeEarliest reduceFrom reduce better leastOf winner staying asMember runChoices running runOf lightest stopsAt secondStart gainOf childOf childrenFrom childrenOf choicesOf layMarks bestMarks levelMarks whole cutDown remainders laySingle singleMarks sides remainder takenAt layPair pairMarks entryAt stretched nextPage pageRecords nextOnPage nodeRecord archiveOf pagesIn pageFieldIn nodeFieldIn parentIn firstIn nextIn tableIn beginsIn continuesIn markIn marksIn shortTable badCount badLimit badLength noWeight badWalk heavyNode badMarks shortScratch markRefused pageRefused badOutput noArchive formChecks treeChecks planChecks judgeChecks writeChecks passes soundForm acceptedTree refusedForWeight feasiblePlan causeOf refused firstOf readTree judgePlan planned planBest planLevel planSingle planPair writeArchive isArchive readChecks readArchive
+unfolding pick when atPlace sumTo countTo firstTo lastTo listTo every sameList wordAt bytesOf fieldAt walkFrom walkPlace chainFrom treeOf prevAt ownerAt parentFrom parentAt markAt inRun goodMark pageFrom pageOf pageCount pageWeight badMark heavyPage verdictOf runLastFrom runLast comesFrom comesAfter isRun isMember countOf holds runWith homeFrom homeOf runWeight withinLimit runsOf restSum gainSum takenCount largestGain takeEarliest reduceFrom reduce better leastOf winner staying asMember runChoices running runOf lightest stopsAt secondStart gainOf childOf childrenFrom childrenOf choicesOf layMarks bestMarks levelMarks whole cutDown remainders laySingle singleMarks sides remainder takenAt layPair pairMarks entryAt stretched nextPage pageRecords nextOnPage nodeRecord archiveOf pagesIn pageFieldIn nodeFieldIn parentIn firstIn nextIn tableIn beginsIn continuesIn markIn marksIn shortTable badCount badLimit badLength noWeight badWalk heavyNode badMarks shortScratch markRefused pageRefused badOutput noArchive formChecks treeChecks planChecks judgeChecks writeChecks passes soundForm acceptedTree refusedForWeight feasiblePlan firstOf readTree judgePlan planned writeArchive isArchive readChecks readArchive
 computed b = b
 
-abbrev saysFeasible : Verdict → ℕ → ℕ → Bool
-saysFeasible NotJudged p r = eqb 0 1
-saysFeasible (Feasible pages root) p r = eqb pages p && eqb root r
-saysFeasible (Failed c) p r = eqb 0 1
+abbrev saysFeasible : Beside → ℕ → ℕ → Bool
+saysFeasible (Given (Feasible pages root)) p r = eqb pages p && eqb root r
+saysFeasible (Given (Failed c)) p r = eqb 0 1
+saysFeasible Nothing p r = eqb 0 1
 
 -- the answer is number n at place p
 abbrev answers : Answer → ℕ → ℕ → Bool

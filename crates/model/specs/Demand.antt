@@ -1,16 +1,21 @@
--- Demand 3, in the words of sibling runs told from the tree alone: what the lowest plan there is means, of a planner's answer and marks and
--- of an archive's bytes, and when a tree is refused for weight.
+-- The demands in the words of their document, as the entries promise them beside their equations. Demand 3 speaks of sibling runs told from the
+-- tree alone: what the lowest plan there is means, of a planner's answer and marks and of an archive's bytes, and when a tree is refused for weight.
 use Prim.Native.Nat.{ℕ, _≤_}
 use mathlib.Core.Path.{_≡_}
 use mathlib.Core.Bool.{true}
 use mathlib.Core.List.{List, [], _∷_}
 use mathlib.Core.Logic.{_↔_}
+use lib.ListN.{length}
 use Rattle.model.specs.Basics.{listTo}
+use Rattle.model.specs.Table.{Bytes, nodeCount, limitOf}
+use Rattle.model.specs.Plan.{pageCount, pageWeight}
 use Rattle.model.specs.Runs.{Run, holds, withinLimit, runCount, rootWeight, runsOf}
-use Rattle.model.specs.Archive.{pagesIn, pageFieldIn}
-use Rattle.model.specs.Refusals.{planChecks, passes, soundForm, accepted}
+use Rattle.model.specs.Archive.{pagesIn, pageFieldIn, archiveBytes}
+use Rattle.model.specs.Refusals.{scratchWords, acceptedTree, feasiblePlan, soundForm, answerOf, planBest, Written, writeArchive}
 use Rattle.model.specs.declared.Answer.{Answer}
 use Rattle.model.specs.declared.Verdict.the-variants.{Feasible}
+
+-- ---- The lowest there is
 
 -- A sequence of sibling runs that holds the tree within the page limit has at least P runs and, where it has exactly P, a root page of
 -- at least W; and the runs rs are such a sequence, with exactly P runs and root page W.
@@ -27,14 +32,29 @@ pub record HeldWithin (t : List ℕ) : Type 0 where
   pub held : holds t runs ≡ true
   pub within : withinLimit t runs ≡ true
 
--- What the best planner says with its answer r and the marks that it leaves, where it was lent the table t, the marks m and the scratch s.
--- Where the tree is accepted and the buffers are right: page count and root weight of the verdict are the lowest there are, and the runs of
--- the marks have just these. A tree of sound form is refused with 7 exactly when no sequence of sibling runs holds it within the limit.
-pub record BestPromise (t m s : List ℕ) (r : Answer) (left : List ℕ) : Type 0 where
-  pub lowest : passes (planChecks t m s) ≡ true → (P : ℕ) × (W : ℕ) × (r ≡ accepted (Feasible P W)) × Lowest t P W (runsOf t left)
+-- ---- Planners
+
+-- what a planner is to be lent: an accepted tree, a mark a node, and scratch enough
+pub record Ready (t m s : List ℕ) : Type 0 where
+  pub tree : acceptedTree t ≡ true
+  pub marks : length m ≡ nodeCount t
+  pub scratch : scratchWords (nodeCount t) (limitOf t) ≤ length s
+
+-- What each planner says with its answer r, and the marks and the scratch that it leaves, where it was lent the table t, the marks m and the
+-- scratch s. Lent what it is to be lent, it accepts: the marks are a feasible plan, and its verdict has their page count and root weight. On
+-- refusal the marks and the scratch are as lent.
+pub record PlanPromise (t m s : List ℕ) (r : Answer) (marks scratch : List ℕ) : Type 0 where
+  pub accepts : Ready t m s → (r ≡ answerOf (Feasible (pageCount t marks) (pageWeight t marks 1))) × (feasiblePlan t marks ≡ true)
+  pub kept : (r .number ≡ 0 → ⊥) → (marks ≡ m) × (scratch ≡ s)
+
+-- What the best planner says besides. Lent what it is to be lent, page count and root weight of its verdict are the lowest there are, and the
+-- runs of the marks that it leaves have just these. A tree of sound form is refused with 7 exactly when no sequence of sibling runs holds it
+-- within the limit.
+pub record BestPromise (t m s : List ℕ) (r : Answer) (marks : List ℕ) : Type 0 where
+  pub lowest : Ready t m s → (P : ℕ) × (W : ℕ) × (r ≡ answerOf (Feasible P W)) × Lowest t P W (runsOf t marks)
   pub refusal : soundForm t ≡ true → (r .number ≡ 7) ↔ (HeldWithin t → ⊥)
 
--- ---- Read off the archive
+-- ---- The archive
 
 -- the run in page q's record
 abbrev pub runIn : List ℕ → ℕ → Run
@@ -48,9 +68,38 @@ runsIn a = listTo (pagesIn a) (λ q. runIn a q ∷ [])
 unfoldable pub rootIn : List ℕ → ℕ
 rootIn a = pageFieldIn a 1 2
 
--- The answer r carries the archive's page count P and the weight W in page record 1. Every sequence of sibling runs that holds the table's
--- tree within the page limit has at least P runs and, where it has exactly P, a root page of at least W. The archive's own runs are such a
--- sequence, with exactly P runs and root page W.
-pub record LowestOnFilm (t a : List ℕ) (r : Answer) : Type 0 where
-  pub verdict : r ≡ accepted (Feasible (pagesIn a) (rootIn a))
+-- The planner's answer p and the writer's answer r both carry the archive's page count P and the weight W in page record 1. Every sequence of
+-- sibling runs that holds the table's tree within the page limit has at least P runs and, where it has exactly P, a root page of at least W. The
+-- archive's own runs are such a sequence, with exactly P runs and root page W.
+pub record LowestOnFilm (t a : List ℕ) (p r : Answer) : Type 0 where
+  pub planner : p ≡ answerOf (Feasible (pagesIn a) (rootIn a))
+  pub writer : r ≡ answerOf (Feasible (pagesIn a) (rootIn a))
   pub lowest : Lowest t (pagesIn a) (rootIn a) (runsIn a)
+
+-- What the writer says with its answer r and the archive a that it leaves, where it was lent the table t, the marks m and the output out. Marks
+-- that the best planner left for this table, whatever else it was lent, it accepts where the output is as long as the planner's page count
+-- asks, and the archive of them is the lowest. On refusal the output is as lent.
+pub record WritePromise (t m out : List ℕ) (r : Answer) (a : List ℕ) : Type 0 where
+  pub accepts : (lent scratch : List ℕ) (P W : ℕ) → planBest t lent scratch .answer ≡ answerOf (Feasible P W) → planBest t lent scratch .marks ≡ m
+      → length out ≡ archiveBytes P (nodeCount t) → r .number ≡ 0
+  pub lowest : (lent scratch : List ℕ) → planBest t lent scratch .answer .number ≡ 0 → planBest t lent scratch .marks ≡ m
+      → r .number ≡ 0 → LowestOnFilm t a (planBest t lent scratch .answer) r
+  pub kept : (r .number ≡ 0 → ⊥) → a ≡ out
+
+-- the writer, lent the table t, the marks m and some output, accepts and leaves the archive a
+pub record WrittenFrom (t m a : List ℕ) : Type 0 where
+  pub bytes : Bytes t
+  pub out : List ℕ
+  pub accepts : writeArchive t m out .answer .number ≡ 0
+  pub leaves : writeArchive t m out .archive ≡ a
+
+-- What the reader says with its answer r, and the table t and the marks m that it leaves, where it was lent the archive a and the buffers table
+-- and marks. An archive that was written reads back as the very table and marks it was written from, where the buffers are as long as these. What
+-- is read is an accepted tree and a feasible plan, and the writer gives this very archive for them, with this answer. 13 means that no table and
+-- marks write the archive. On refusal both buffers are as lent.
+pub record ReadPromise (a table marks : List ℕ) (r : Answer) (t m : List ℕ) : Type 0 where
+  pub back : (u n : List ℕ) → WrittenFrom u n a → length table ≡ length u → length marks ≡ length n → (r .number ≡ 0) × (t ≡ u) × (m ≡ n)
+  pub sound : r .number ≡ 0 → (acceptedTree t ≡ true) × (feasiblePlan t m ≡ true)
+  pub again : r .number ≡ 0 → (out : List ℕ) → length out ≡ length a → writeArchive t m out ≡ record { answer = r; archive = a }
+  pub none : (r .number ≡ 13) ↔ ((u n : List ℕ) → WrittenFrom u n a → ⊥)
+  pub kept : (r .number ≡ 0 → ⊥) → (t ≡ table) × (m ≡ marks)

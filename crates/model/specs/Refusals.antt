@@ -13,48 +13,73 @@ use Rattle.model.specs.Archive.{archiveOf, archiveBytes, tableIn, marksI
 use Rattle.model.specs.declared.Place.{Place}
 use Rattle.model.specs.declared.Cause.the-variants.{BadMark, HeavyPage}
 use Rattle.model.specs.declared.Verdict.{Verdict}
-use Rattle.model.specs.declared.Verdict.the-variants.{NotJudged, Feasible, Failed}
+use Rattle.model.specs.declared.Verdict.the-variants.{Feasible, Failed}
+use Rattle.model.specs.declared.Beside.the-variants.{Given, Nothing}
 use Rattle.model.specs.declared.Answer.{Answer}
 
--- a check: its number in the list, and its place where its condition holds
+-- ---- Answers
+
+-- document 01's number and place for each case of the verdict
+abbrev pub numberOf : Verdict → ℕ
+numberOf (Feasible pages root) = 0
+numberOf (Failed (BadMark v)) = 10
+numberOf (Failed (HeavyPage p)) = 11
+
+abbrev pub placeOf : Verdict → ℕ
+placeOf (Feasible pages root) = 0
+placeOf (Failed (BadMark v)) = v
+placeOf (Failed (HeavyPage p)) = p
+
+-- the answer with a verdict: the one way from a verdict to its number and place
+abbrev pub answerOf : Verdict → Answer
+answerOf v = record { number = numberOf v; place = placeOf v; verdict = Given v }
+
+-- before a verdict: a refusal, and acceptance where no plan is given or made
+abbrev pub refused : ℕ → ℕ → Answer
+refused n p = record { number = n; place = p; verdict = Nothing }
+
+abbrev pub accepted : Answer
+accepted = record { number = 0; place = 0; verdict = Nothing }
+
+-- a check: the answer that it gives at a place, and its place where its condition holds
 pub record Check : Type 0 where
-  pub number : ℕ
+  pub answer : ℕ → Answer
   pub place : Place
 
 -- ---- The list
 
 -- 1: table under 4 bytes; place 0
 unfoldable pub shortTable : List ℕ → Check
-shortTable t = record { number = 1; place = when (ltb (length t) 4) 0 }
+shortTable t = record { answer = refused 1; place = when (ltb (length t) 4) 0 }
 
 -- 2: N is 0 or over 1,024; place N
 unfoldable pub badCount : List ℕ → Check
-badCount t = record { number = 2; place = when (eqb (nodeCount t) 0 || ltb maxNodes (nodeCount t)) (nodeCount t) }
+badCount t = record { answer = refused 2; place = when (eqb (nodeCount t) 0 || ltb maxNodes (nodeCount t)) (nodeCount t) }
 
 -- 3: K is 0 or over 1,024; place K
 unfoldable pub badLimit : List ℕ → Check
-badLimit t = record { number = 3; place = when (eqb (limitOf t) 0 || ltb maxLimit (limitOf t)) (limitOf t) }
+badLimit t = record { answer = refused 3; place = when (eqb (limitOf t) 0 || ltb maxLimit (limitOf t)) (limitOf t) }
 
 -- 4: length is not 4 + 8 × N; place the right length
 unfoldable pub badLength : List ℕ → Check
 badLength t =
-    record { number = 4; place = when (not (eqb (length t) (tableBytes (nodeCount t)))) (tableBytes (nodeCount t)) }
+    record { answer = refused 4; place = when (not (eqb (length t) (tableBytes (nodeCount t)))) (tableBytes (nodeCount t)) }
 
 -- 5: a weight is 0; place the first such node
 unfoldable pub noWeight : List ℕ → Check
-noWeight t = record { number = 5; place = firstTo (nodeCount t) (λ v. eqb (weightAt t v) 0) }
+noWeight t = record { answer = refused 5; place = firstTo (nodeCount t) (λ v. eqb (weightAt t v) 0) }
 
 -- 6: the walk fails; place 0 if node 1 has a sibling, else the nodes met in order before it failed
 unfoldable pub badWalk : List ℕ → Check
-badWalk t = record { number = 6; place = walkPlace t }
+badWalk t = record { answer = refused 6; place = walkPlace t }
 
 -- 7: a node outweighs K; place the first such node
 unfoldable pub heavyNode : List ℕ → Check
-heavyNode t = record { number = 7; place = firstTo (nodeCount t) (λ v. ltb (limitOf t) (weightAt t v)) }
+heavyNode t = record { answer = refused 7; place = firstTo (nodeCount t) (λ v. ltb (limitOf t) (weightAt t v)) }
 
 -- 8: marks buffer is not N long; place N
 unfoldable pub badMarks : ℕ → List ℕ → Check
-badMarks n m = record { number = 8; place = when (not (eqb (length m) n)) n }
+badMarks n m = record { answer = refused 8; place = when (not (eqb (length m) n)) n }
 
 -- 9: a planner's scratch is under 4 × N × (K + 3) 32-bit words; place that number
 abbrev pub scratchWords : ℕ → ℕ → ℕ
@@ -62,23 +87,23 @@ scratchWords n k = 4 * n * (k + 3)
 
 unfoldable pub shortScratch : List ℕ → List ℕ → Check
 shortScratch t s =
-    record { number = 9; place = when (ltb (length s) (scratchWords (nodeCount t) (limitOf t))) (scratchWords (nodeCount t) (limitOf t)) }
+    record { answer = refused 9; place = when (ltb (length s) (scratchWords (nodeCount t) (limitOf t))) (scratchWords (nodeCount t) (limitOf t)) }
 
 -- 10: a mark is not allowed; place the first such node
 unfoldable pub markRefused : List ℕ → List ℕ → Check
-markRefused t m = record { number = 10; place = badMark t m }
+markRefused t m = record { answer = λ v. answerOf (Failed (BadMark v)); place = badMark t m }
 
 -- 11: a page exceeds K; place the first such page
 unfoldable pub pageRefused : List ℕ → List ℕ → Check
-pageRefused t m = record { number = 11; place = heavyPage t m }
+pageRefused t m = record { answer = λ p. answerOf (Failed (HeavyPage p)); place = heavyPage t m }
 
 -- 12: output buffer has the wrong length; place the right length
 unfoldable pub badOutput : ℕ → List ℕ → Check
-badOutput size out = record { number = 12; place = when (not (eqb (length out) size)) size }
+badOutput size out = record { answer = refused 12; place = when (not (eqb (length out) size)) size }
 
 -- 13: no accepted tree and feasible plan write this archive; place 0
 unfoldable pub noArchive : Bool → Check
-noArchive written = record { number = 13; place = when (not written) 0 }
+noArchive written = record { answer = refused 13; place = when (not written) 0 }
 
 -- ---- The order, for each entry
 
@@ -117,45 +142,20 @@ refusedForWeight t = soundForm t && not (acceptedTree t)
 unfoldable pub feasiblePlan : List ℕ → List ℕ → Bool
 feasiblePlan t m = passes (judgeChecks t m)
 
--- ---- Answers
+-- ---- The entries
 
-abbrev pub accepted : Verdict → Answer
-accepted v = record { number = 0; place = 0; verdict = v }
-
--- the verdict beside a refusal: 10 and 11 are the judge's, and the others come before a verdict
-unfoldable pub causeOf : ℕ → ℕ → Verdict
-causeOf n p = pick (eqb n 10) (Failed (BadMark p)) (pick (eqb n 11) (Failed (HeavyPage p)) NotJudged)
-
-unfoldable pub refused : ℕ → ℕ → Answer
-refused n p = record { number = n; place = p; verdict = causeOf n p }
-
--- the first check that applies refuses; where none does, the answer is a
+-- the first check that applies answers; where none does, the answer is a
 unfoldable pub firstOf : List Check → Answer → Answer
 firstOf [] a = a
-firstOf (c ∷ cs) a = atPlace (c .place) (refused (c .number)) (firstOf cs a)
-
--- document 01's number and place for each verdict
-abbrev pub numberOf : Verdict → ℕ
-numberOf NotJudged = 0
-numberOf (Feasible pages root) = 0
-numberOf (Failed (BadMark v)) = 10
-numberOf (Failed (HeavyPage p)) = 11
-
-abbrev pub placeOf : Verdict → ℕ
-placeOf NotJudged = 0
-placeOf (Feasible pages root) = 0
-placeOf (Failed (BadMark v)) = v
-placeOf (Failed (HeavyPage p)) = p
-
--- ---- The entries
+firstOf (c ∷ cs) a = atPlace (c .place) (c .answer) (firstOf cs a)
 
 -- the tree reader
 unfoldable pub readTree : List ℕ → Answer
-readTree t = firstOf (treeChecks t) (accepted NotJudged)
+readTree t = firstOf (treeChecks t) accepted
 
 -- the judge of plans
 unfoldable pub judgePlan : List ℕ → List ℕ → Answer
-judgePlan t m = firstOf (judgeChecks t m) (accepted (verdictOf t m))
+judgePlan t m = firstOf (judgeChecks t m) (answerOf (verdictOf t m))
 
 -- a planner: its answer, and the marks and the scratch that it leaves
 pub record Planned : Type 0 where
@@ -168,18 +168,18 @@ planned steps t m s =
     let made : List ℕ = steps (limitOf t) (treeOf t) in
     pick (passes (planChecks t m s))
     (record { answer = judgePlan t made; marks = made; scratch = replicate (length s) 0 })
-    (record { answer = firstOf (planChecks t m s) (accepted NotJudged); marks = m; scratch = s })
+    (record { answer = firstOf (planChecks t m s) accepted; marks = m; scratch = s })
 
-unfoldable pub planBest : List ℕ → List ℕ → List ℕ → Planned
+abbrev pub planBest : List ℕ → List ℕ → List ℕ → Planned
 planBest = planned bestMarks
 
-unfoldable pub planLevel : List ℕ → List ℕ → List ℕ → Planned
+abbrev pub planLevel : List ℕ → List ℕ → List ℕ → Planned
 planLevel = planned levelMarks
 
-unfoldable pub planSingle : List ℕ → List ℕ → List ℕ → Planned
+abbrev pub planSingle : List ℕ → List ℕ → List ℕ → Planned
 planSingle = planned singleMarks
 
-unfoldable pub planPair : List ℕ → List ℕ → List ℕ → Planned
+abbrev pub planPair : List ℕ → List ℕ → List ℕ → Planned
 planPair = planned pairMarks
 
 -- the archive writer: its answer and the output that it leaves
@@ -190,7 +190,7 @@ pub record Written : Type 0 where
 unfoldable pub writeArchive : List ℕ → List ℕ → List ℕ → Written
 writeArchive t m out =
     record {
-      answer = firstOf (writeChecks t m out) (accepted (verdictOf t m));
+      answer = firstOf (writeChecks t m out) (answerOf (verdictOf t m));
       archive = pick (passes (writeChecks t m out)) (archiveOf t m) out;
     }
 
@@ -210,7 +210,7 @@ readChecks a t m = noArchive (isArchive a) ∷ badOutput (tableBytes (nodeCount 
 unfoldable pub readArchive : List ℕ → List ℕ → List ℕ → Restored
 readArchive a t m =
     record {
-      answer = firstOf (readChecks a t m) (accepted (verdictOf (tableIn a) (marksIn a)));
+      answer = firstOf (readChecks a t m) (answerOf (verdictOf (tableIn a) (marksIn a)));
       table = pick (passes (readChecks a t m)) (tableIn a) t;
       marks = pick (passes (readChecks a t m)) (marksIn a) m;
     }

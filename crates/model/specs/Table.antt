@@ -1,5 +1,5 @@
 -- Document 01, 'The tree table': words, records, the walk, and the tree by shape.
-use Prim.Native.Nat.{ℕ, zero, suc, _+_, _-_, _*_, _/_, _%_}
+use Prim.Native.Nat.{ℕ, zero, suc, _+_, _-_, _*_, _/_, _%_, _<_}
 use mathlib.Core.Bool.{not, _&&_}
 use mathlib.Core.List.{List, [], _∷_}
 use lib.ListN.{getD}
@@ -19,6 +19,10 @@ maxLimit = 1024
 -- a place for each node or page by number, and one for 0
 abbrev pub slots : ℕ
 slots = maxNodes + 1
+
+-- every element is a byte
+abbrev pub Bytes : List ℕ → Type 0
+Bytes t = (i : ℕ) → getD t i 0 < 256
 
 -- word i of a string of bytes, from 0: 16 bits, high byte first
 unfoldable pub wordAt : List ℕ → ℕ → ℕ

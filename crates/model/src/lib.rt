@@ -12,16 +12,21 @@ pub enum Cause {
     HeavyPage(u32),
 }
 
-// The judge's verdict of a plan. A plan that nobody judged has none.
+// The judge's verdict of a plan: its page count and root weight, or else why it failed.
 pub enum Verdict {
-    NotJudged,
     Feasible { pages: u32, root: u32 },
     Failed(Cause),
+}
+
+// What stands beside a number and a place: the verdict of a plan that was judged, or nothing, where the answer comes before a verdict.
+pub enum Beside {
+    Given(Verdict),
+    Nothing,
 }
 
 // A number and a place, 0 and 0 for acceptance, with the verdict beside it wherever a plan is given or made.
 pub struct Answer {
     pub number: u32,
     pub place: u32,
-    pub verdict: Verdict,
+    pub verdict: Beside,
 }

@@ -13,7 +13,7 @@ use Rattle.model.specs.declared.Answer.{Answer}
 use Rattle.theory.specs.Judged.{pageCount-le}
 use Rattle.theory.specs.ArchiveWords.{archive-pages}
 use Rattle.theory.specs.ArchiveBack.{Planned, planned-feasible}
-use Rattle.theory.specs.ArchiveAnswers.{feasible-judge, write-done}
+use Rattle.theory.specs.ArchiveAnswers.{judge-zero, write-done}
 use Rattle.archive.specs.Size.{archiveNodes, longestArchive}
 use Rattle.archive.specs.Answers.{written}
 use Rattle.pages.specs.Text.{planLines}
@@ -34,7 +34,7 @@ module _ {t m : List ℕ} (p : Planned t m) {size : ℕ} (is : size ≡ archiveB
         ∙ ap (λ (x : Written). x .archive)
         (w
         ∙ sym
-        (write-done t m start (ap (λ (a : Answer). a .number) (feasible-judge t m (planned-feasible p))) (long ∙ is)))
+        (write-done t m start (judge-zero t m (planned-feasible p)) (long ∙ is)))
 
     pub part-pages : pagesIn (take size (out ++ rest)) ≤ archiveNodes
     part-pages = omega (arith, ap pagesIn part-is, archive-pages t m, pageCount-le t m, p .tree .sound .count-high)

@@ -8,18 +8,18 @@ use mathlib.Core.List.{List, _++_, append-assoc}
 use lib.Dec.{eqb}
 use borrow.Author.Tests.{eq-eqb, ne-eqb}
 use Rattle.model.specs.Basics.{listTo}
-use Rattle.model.specs.Table.{limitOf, Chain, treeOf}
+use Rattle.model.specs.Table.{limitOf, Chain}
 use Rattle.model.specs.Plan.{pageCount, pageWeight, runLast}
 use Rattle.model.specs.Runs.{Run}
 use Rattle.model.specs.Archive.{archiveOf, pagesIn, pageFieldIn}
 use Rattle.model.specs.Refusals.{Planned as Left, planned}
+use Rattle.model.specs.Demand.{PlanPromise}
 use Rattle.model.specs.declared.Answer.{Answer}
 use Rattle.theory.specs.Ranges.{Upto, pick-true, pick-false, listTo-zero, listTo-suc, listTo-cong, append-nil}
 use Rattle.theory.specs.Pages.{pages-low}
-use Rattle.theory.specs.Promise.{plan-passes, planned-made, planned-judged}
+use Rattle.theory.specs.Promise.{passes-ready, plan-passes}
 use Rattle.theory.specs.ArchiveWords.{Page, page-first, getD-runsOf, archive-pages, archive-limit, archive-page}
 use Rattle.theory.specs.ArchiveBack.{Planned, feasible-planned}
-use Rattle.theory.specs.ArchiveAnswers.{judge-feasible}
 use Rattle.planner.specs.Outcome.{outcome}
 use Rattle.pages.specs.Text.{headLine, pageLine, refusalLine, runAt, planLines, answerLines}
 
@@ -87,15 +87,10 @@ lines-back {t} {m} p =
 
 module _ (steps : ℕ → Chain → List ℕ) (t m s : List ℕ) (r : Answer) (m′ s′ : List ℕ) (is : outcome r m′ s′ ≡ planned steps t m s) where
   -- acceptance leaves a feasible plan
-  pub made-planned : r .number ≡ 0 → Planned t m′
-  made-planned z =
-      let answer = ap (λ (p : Left). p .answer) is in
-      let pass = plan-passes steps t m s (ap (λ (x : Answer). x .number) (sym answer) ∙ z) in
-      let made : m′ ≡ steps (limitOf t) (treeOf t) = ap (λ (p : Left). p .marks) is ∙ planned-made steps t m s pass in
-      rw made
-      (feasible-planned t (steps (limitOf t) (treeOf t))
-      (judge-feasible t (steps (limitOf t) (treeOf t))
-      (ap (λ (x : Answer). x .number) (sym (answer ∙ planned-judged steps t m s pass)) ∙ z)))
+  pub made-planned : PlanPromise t m s r m′ s′ → r .number ≡ 0 → Planned t m′
+  made-planned promise z =
+      let pass = plan-passes steps t m s (ap (λ (p : Left). p .answer .number) (sym is) ∙ z) in
+      feasible-planned t m′ (promise .accepts (passes-ready t m s pass) .1)
 
 -- the lines of an answer, by its number
 module _ (t : List ℕ) (r : Answer) (m s : List ℕ) {made : Left} (is : outcome r m s ≡ made) where

@@ -1,14 +1,16 @@
 -- What a planner leaves: its answer, the marks and the scratch; and what it is lent where nothing is refused.
--- Defines outcome, stepsOf, PlanReady. Assumes nothing.
+-- Defines outcome, stepsOf, PlanReady. Proves steps-judged. Assumes nothing.
 use Prim.Native.Nat.{ℕ, _≤_}
 use mathlib.Core.Path.{_≡_}
 use mathlib.Core.List.{List}
 use lib.ListN.{length}
-use Rattle.model.specs.Table.{nodeCount, limitOf, Chain}
+use Rattle.model.specs.Table.{nodeCount, limitOf, Chain, treeOf}
 use Rattle.model.specs.Steps.{bestMarks, levelMarks, singleMarks, pairMarks}
 use Rattle.model.specs.Refusals.{Planned, scratchWords}
 use Rattle.model.specs.declared.Answer.{Answer}
 use Rattle.theory.specs.Sound.{AcceptedFacts}
+use Rattle.theory.specs.Feasible.{Judged}
+use Rattle.theory.specs.Lowest.{best-judged, level-judged, single-judged, pair-judged}
 use Rattle.planner.specs.declared.Planner.{Planner}
 use Rattle.planner.specs.declared.Planner.the-variants.{Best, Level, Single, Pair}
 
@@ -21,6 +23,13 @@ stepsOf Best = bestMarks
 stepsOf Level = levelMarks
 stepsOf Single = singleMarks
 stepsOf Pair = pairMarks
+
+-- the plan that they make of an accepted tree is feasible
+pub steps-judged : (p : Planner) {t : List ℕ} → AcceptedFacts t → Judged t (stepsOf p (limitOf t) (treeOf t))
+steps-judged Best a = best-judged a
+steps-judged Level a = level-judged a
+steps-judged Single a = single-judged a
+steps-judged Pair a = pair-judged a
 
 -- the tree is accepted, the marks are one a node, and the scratch is long enough
 pub record PlanReady (t a s : List ℕ) : Type 0 where

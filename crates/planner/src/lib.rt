@@ -13,7 +13,7 @@ use single::lay_single;
 ghost use mathlib.Core.Path.{_≡_};
 ghost use Rattle.model.specs.Table.{limitOf, treeOf};
 ghost use Rattle.model.specs.Refusals.{planned, planBest, planLevel, planSingle, planPair};
-ghost use Rattle.model.specs.Demand.{BestPromise};
+ghost use Rattle.model.specs.Demand.{PlanPromise, BestPromise};
 ghost use Rattle.planner.specs.Outcome.{outcome, stepsOf, PlanReady};
 
 // Whose steps make the plan.
@@ -37,8 +37,10 @@ fn lay_plan(planner: Planner, table: &[u8], marks: &mut [u8], scratch: &mut [u32
     }
 }
 
+// What every entry does: it refuses, or lays the plan, clears the scratch and answers with the judge.
 fn make_plan(planner: Planner, table: &[u8], marks: &mut [u8], scratch: &mut [u32]) -> Answer
     ensures { λ r. ⌜ outcome r (now (marks .exit)) (now (scratch .exit)) ≡ planned (stepsOf planner) (now (table .entry)) (now (marks .entry)) (now (scratch .entry)) ⌝ }
+    ensures { λ r. ⌜ PlanPromise (now (table .entry)) (now (marks .entry)) (now (scratch .entry)) r (now (marks .exit)) (now (scratch .exit)) ⌝ }
 {
     let checked = check_plan(table, marks, scratch);
     if checked.number != 0 {
@@ -52,6 +54,7 @@ fn make_plan(planner: Planner, table: &[u8], marks: &mut [u8], scratch: &mut [u3
 // Entry: the best planner. Its plan is the lowest there is, and 7 means that there is none.
 pub fn plan_best(table: &[u8], marks: &mut [u8], scratch: &mut [u32]) -> Answer
     ensures { λ r. ⌜ outcome r (now (marks .exit)) (now (scratch .exit)) ≡ planBest (now (table .entry)) (now (marks .entry)) (now (scratch .entry)) ⌝ }
+    ensures { λ r. ⌜ PlanPromise (now (table .entry)) (now (marks .entry)) (now (scratch .entry)) r (now (marks .exit)) (now (scratch .exit)) ⌝ }
     ensures { λ r. ⌜ BestPromise (now (table .entry)) (now (marks .entry)) (now (scratch .entry)) r (now (marks .exit)) ⌝ }
 {
     make_plan(Planner::Best, table, marks, scratch)
@@ -60,6 +63,7 @@ pub fn plan_best(table: &[u8], marks: &mut [u8], scratch: &mut [u32]) -> Answer
 // Entry: the level planner.
 pub fn plan_level(table: &[u8], marks: &mut [u8], scratch: &mut [u32]) -> Answer
     ensures { λ r. ⌜ outcome r (now (marks .exit)) (now (scratch .exit)) ≡ planLevel (now (table .entry)) (now (marks .entry)) (now (scratch .entry)) ⌝ }
+    ensures { λ r. ⌜ PlanPromise (now (table .entry)) (now (marks .entry)) (now (scratch .entry)) r (now (marks .exit)) (now (scratch .exit)) ⌝ }
 {
     make_plan(Planner::Level, table, marks, scratch)
 }
@@ -67,6 +71,7 @@ pub fn plan_level(table: &[u8], marks: &mut [u8], scratch: &mut [u32]) -> Answer
 // Entry: the single planner.
 pub fn plan_single(table: &[u8], marks: &mut [u8], scratch: &mut [u32]) -> Answer
     ensures { λ r. ⌜ outcome r (now (marks .exit)) (now (scratch .exit)) ≡ planSingle (now (table .entry)) (now (marks .entry)) (now (scratch .entry)) ⌝ }
+    ensures { λ r. ⌜ PlanPromise (now (table .entry)) (now (marks .entry)) (now (scratch .entry)) r (now (marks .exit)) (now (scratch .exit)) ⌝ }
 {
     make_plan(Planner::Single, table, marks, scratch)
 }
@@ -74,6 +79,7 @@ pub fn plan_single(table: &[u8], marks: &mut [u8], scratch: &mut [u32]) -> Answe
 // Entry: the pair planner.
 pub fn plan_pair(table: &[u8], marks: &mut [u8], scratch: &mut [u32]) -> Answer
     ensures { λ r. ⌜ outcome r (now (marks .exit)) (now (scratch .exit)) ≡ planPair (now (table .entry)) (now (marks .entry)) (now (scratch .entry)) ⌝ }
+    ensures { λ r. ⌜ PlanPromise (now (table .entry)) (now (marks .entry)) (now (scratch .entry)) r (now (marks .exit)) (now (scratch .exit)) ⌝ }
 {
     make_plan(Planner::Pair, table, marks, scratch)
 }

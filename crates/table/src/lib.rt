@@ -3,9 +3,8 @@ mod walk;
 pub mod words;
 
 use model::Answer;
-use model::Cause;
+use model::Beside;
 use model::Place;
-use model::Verdict;
 use walk::walk_place;
 use words::limit_of;
 use words::node_count;
@@ -27,28 +26,14 @@ pub const MAX_LIMIT: u16 = 1024;
 // A place for each node or page by number, and one for 0.
 pub const SLOTS: usize = MAX_NODES as usize + 1;
 
-// A refusal. 10 and 11 are the judge's, and have their cause beside them.
+// A refusal that comes before a verdict.
 pub fn refuse(number: u32, place: u32) -> Answer
     ensures { λ r. ⌜ r ≡ refused number place ⌝ }
 {
-    if number == 10 {
-        return Answer {
-            number,
-            place,
-            verdict: Verdict::Failed(Cause::BadMark(place)),
-        };
-    }
-    if number == 11 {
-        return Answer {
-            number,
-            place,
-            verdict: Verdict::Failed(Cause::HeavyPage(place)),
-        };
-    }
     Answer {
         number,
         place,
-        verdict: Verdict::NotJudged,
+        verdict: Beside::Nothing,
     }
 }
 
@@ -105,14 +90,14 @@ pub fn table_bytes(nodes: u16) -> u32
     4 + 8 * (nodes as u32)
 }
 
-// Nothing is refused, and no plan was judged.
+// Nothing is refused, and there is no verdict.
 pub fn accept() -> Answer
-    ensures { λ r. ⌜ r ≡ accepted Verdict.NotJudged ⌝ }
+    ensures { λ r. ⌜ r ≡ accepted ⌝ }
 {
     Answer {
         number: 0,
         place: 0,
-        verdict: Verdict::NotJudged,
+        verdict: Beside::Nothing,
     }
 }
 
@@ -128,7 +113,7 @@ pub fn earlier(number: u32, place: Place, rest: Answer) -> Answer
 
 // 1 to 4: the head and the length.
 fn read_head(table: &[u8]) -> Answer
-    ensures { λ r. ⌜ r ≡ firstOf (headChecks (now (table .entry))) (accepted Verdict.NotJudged) ⌝ }
+    ensures { λ r. ⌜ r ≡ firstOf (headChecks (now (table .entry))) accepted ⌝ }
 {
     let nodes = node_count(table);
     let size = table_bytes(nodes);

@@ -7,30 +7,31 @@ use mathlib.Core.Logic.{_⊎_, inl, inr}
 use mathlib.Core.List.{List, [], _∷_}
 use lib.ListN.{length}
 use lib.Dec.{eqb}
-use borrow.Author.Tests.{eqb-true, eqb-false, eq-eqb, ne-eqb}
-use Rattle.model.specs.Basics.{pick, when, sameList}
+use borrow.Author.Tests.{eq-eqb, ne-eqb, not-false}
+use Rattle.model.specs.Basics.{pick, when, every, sameList}
 use Rattle.model.specs.Table.{nodeCount, tableBytes}
 use Rattle.model.specs.Plan.{pageCount, verdictOf}
 use Rattle.model.specs.Archive.{archiveOf, archiveBytes, tableIn, marksIn}
-use Rattle.model.specs.Refusals.{Check, badMarks, badOutput, noArchive, judgeChecks, writeChecks, readChecks, passes, feasiblePlan, refused, accepted, firstOf, judgePlan, Written, writeArchive, isArchive, readArchive}
+use Rattle.model.specs.Refusals.{Check, badMarks, badOutput, noArchive, judgeChecks, writeChecks, readChecks, passes, feasiblePlan, answerOf, refused, firstOf, judgePlan, Written, writeArchive, isArchive, readArchive}
 use Rattle.model.specs.declared.Place.the-variants.{At, Nowhere}
 use Rattle.model.specs.declared.Answer.{Answer}
-use Rattle.theory.specs.Ranges.{pick-true, pick-false, when-true, when-false, atPlace-at, atPlace-nowhere, bool-cases}
-use Rattle.theory.specs.Sound.{passes-cons, passes-append}
-use Rattle.theory.specs.Checks.{firstOf-pass, firstOf-stop, firstOf-all, accepted-pass, judge-numbers, read-numbers}
+use Rattle.theory.specs.Ranges.{pick-true, pick-false, when-true, when-false, when-nowhere, atPlace-at, atPlace-nowhere, bool-cases}
+use Rattle.theory.specs.Sound.{passes-cons, passes-first, passes-append, both-true}
+use Rattle.theory.specs.Checks.{firstOf-pass, firstOf-stop, firstOf-all, accepted-pass, never-first, judge-never, write-never, read-never}
 use Rattle.theory.specs.Siblings.{and-true, and-false-left, and-false-right}
+use Rattle.theory.specs.Feasible.{feasible-judged, judged-answer}
 use Rattle.theory.specs.ArchiveWords.{length-archive}
 use Rattle.theory.specs.ArchiveBack.{sameList-true}
 
 -- ---- One check
 
-firstOf-at : (c : Check) (cs : List Check) (a : Answer) (p : ℕ) → c .place ≡ At p → firstOf (c ∷ cs) a ≡ refused (c .number) p
+firstOf-at : (c : Check) (cs : List Check) (a : Answer) (p : ℕ) → c .place ≡ At p → firstOf (c ∷ cs) a ≡ c .answer p
 unfolding firstOf
-firstOf-at c cs a p e = atPlace-at (c .place) p (refused (c .number)) (firstOf cs a) e
+firstOf-at c cs a p e = atPlace-at (c .place) p (c .answer) (firstOf cs a) e
 
 firstOf-next : (c : Check) (cs : List Check) (a : Answer) → c .place ≡ Nowhere → firstOf (c ∷ cs) a ≡ firstOf cs a
 unfolding firstOf
-firstOf-next c cs a e = atPlace-nowhere (c .place) (refused (c .number)) (firstOf cs a) e
+firstOf-next c cs a e = atPlace-nowhere (c .place) (c .answer) (firstOf cs a) e
 
 passes-nil : passes [] ≡ true
 unfolding passes
@@ -45,11 +46,14 @@ passes-at c cs p e = atPlace-at (c .place) p (λ q. false) (passes cs) e
 -- no refusal: a feasible plan
 pub judge-feasible : (t m : List ℕ) → judgePlan t m .number ≡ 0 → feasiblePlan t m ≡ true
 unfolding judgePlan feasiblePlan
-judge-feasible t m e = accepted-pass (verdictOf t m) (judgeChecks t m) (judge-numbers t m) e
+judge-feasible t m e = accepted-pass (judgeChecks t m) (answerOf (verdictOf t m)) (judge-never t m) e
 
-pub feasible-judge : (t m : List ℕ) → feasiblePlan t m ≡ true → judgePlan t m ≡ accepted (verdictOf t m)
+pub judge-zero : (t m : List ℕ) → feasiblePlan t m ≡ true → judgePlan t m .number ≡ 0
+judge-zero t m e = ap (λ (a : Answer). a .number) (judged-answer (feasible-judged t m e))
+
+pub feasible-judge : (t m : List ℕ) → feasiblePlan t m ≡ true → judgePlan t m ≡ answerOf (verdictOf t m)
 unfolding judgePlan feasiblePlan
-feasible-judge t m e = firstOf-all (judgeChecks t m) (accepted (verdictOf t m)) e
+feasible-judge t m e = firstOf-all (judgeChecks t m) (answerOf (verdictOf t m)) e
 
 -- ---- The writer
 
@@ -57,7 +61,7 @@ module _ (t m out : List ℕ) where
   abbrev size : ℕ
   size = archiveBytes (pageCount t m) (nodeCount t)
 
-  written-by : {a : Answer} {o : List ℕ} → a ≡ firstOf (writeChecks t m out) (accepted (verdictOf t m))
+  written-by : {a : Answer} {o : List ℕ} → a ≡ firstOf (writeChecks t m out) (answerOf (verdictOf t m))
       → o ≡ pick (passes (writeChecks t m out)) (archiveOf t m) out → record { answer = a; archive = o } ≡ writeArchive t m out
   unfolding writeArchive
   written-by e h = ap₂ (λ x y. record { answer = x; archive = y }) e h
@@ -67,15 +71,18 @@ module _ (t m out : List ℕ) where
   unfolding judgePlan writeChecks feasiblePlan
   write-refuses h =
       written-by
-      (sym (firstOf-stop (verdictOf t m) (judgeChecks t m) (badOutput size out ∷ []) (accepted (verdictOf t m)) h))
+      (sym (firstOf-stop (judgeChecks t m) (badOutput size out ∷ []) (answerOf (verdictOf t m)) (answerOf (verdictOf t m)) fails))
       (sym
       (pick-false (passes (writeChecks t m out)) (archiveOf t m) out
       (passes-append (judgeChecks t m) (badOutput size out ∷ [])
-      ∙ and-false-left (passes (judgeChecks t m)) (passes (badOutput size out ∷ [])) (none (bool-cases (feasiblePlan t m))))))
+      ∙ and-false-left (passes (judgeChecks t m)) (passes (badOutput size out ∷ [])) fails)))
     where
       none : (feasiblePlan t m ≡ true) ⊎ (feasiblePlan t m ≡ false) → passes (judgeChecks t m) ≡ false
-      none (inl e) = absurd (h (ap (λ (a : Answer). a .number) (feasible-judge t m e)))
+      none (inl e) = absurd (h (judge-zero t m e))
       none (inr e) = e
+
+      fails : passes (judgeChecks t m) ≡ false
+      fails = none (bool-cases (feasiblePlan t m))
 
   module _ (e : judgePlan t m .number ≡ 0) where
     checks-pass : passes (judgeChecks t m) ≡ true
@@ -91,8 +98,8 @@ module _ (t m out : List ℕ) where
         when-true (not (eqb (length out) size)) size (ap not (ne-eqb (length out) size other)) in
         written-by
         (sym
-        (firstOf-pass (judgeChecks t m) (badOutput size out ∷ []) (accepted (verdictOf t m)) checks-pass
-        ∙ firstOf-at (badOutput size out) [] (accepted (verdictOf t m)) size place))
+        (firstOf-pass (judgeChecks t m) (badOutput size out ∷ []) (answerOf (verdictOf t m)) checks-pass
+        ∙ firstOf-at (badOutput size out) [] (answerOf (verdictOf t m)) size place))
         (sym
         (pick-false (passes (writeChecks t m out)) (archiveOf t m) out
         (passes-append (judgeChecks t m) (badOutput size out ∷ [])
@@ -109,35 +116,26 @@ module _ (t m out : List ℕ) where
         ∙ and-true (passes (judgeChecks t m)) (passes (badOutput size out ∷ [])) checks-pass
         (passes-cons (badOutput size out) [] place ∙ passes-nil) in
         written-by
-        (feasible-judge t m (judge-feasible t m e) ∙ sym (firstOf-all (writeChecks t m out) (accepted (verdictOf t m)) all))
+        (feasible-judge t m (judge-feasible t m e) ∙ sym (firstOf-all (writeChecks t m out) (answerOf (verdictOf t m)) all))
         (sym (pick-true (passes (writeChecks t m out)) (archiveOf t m) out all))
 
   -- ---- What the writer's answer tells: it wrote an archive, or none of that length is written
 
-  pub writer-done : writeArchive t m out .answer .number ≡ 0
-      → (feasiblePlan t m ≡ true) × (writeArchive t m out ≡ record { answer = accepted (verdictOf t m); archive = archiveOf t m })
-  unfolding refused
-  writer-done z = by-judge (bool-cases (eqb (judgePlan t m .number) 0))
-    where
-      by-length : (e : judgePlan t m .number ≡ 0) → (eqb (length out) size ≡ true) ⊎ (eqb (length out) size ≡ false)
-          → (feasiblePlan t m ≡ true) × (writeArchive t m out ≡ record { answer = accepted (verdictOf t m); archive = archiveOf t m })
-      by-length e (inl q) = (
-        judge-feasible t m e,
-        sym (write-done e (eqb-true (length out) size q))
-            ∙ ap (λ (x : Answer). record { answer = x; archive = archiveOf t m }) (feasible-judge t m (judge-feasible t m e)),
-      )
-      by-length e (inr q) =
-          absurd (twelve (ap (λ (w : Written). w .answer .number) (write-short e (eqb-false (length out) size q)) ∙ z))
-        where
-          twelve : refused 12 size .number ≡ 0 → ⊥
-          twelve x = omega arith
+  pub write-feasible : passes (writeChecks t m out) ≡ true → feasiblePlan t m ≡ true
+  unfolding writeChecks feasiblePlan
+  write-feasible e =
+      both-true (passes (judgeChecks t m)) (passes (badOutput size out ∷ [])) (sym (passes-append (judgeChecks t m) (badOutput size out ∷ [])) ∙ e) .0
 
-      by-judge : (eqb (judgePlan t m .number) 0 ≡ true) ⊎ (eqb (judgePlan t m .number) 0 ≡ false)
-          → (feasiblePlan t m ≡ true) × (writeArchive t m out ≡ record { answer = accepted (verdictOf t m); archive = archiveOf t m })
-      by-judge (inl q) = by-length (eqb-true (judgePlan t m .number) 0 q) (bool-cases (eqb (length out) size))
-      by-judge (inr q) =
-          let other = eqb-false (judgePlan t m .number) 0 q in
-          absurd (other (ap (λ (w : Written). w .answer .number) (write-refuses other) ∙ z))
+  pub writer-done : writeArchive t m out .answer .number ≡ 0
+      → (feasiblePlan t m ≡ true) × (writeArchive t m out ≡ record { answer = answerOf (verdictOf t m); archive = archiveOf t m })
+  unfolding writeArchive
+  writer-done z =
+      let all : passes (writeChecks t m out) ≡ true = accepted-pass (writeChecks t m out) (answerOf (verdictOf t m)) (write-never t m out) z in (
+        write-feasible all,
+        sym
+            (written-by (sym (firstOf-all (writeChecks t m out) (answerOf (verdictOf t m)) all))
+            (sym (pick-true (passes (writeChecks t m out)) (archiveOf t m) out all))),
+      )
 
   pub writer-refused : (writeArchive t m out .answer .number ≡ 0 → ⊥) → (a : List ℕ) → length out ≡ length a
       → (feasiblePlan t m && sameList (archiveOf t m) a) ≡ false
@@ -147,7 +145,7 @@ module _ (t m out : List ℕ) where
           → (sameList (archiveOf t m) a ≡ true) ⊎ (sameList (archiveOf t m) a ≡ false)
           → (feasiblePlan t m && sameList (archiveOf t m) a) ≡ false
       go (inl e) (inl s) =
-          let zero-number : judgePlan t m .number ≡ 0 = ap (λ (x : Answer). x .number) (feasible-judge t m e) in
+          let zero-number = judge-zero t m e in
           let fits : length out ≡ archiveBytes (pageCount t m) (nodeCount t) =
           long ∙ ap length (sym (sameList-true (archiveOf t m) a s)) ∙ length-archive t m in
           absurd (h (ap (λ (w : Written). w .answer .number) (sym (write-done zero-number fits)) ∙ zero-number))
@@ -157,13 +155,13 @@ module _ (t m out : List ℕ) where
 -- ---- The reader
 
 module _ (a t m : List ℕ) where
-  restored-by : {r : Answer} {x y : List ℕ} → r ≡ firstOf (readChecks a t m) (accepted (verdictOf (tableIn a) (marksIn a)))
+  restored-by : {r : Answer} {x y : List ℕ} → r ≡ firstOf (readChecks a t m) (answerOf (verdictOf (tableIn a) (marksIn a)))
       → x ≡ pick (passes (readChecks a t m)) (tableIn a) t → y ≡ pick (passes (readChecks a t m)) (marksIn a) m
       → record { answer = r; table = x; marks = y } ≡ readArchive a t m
   unfolding readArchive
   restored-by e h k i = record { answer = e i; table = h i; marks = k i }
 
-  refuses-by : {r : Answer} → r ≡ firstOf (readChecks a t m) (accepted (verdictOf (tableIn a) (marksIn a)))
+  refuses-by : {r : Answer} → r ≡ firstOf (readChecks a t m) (answerOf (verdictOf (tableIn a) (marksIn a)))
       → passes (readChecks a t m) ≡ false → record { answer = r; table = t; marks = m } ≡ readArchive a t m
   refuses-by e h =
       restored-by e (sym (pick-false (passes (readChecks a t m)) (tableIn a) t h)) (sym (pick-false (passes (readChecks a t m)) (marksIn a) m h))
@@ -218,7 +216,7 @@ module _ (a t m : List ℕ) where
           ∙ passes-at (badMarks (nodeCount a) m) [] (nodeCount a) place)
 
       pub read-done : length m ≡ nodeCount a
-          → record { answer = accepted (verdictOf (tableIn a) (marksIn a)); table = tableIn a; marks = marksIn a } ≡ readArchive a t m
+          → record { answer = answerOf (verdictOf (tableIn a) (marksIn a)); table = tableIn a; marks = marksIn a } ≡ readArchive a t m
       unfolding readChecks noArchive badOutput badMarks
       read-done long =
           let place : when (not (eqb (length m) (nodeCount a))) (nodeCount a) ≡ Nowhere =
@@ -231,10 +229,37 @@ module _ (a t m : List ℕ) where
           (sym (pick-true (passes (readChecks a t m)) (tableIn a) t all))
           (sym (pick-true (passes (readChecks a t m)) (marksIn a) m all))
 
-  -- ---- What the reader's answer tells: the table and the marks are the archive's
+  -- ---- What the reader's answer tells: the bytes are an archive, and the table and the marks are those that it tells
 
-  pub reader-accepts : readArchive a t m .answer .number ≡ 0 → (readArchive a t m .table ≡ tableIn a) × (readArchive a t m .marks ≡ marksIn a)
+  pub read-film : passes (readChecks a t m) ≡ true → isArchive a ≡ true
+  unfolding readChecks noArchive
+  read-film e =
+      not-false (isArchive a)
+      (when-nowhere (not (isArchive a)) 0
+      (passes-first (noArchive (isArchive a)) (badOutput (tableBytes (nodeCount a)) t ∷ badMarks (nodeCount a) m ∷ []) e))
+
+  pub reader-done : readArchive a t m .answer .number ≡ 0
+      → (isArchive a ≡ true)
+      × (readArchive a t m ≡ record { answer = answerOf (verdictOf (tableIn a) (marksIn a)); table = tableIn a; marks = marksIn a })
   unfolding readArchive
-  reader-accepts z =
-      let all : passes (readChecks a t m) ≡ true = accepted-pass (verdictOf (tableIn a) (marksIn a)) (readChecks a t m) (read-numbers a t m) z in
-      (pick-true (passes (readChecks a t m)) (tableIn a) t all, pick-true (passes (readChecks a t m)) (marksIn a) m all)
+  reader-done z =
+      let all : passes (readChecks a t m) ≡ true =
+      accepted-pass (readChecks a t m) (answerOf (verdictOf (tableIn a) (marksIn a))) (read-never a t m) z in (
+        read-film all,
+        sym
+            (restored-by (sym (firstOf-all (readChecks a t m) (answerOf (verdictOf (tableIn a) (marksIn a))) all))
+            (sym (pick-true (passes (readChecks a t m)) (tableIn a) t all))
+            (sym (pick-true (passes (readChecks a t m)) (marksIn a) m all))),
+      )
+
+  -- an archive is not refused with 13
+  pub film-read : isArchive a ≡ true → readArchive a t m .answer .number ≡ 13 → answerOf (verdictOf (tableIn a) (marksIn a)) .number ≡ 13
+  unfolding readArchive readChecks noArchive badOutput badMarks every
+  film-read e h =
+      never-first 13 (badOutput (tableBytes (nodeCount a)) t ∷ badMarks (nodeCount a) m ∷ []) (answerOf (verdictOf (tableIn a) (marksIn a))) (λ p. refl)
+      (sym
+      (ap (λ (x : Answer). x .number)
+      (firstOf-next (noArchive (isArchive a)) (badOutput (tableBytes (nodeCount a)) t ∷ badMarks (nodeCount a) m ∷ [])
+      (answerOf (verdictOf (tableIn a) (marksIn a))) (archive-place e)))
+      ∙ h)
+      .1

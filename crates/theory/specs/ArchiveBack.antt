@@ -12,7 +12,7 @@ use lib.Seq.{ext-getD}
 use lib.Dec.{eqb, ltb, leb}
 use borrow.Author.Tests.{eqb-true, eqb-false, eq-eqb, ne-eqb, ltb-true, ltb-false, lt-ltb, le-ltb, le-leb, leb-true}
 use Rattle.model.specs.Basics.{pick, atPlace, countTo, firstTo, listTo, sameList}
-use Rattle.model.specs.Table.{wordAt, bytesOf, nodeCount, limitOf, fieldAt, weightAt, labelAt, firstAt, nextAt, tableBytes}
+use Rattle.model.specs.Table.{Bytes, wordAt, bytesOf, nodeCount, limitOf, fieldAt, weightAt, labelAt, firstAt, nextAt, tableBytes}
 use Rattle.model.specs.Plan.{parentAt, stays, begins, continues, markAt, hasMark, heavyPage, pageCount, pageWeight, runLast}
 use Rattle.model.specs.Archive.{archiveOf, pagesIn, pageFieldIn, nodeFieldIn, parentIn, firstIn, nextIn, tableIn, beginsIn, continuesIn, markIn, marksIn}
 use Rattle.model.specs.Refusals.{feasiblePlan, isArchive}
@@ -23,7 +23,7 @@ use Rattle.theory.specs.Sound.{SoundFacts, both-true}
 use Rattle.theory.specs.Chosen.{countTo-mono, countTo-pass, countTo-some}
 use Rattle.theory.specs.Siblings.{and-true, and-false-left, first-by-parent, next-by-parent}
 use Rattle.theory.specs.RunMarks.{GoodMarks, good-marks, InRunOf, in-run-of, runLast-marks}
-use Rattle.theory.specs.Encode.{Bytes, word-small}
+use Rattle.theory.specs.Encode.{word-small}
 use Rattle.theory.specs.ArchiveWords.{getD-fours, length-fours, words-tell, Words, words-bytes, words-cons, words-nil, words-listTo, Page, page-first, archive-nodes, archive-limit, archive-pages, archive-page, archive-node, archive-parent}
 -- an accepted tree and a feasible plan, in bytes
 pub use Rattle.theory.specs.Feasible.{Judged as Planned, feasible-judged as feasible-planned, judged-feasible as planned-feasible}

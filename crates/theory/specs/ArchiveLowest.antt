@@ -1,30 +1,28 @@
--- Demand 3 read off the archive's bytes: where an archive is what the writer gives for a table and the marks of the best planner, the
--- page count, the weight in page record 1 and the runs in its page records are the lowest there are.
--- Proves archive-runs and archive-root (they are the plan's), film-lowest. Assumes nothing.
+-- Demand 3 read off the archive's bytes: page count, the weight in page record 1 and the runs in the page records are the plan's; so where a
+-- planner promises that its plan is the lowest, the archive of that plan is the lowest too.
+-- Proves archive-runs, archive-root, plan-feasible, film-lowest. Assumes nothing.
 use Prim.Native.Nat.{ℕ, suc, _≤_, _<_}
 use native.Mathlib.Omega.{arith}
 use mathlib.Core.Path.{_≡_, sym, _∙_, ap, ap₂}
+use mathlib.Core.Bool.{true}
 use mathlib.Core.List.{List, [], _∷_}
 use lib.ListN.{getD}
 use lib.Seq.{ext-getD}
 use Rattle.model.specs.Basics.{listTo}
-use Rattle.model.specs.Table.{limitOf, treeOf}
 use Rattle.model.specs.Plan.{pageCount, pageWeight, verdictOf}
 use Rattle.model.specs.Runs.{rootRun, runsOf}
-use Rattle.model.specs.Steps.{bestMarks}
 use Rattle.model.specs.Archive.{archiveOf, pagesIn}
-use Rattle.model.specs.Refusals.{accepted, planBest, Written, writeArchive}
-use Rattle.model.specs.Demand.{runIn, runsIn, rootIn, LowestOnFilm}
-use Rattle.model.specs.declared.Verdict.the-variants.{Feasible}
+use Rattle.model.specs.Refusals.{answerOf, feasiblePlan}
+use Rattle.model.specs.Demand.{Ready, PlanPromise, BestPromise, runIn, runsIn, rootIn, LowestOnFilm}
+use Rattle.model.specs.declared.Verdict.the-variants.{Feasible, Failed}
+use Rattle.model.specs.declared.Beside.{Beside}
+use Rattle.model.specs.declared.Beside.the-variants.{Given, Nothing}
+use Rattle.model.specs.declared.Answer.{Answer}
 use Rattle.theory.specs.Ranges.{length-listTo, getD-listTo}
-use Rattle.theory.specs.Sound.{AcceptedFacts}
 use Rattle.theory.specs.Pages.{pages-low}
-use Rattle.theory.specs.Feasible.{judged-verdict}
+use Rattle.theory.specs.Feasible.{Judged, feasible-judged, judged-verdict}
 use Rattle.theory.specs.MarkedRuns.{length-runsOf}
 use Rattle.theory.specs.ArchiveWords.{page-first, getD-runsOf, archive-pages, archive-page}
-use Rattle.theory.specs.ArchiveAnswers.{writer-done}
-use Rattle.theory.specs.Lowest.{best-judged, best-lowest}
-use Rattle.theory.specs.Promise.{plan-passes, plan-accepted, planned-made}
 
 -- ---- The page records of a table and marks
 
@@ -53,35 +51,37 @@ module _ (t m : List ℕ) where
   archive-root some =
       let x = page-first t m 1 (omega arith) some in archive-page t m 1 (x .0) 2 (omega arith) some (x .1) (omega arith)
 
--- ---- The archive of the best plan
+-- ---- The archive of a plan that its planner promises to be the lowest
 
-module _ {t : List ℕ} (a : AcceptedFacts t) where
-  abbrev best : List ℕ
-  best = bestMarks (limitOf t) (treeOf t)
+-- the root weight of the verdict beside an answer
+abbrev rootBeside : Beside → ℕ
+rootBeside (Given (Feasible pages root)) = root
+rootBeside (Given (Failed c)) = 0
+rootBeside Nothing = 0
 
-  root-back : rootIn (archiveOf t best) ≡ pageWeight t best 1
-  root-back = archive-root t best (pages-low (a .sound) best (best-judged a .marked))
+module _ {t m s marks scratch : List ℕ} {r : Answer} (p : PlanPromise t m s r marks scratch) (ready : Ready t m s) where
+  pub plan-feasible : feasiblePlan t marks ≡ true
+  plan-feasible = p .accepts ready .1
 
-  best-on-film : LowestOnFilm t (archiveOf t best) (accepted (verdictOf t best))
-  best-on-film =
+  judged : Judged t marks
+  judged = feasible-judged t marks plan-feasible
+
+  root-back : rootIn (archiveOf t marks) ≡ pageWeight t marks 1
+  root-back = archive-root t marks (pages-low (judged .tree .sound) marks (judged .marked))
+
+  film-figures : answerOf (Feasible (pageCount t marks) (pageWeight t marks 1))
+      ≡ answerOf (Feasible (pagesIn (archiveOf t marks)) (rootIn (archiveOf t marks)))
+  film-figures = ap₂ (λ (x y : ℕ). answerOf (Feasible x y)) (sym (archive-pages t marks)) (sym root-back)
+
+  pub film-lowest : BestPromise t m s r marks → LowestOnFilm t (archiveOf t marks) r (answerOf (verdictOf t marks))
+  film-lowest b =
+      let answer = p .accepts ready .0 in
+      let low = b .lowest ready in
+      let count : low .0 ≡ pagesIn (archiveOf t marks) = sym (low .3 .count) ∙ length-runsOf t marks ∙ sym (archive-pages t marks) in
+      let root : low .1 ≡ rootIn (archiveOf t marks) =
+      ap (λ (x : Answer). rootBeside (x .verdict)) (sym (low .2) ∙ answer) ∙ sym root-back in
       record {
-        verdict = ap accepted (judged-verdict (best-judged a) ∙ ap₂ Feasible (sym (archive-pages t best)) (sym root-back));
-        lowest = rw (archive-pages t best, root-back, archive-runs t best) (best-lowest a);
+        planner = answer ∙ film-figures;
+        writer = ap answerOf (judged-verdict judged) ∙ film-figures;
+        lowest = rw (← count, ← root, archive-runs t marks) (low .3);
       }
-
-module _ (t m s out : List ℕ) (p : planBest t m s .answer .number ≡ 0) where
-  made : planBest t m s .marks ≡ bestMarks (limitOf t) (treeOf t)
-  unfolding planBest
-  made = planned-made bestMarks t m s (plan-passes bestMarks t m s p)
-
-  -- what the planner's marks are written to
-  abbrev film : Written
-  film = writeArchive t (planBest t m s .marks) out
-
-  module _ (z : film .answer .number ≡ 0) where
-    filmed : film ≡ record { answer = accepted (verdictOf t (planBest t m s .marks)); archive = archiveOf t (planBest t m s .marks) }
-    filmed = writer-done t (planBest t m s .marks) out z .1
-
-    pub film-lowest : LowestOnFilm t (film .archive) (film .answer)
-    unfolding planBest
-    film-lowest = rw (filmed, made) (best-on-film (plan-accepted t m s (plan-passes bestMarks t m s p)))

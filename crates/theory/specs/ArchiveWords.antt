@@ -9,14 +9,14 @@ use mathlib.Core.List.{List, [], _∷_, _++_}
 use lib.ListN.{length, getD, length-append, List·getD-append}
 use lib.Seq.{getD-append-add}
 use Rattle.model.specs.Basics.{listTo}
-use Rattle.model.specs.Table.{wordAt, bytesOf, nodeCount, limitOf, weightAt, labelAt}
+use Rattle.model.specs.Table.{Bytes, wordAt, bytesOf, nodeCount, limitOf, weightAt, labelAt}
 use Rattle.model.specs.Plan.{begins, hasMark, parentAt, pageCount, pageWeight, runLast}
 use Rattle.model.specs.Runs.{Run, rootRun, runsOf}
 use Rattle.model.specs.Archive.{nextPage, pageRecords, nextOnPage, nodeRecord, archiveOf, archiveBytes, pagesIn, pageFieldIn, nodeFieldIn, parentIn}
 use Rattle.theory.specs.Ranges.{upto-suc, listTo-zero, listTo-suc}
 use Rattle.theory.specs.Chosen.{Ranked, ranked, getD-chosen}
 use Rattle.theory.specs.MarkedRuns.{runAt, length-runsOf}
-use Rattle.theory.specs.Encode.{Bytes, Holds, length-bytesOf, wordAt-bytesOf, holds-all}
+use Rattle.theory.specs.Encode.{Holds, length-bytesOf, wordAt-bytesOf, holds-all}
 
 -- ---- Records of four words
 

@@ -1,22 +1,19 @@
--- Lists of checks, one after the other: what an answer tells of the checks before it; and each entry's checks have numbers above 0.
--- Defines headChecks, lentChecks, HasNumbers, nodeChecks, headAnswer. Proves firstOf-pass, firstOf-stop, firstOf-all, accepted-pass; the
--- numbers of each entry (form-numbers to read-numbers); head-refuses, head-goes-on, head-count. Assumes nothing.
+-- Lists of checks, one after the other: what an answer tells of the checks before it, and which numbers no check of an entry gives.
+-- Defines headChecks, lentChecks, Never, nodeChecks, headAnswer. Proves firstOf-pass, firstOf-stop, firstOf-all, never-first, accepted-pass,
+-- refused-fails; that no check of an entry gives 0 (tree-never to read-never); head-refuses, head-goes-on, head-count. Assumes nothing.
 use mathlib.Core.Path.{_≡_, refl, sym, ap, ap₂, _∙_}
-use mathlib.Core.Bool.{true, false, false≢true}
+use mathlib.Core.Bool.{Bool, true, false, not, false≢true, true≢false}
 use mathlib.Core.List.{List, [], _∷_, _++_}
 use Prim.Native.Nat.{ℕ, _≤_}
-use native.Mathlib.Omega.{arith}
-use Rattle.model.specs.Basics.{atPlace}
+use Rattle.model.specs.Basics.{atPlace, every}
 use Rattle.model.specs.Table.{maxNodes, nodeCount}
-use borrow.Author.Tests.{ltb-false}
+use borrow.Author.Tests.{ltb-false, eq-eqb}
 use Rattle.theory.specs.Ranges.{when-nowhere, append-nil}
-use Rattle.theory.specs.Sound.{passes-first, passes-rest, both-false}
+use Rattle.theory.specs.Sound.{passes-first, passes-rest, both-true, both-false}
 use lib.Dec.{eqb, ltb}
-use Rattle.model.specs.Refusals.{Check, shortTable, badCount, badLimit, badLength, noWeight, badWalk, heavyNode, badMarks, shortScratch, markRefused, pageRefused, badOutput, noArchive, formChecks, treeChecks, planChecks, judgeChecks, readChecks, readTree, passes, refused, accepted, firstOf}
+use Rattle.model.specs.Refusals.{Check, shortTable, badCount, badLimit, badLength, noWeight, badWalk, heavyNode, badMarks, shortScratch, markRefused, pageRefused, badOutput, noArchive, formChecks, treeChecks, planChecks, judgeChecks, writeChecks, readChecks, readTree, passes, refused, accepted, firstOf}
 use Rattle.model.specs.declared.Place.{Place}
 use Rattle.model.specs.declared.Place.the-variants.{At, Nowhere}
-use Rattle.model.specs.declared.Verdict.{Verdict}
-use Rattle.model.specs.declared.Verdict.the-variants.{NotJudged}
 use Rattle.model.specs.declared.Answer.{Answer}
 
 -- the checks of the head and the length, before any node is looked at
@@ -27,11 +24,6 @@ headChecks t = shortTable t ∷ badCount t ∷ badLimit t ∷ badLength t ∷ []
 unfoldable pub lentChecks : List ℕ → List ℕ → List ℕ → List Check
 lentChecks t m s = badMarks (nodeCount t) m ∷ shortScratch t s ∷ []
 
--- every check of the list has a number, so that 0 is left for acceptance
-unfoldable pub HasNumbers : List Check → Type 0
-HasNumbers [] = Unit {0}
-HasNumbers (c ∷ cs) = (1 ≤ c .number) × HasNumbers cs
-
 -- checks that pass leave the answer to those after them
 pub firstOf-pass : (cs ds : List Check) (a : Answer) → passes cs ≡ true → firstOf (cs ++ ds) a ≡ firstOf ds a
 unfolding passes firstOf atPlace
@@ -39,34 +31,20 @@ firstOf-pass [] ds a e = refl
 firstOf-pass (c ∷ cs) ds a e = go (c .place) (firstOf-pass cs ds a) e
   where
     go : (o : Place) → (passes cs ≡ true → firstOf (cs ++ ds) a ≡ firstOf ds a)
-        → atPlace o (λ p. false) (passes cs) ≡ true → atPlace o (refused (c .number)) (firstOf (cs ++ ds) a) ≡ firstOf ds a
+        → atPlace o (λ p. false) (passes cs) ≡ true → atPlace o (c .answer) (firstOf (cs ++ ds) a) ≡ firstOf ds a
     go (At p) ih h = absurd (false≢true h)
     go Nowhere ih h = ih h
 
-module _ (v : Verdict) where
-  -- acceptance says that all pass
-  pub accepted-pass : (cs : List Check) → HasNumbers cs → firstOf cs (accepted v) .number ≡ 0 → passes cs ≡ true
-  unfolding passes firstOf atPlace HasNumbers refused
-  accepted-pass [] n e = refl
-  accepted-pass (c ∷ cs) n e = go (c .place) (accepted-pass cs (n .1)) e
-    where
-      go : (o : Place) → (firstOf cs (accepted v) .number ≡ 0 → passes cs ≡ true)
-          → (atPlace o (refused (c .number)) (firstOf cs (accepted v))) .number ≡ 0 → atPlace o (λ p. false) (passes cs) ≡ true
-      go (At p) ih h = absurd (omega (arith, n .0))
-      go Nowhere ih h = ih h
-
-  -- a refusal stands, whatever checks come after
-  pub firstOf-stop : (cs ds : List Check) (a : Answer) → (firstOf cs (accepted v) .number ≡ 0 → ⊥)
-      → firstOf (cs ++ ds) a ≡ firstOf cs (accepted v)
-  unfolding firstOf atPlace
-  firstOf-stop [] ds a e = absurd (e refl)
-  firstOf-stop (c ∷ cs) ds a e = go (c .place) (firstOf-stop cs ds a) e
-    where
-      go : (o : Place) → ((firstOf cs (accepted v) .number ≡ 0 → ⊥) → firstOf (cs ++ ds) a ≡ firstOf cs (accepted v))
-          → ((atPlace o (refused (c .number)) (firstOf cs (accepted v))) .number ≡ 0 → ⊥)
-          → atPlace o (refused (c .number)) (firstOf (cs ++ ds) a) ≡ atPlace o (refused (c .number)) (firstOf cs (accepted v))
-      go (At p) ih h = refl
-      go Nowhere ih h = ih h
+-- checks that do not pass answer, whatever comes after
+pub firstOf-stop : (cs ds : List Check) (a b : Answer) → passes cs ≡ false → firstOf (cs ++ ds) a ≡ firstOf cs b
+unfolding passes firstOf atPlace
+firstOf-stop [] ds a b e = absurd (true≢false e)
+firstOf-stop (c ∷ cs) ds a b e = go (c .place) (firstOf-stop cs ds a b) e
+  where
+    go : (o : Place) → (passes cs ≡ false → firstOf (cs ++ ds) a ≡ firstOf cs b)
+        → atPlace o (λ p. false) (passes cs) ≡ false → atPlace o (c .answer) (firstOf (cs ++ ds) a) ≡ atPlace o (c .answer) (firstOf cs b)
+    go (At p) ih h = refl
+    go Nowhere ih h = ih h
 
 -- where all checks pass, the answer stands
 pub firstOf-all : (cs : List Check) (a : Answer) → passes cs ≡ true → firstOf cs a ≡ a
@@ -74,43 +52,76 @@ unfolding firstOf
 firstOf-all cs a e = ap (λ (ds : List Check). firstOf ds a) (sym (append-nil cs)) ∙ firstOf-pass cs [] a e
 
 -- one check before others, as a program puts an answer together
-pub firstOf-cons : (c : Check) (cs : List Check) (a : Answer) (p : Place) (rest r : Answer) → r ≡ atPlace p (refused (c .number)) rest
+pub firstOf-cons : (c : Check) (cs : List Check) (a : Answer) (p : Place) (rest r : Answer) → r ≡ atPlace p (c .answer) rest
     → p ≡ c .place → rest ≡ firstOf cs a → r ≡ firstOf (c ∷ cs) a
 unfolding firstOf
-firstOf-cons c cs a p rest r e h g = e ∙ ap₂ (λ (o : Place) (x : Answer). atPlace o (refused (c .number)) x) h g
+firstOf-cons c cs a p rest r e h g = e ∙ ap₂ (λ (o : Place) (x : Answer). atPlace o (c .answer) x) h g
 
 pub firstOf-none : (a r : Answer) → r ≡ a → r ≡ firstOf [] a
 unfolding firstOf
 firstOf-none a r e = e
 
--- ---- Every check of an entry has a number
+-- ---- Numbers that no check gives
 
-numbers-append : (cs ds : List Check) → HasNumbers cs → HasNumbers ds → HasNumbers (cs ++ ds)
-unfolding HasNumbers
-numbers-append [] ds h k = k
-numbers-append (c ∷ cs) ds h k = (h .0, numbers-append cs ds (h .1) k)
+-- no check of the list gives the number n, at any place
+abbrev pub Never : ℕ → List Check → Type 0
+Never n cs = (p : ℕ) → every (λ c. not (eqb (c .answer p .number) n)) cs ≡ true
 
-pub form-numbers : (t : List ℕ) → HasNumbers (formChecks t)
-unfolding HasNumbers formChecks shortTable badCount badLimit badLength noWeight badWalk
-form-numbers t = (omega arith, (omega arith, (omega arith, (omega arith, (omega arith, (omega arith, tt))))))
+-- so the answer n is that of what comes after them, and all of them pass
+pub never-first : (n : ℕ) (cs : List Check) (a : Answer) → Never n cs → firstOf cs a .number ≡ n → (passes cs ≡ true) × (a .number ≡ n)
+unfolding passes firstOf atPlace every
+never-first n [] a h e = (refl, e)
+never-first n (c ∷ cs) a h e = go (c .place) (never-first n cs a (λ p. other p .1)) e
+  where
+    other : (p : ℕ) → (not (eqb (c .answer p .number) n) ≡ true) × (every (λ d. not (eqb (d .answer p .number) n)) cs ≡ true)
+    other p = both-true (not (eqb (c .answer p .number) n)) (every (λ d. not (eqb (d .answer p .number) n)) cs) (h p)
 
-pub tree-numbers : (t : List ℕ) → HasNumbers (treeChecks t)
-unfolding HasNumbers treeChecks heavyNode
-tree-numbers t = numbers-append (formChecks t) (heavyNode t ∷ []) (form-numbers t) (omega arith, tt)
+    go : (o : Place) → (firstOf cs a .number ≡ n → (passes cs ≡ true) × (a .number ≡ n))
+        → atPlace o (c .answer) (firstOf cs a) .number ≡ n → (atPlace o (λ p. false) (passes cs) ≡ true) × (a .number ≡ n)
+    go (At p) ih q = absurd (true≢false (sym (other p .0) ∙ ap not (eq-eqb (c .answer p .number) n q)))
+    go Nowhere ih q = ih q
 
-pub plan-numbers : (t m s : List ℕ) → HasNumbers (planChecks t m s)
-unfolding HasNumbers planChecks lentChecks badMarks shortScratch
-plan-numbers t m s = numbers-append (treeChecks t) (lentChecks t m s) (tree-numbers t) (omega arith, (omega arith, tt))
+-- 0 is acceptance: all pass
+pub accepted-pass : (cs : List Check) (a : Answer) → Never 0 cs → firstOf cs a .number ≡ 0 → passes cs ≡ true
+accepted-pass cs a h e = never-first 0 cs a h e .0
 
-pub judge-numbers : (t m : List ℕ) → HasNumbers (judgeChecks t m)
-unfolding HasNumbers judgeChecks badMarks markRefused pageRefused
-judge-numbers t m =
-    numbers-append (treeChecks t) (badMarks (nodeCount t) m ∷ markRefused t m ∷ pageRefused t m ∷ []) (tree-numbers t)
-    (omega arith, (omega arith, (omega arith, tt)))
+-- any other number is a refusal: they do not all pass
+pub refused-fails : (cs : List Check) (a : Answer) → a .number ≡ 0 → (firstOf cs a .number ≡ 0 → ⊥) → passes cs ≡ false
+refused-fails cs a z h = go (passes cs) refl
+  where
+    go : (b : Bool) → passes cs ≡ b → passes cs ≡ false
+    go true e = absurd (h (ap (λ (x : Answer). x .number) (firstOf-all cs a e) ∙ z))
+    go false e = e
 
-pub read-numbers : (a t m : List ℕ) → HasNumbers (readChecks a t m)
-unfolding HasNumbers readChecks noArchive badOutput badMarks
-read-numbers a t m = (omega arith, (omega arith, (omega arith, tt)))
+-- ---- No check of an entry gives 0, and 7 is given by the check of the weights alone
+
+pub tree-never : (t : List ℕ) → Never 0 (treeChecks t)
+unfolding every treeChecks formChecks shortTable badCount badLimit badLength noWeight badWalk heavyNode
+tree-never t p = refl
+
+pub plan-never : (t m s : List ℕ) → Never 0 (planChecks t m s)
+unfolding every planChecks treeChecks formChecks shortTable badCount badLimit badLength noWeight badWalk heavyNode badMarks shortScratch
+plan-never t m s p = refl
+
+pub judge-never : (t m : List ℕ) → Never 0 (judgeChecks t m)
+unfolding every judgeChecks treeChecks formChecks shortTable badCount badLimit badLength noWeight badWalk heavyNode badMarks markRefused pageRefused
+judge-never t m p = refl
+
+pub write-never : (t m out : List ℕ) → Never 0 (writeChecks t m out)
+unfolding every writeChecks judgeChecks treeChecks formChecks shortTable badCount badLimit badLength noWeight badWalk heavyNode badMarks markRefused pageRefused badOutput
+write-never t m out p = refl
+
+pub read-never : (a t m : List ℕ) → Never 0 (readChecks a t m)
+unfolding every readChecks noArchive badOutput badMarks
+read-never a t m p = refl
+
+pub form-never-seven : (t : List ℕ) → Never 7 (formChecks t)
+unfolding every formChecks shortTable badCount badLimit badLength noWeight badWalk
+form-never-seven t p = refl
+
+pub lent-never-seven : (t m s : List ℕ) → Never 7 (lentChecks t m s)
+unfolding every lentChecks badMarks shortScratch
+lent-never-seven t m s p = refl
 
 -- ---- The tree reader's checks: those of the head, and those that look at nodes
 
@@ -119,23 +130,23 @@ nodeChecks t = noWeight t ∷ badWalk t ∷ heavyNode t ∷ []
 
 -- the answer of the checks of the head alone
 unfoldable pub headAnswer : List ℕ → Answer
-headAnswer t = firstOf (headChecks t) (accepted NotJudged)
+headAnswer t = firstOf (headChecks t) accepted
 
-head-numbers : (t : List ℕ) → HasNumbers (headChecks t)
-unfolding HasNumbers headChecks shortTable badCount badLimit badLength
-head-numbers t = (omega arith, (omega arith, (omega arith, (omega arith, tt))))
+head-never : (t : List ℕ) → Never 0 (headChecks t)
+unfolding every headChecks shortTable badCount badLimit badLength
+head-never t p = refl
 
 head-passes : (t : List ℕ) → headAnswer t .number ≡ 0 → passes (headChecks t) ≡ true
 unfolding headAnswer
-head-passes t e = accepted-pass NotJudged (headChecks t) (head-numbers t) e
+head-passes t e = accepted-pass (headChecks t) accepted (head-never t) e
 
 pub head-refuses : (t : List ℕ) → (headAnswer t .number ≡ 0 → ⊥) → headAnswer t ≡ readTree t
 unfolding headAnswer readTree treeChecks formChecks headChecks nodeChecks
-head-refuses t h = sym (firstOf-stop NotJudged (headChecks t) (nodeChecks t) (accepted NotJudged) h)
+head-refuses t h = sym (firstOf-stop (headChecks t) (nodeChecks t) accepted accepted (refused-fails (headChecks t) accepted refl h))
 
-pub head-goes-on : (t : List ℕ) → headAnswer t .number ≡ 0 → firstOf (nodeChecks t) (accepted NotJudged) ≡ readTree t
+pub head-goes-on : (t : List ℕ) → headAnswer t .number ≡ 0 → firstOf (nodeChecks t) accepted ≡ readTree t
 unfolding readTree treeChecks formChecks headChecks nodeChecks
-head-goes-on t e = sym (firstOf-pass (headChecks t) (nodeChecks t) (accepted NotJudged) (head-passes t e))
+head-goes-on t e = sym (firstOf-pass (headChecks t) (nodeChecks t) accepted (head-passes t e))
 
 pub head-count : (t : List ℕ) → headAnswer t .number ≡ 0 → nodeCount t ≤ maxNodes
 unfolding headChecks badCount

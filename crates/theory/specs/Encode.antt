@@ -1,6 +1,6 @@
 -- The table of a limit and a tree by shape. A table of sound form is the table of its limit and its tree, and the table of a limit
 -- and a tree with one root is of sound form, with that limit and that tree.
--- Defines linkTo, records, encoded, Holds, Bytes, Fits. Assumes nothing.
+-- Defines linkTo, records, encoded, Holds, Fits. Assumes nothing.
 use Prim.Native.Nat.{ℕ, zero, suc, _+_, _-_, _*_, _/_, _%_, _≤_, _<_}
 use native.Mathlib.Omega.{arith}
 use native.Mathlib.Nat.{add-zero, zero-add}
@@ -8,7 +8,7 @@ use mathlib.Core.Path.{_≡_, refl, sym, _∙_, ap, ap₂}
 use mathlib.Core.List.{List, [], _∷_, _++_}
 use lib.ListN.{length, getD, drop, length-append, drop-of-length-le}
 use lib.Seq.{drop-cons}
-use Rattle.model.specs.Table.{maxNodes, maxLimit, wordAt, bytesOf, nodeCount, limitOf, fieldAt, weightAt, labelAt, firstAt, nextAt, tableBytes, Chain, end, node, treeOf}
+use Rattle.model.specs.Table.{Bytes, maxNodes, maxLimit, wordAt, bytesOf, nodeCount, limitOf, fieldAt, weightAt, labelAt, firstAt, nextAt, tableBytes, Chain, end, node, treeOf}
 use Rattle.theory.specs.Shape.{size, EachWithin, Positive}
 use Rattle.theory.specs.Sound.{SoundFacts, AcceptedFacts}
 use Rattle.theory.specs.Numbered.{Numbered, none, some, size-node, numbered-some, numbered-size, numbered-walk, numbered-chain, sound-tree, tree-size, Each, numbered-each, positive-numbered, within-accepted}
@@ -31,10 +31,6 @@ encoded K c = bytesOf (size c ∷ K ∷ records 0 c)
 unfoldable pub Holds : List ℕ → ℕ → List ℕ → Type 0
 Holds t i [] = Unit {0}
 Holds t i (w ∷ ws) = (wordAt t i ≡ w) × Holds t (suc i) ws
-
--- every byte is below 256
-abbrev pub Bytes : List ℕ → Type 0
-Bytes t = (i : ℕ) → getD t i 0 < 256
 
 -- ---- Words and bytes
 

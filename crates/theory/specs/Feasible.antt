@@ -13,7 +13,7 @@ use lib.Dec.{eqb, ltb}
 use borrow.Author.Tests.{eqb-true, eq-eqb, le-ltb, ltb-false, not-false}
 use Rattle.model.specs.Table.{nodeCount, limitOf, treeOf}
 use Rattle.model.specs.Plan.{markAt, pageCount, pageWeight, badMark, heavyPage, verdictOf}
-use Rattle.model.specs.Refusals.{passes, treeChecks, badMarks, markRefused, pageRefused, judgeChecks, acceptedTree, feasiblePlan, accepted, judgePlan}
+use Rattle.model.specs.Refusals.{passes, treeChecks, badMarks, markRefused, pageRefused, judgeChecks, acceptedTree, feasiblePlan, answerOf, judgePlan}
 use Rattle.model.specs.declared.Place.the-variants.{Nowhere}
 use Rattle.model.specs.declared.Verdict.the-variants.{Feasible}
 use Rattle.theory.specs.Ranges.{Upto, when-false, when-nowhere, atPlace-nowhere, firstTo-none, firstTo-nowhere}
@@ -94,10 +94,10 @@ pub judged-verdict : {t m : List ℕ} → Judged t m → verdictOf t m ≡ Feasi
 unfolding verdictOf
 judged-verdict {t} {m} j = atPlace-nowhere (badMark t m) _ _ (j .marked) ∙ atPlace-nowhere (heavyPage t m) _ _ (j .light)
 
-pub judged-answer : {t m : List ℕ} → Judged t m → judgePlan t m ≡ accepted (Feasible (pageCount t m) (pageWeight t m 1))
+pub judged-answer : {t m : List ℕ} → Judged t m → judgePlan t m ≡ answerOf (Feasible (pageCount t m) (pageWeight t m 1))
 unfolding judgePlan feasiblePlan
 judged-answer {t} {m} j =
-    firstOf-all (judgeChecks t m) (accepted (verdictOf t m)) (judged-feasible j) ∙ ap accepted (judged-verdict j)
+    firstOf-all (judgeChecks t m) (answerOf (verdictOf t m)) (judged-feasible j) ∙ ap answerOf (judged-verdict j)
 
 -- ---- By shape
 
@@ -142,7 +142,7 @@ module _ {t : List ℕ} (a : AcceptedFacts t) (m : List ℕ) (long : length m �
   feasible-bridge = (λ e. judged-bridge .0 (feasible-judged t m e), λ p. judged-feasible (judged-bridge .1 p))
 
   pub judge-bridge : ShapePlan t m
-      → judgePlan t m ≡ accepted (Feasible (length (weighed (treeOf t) m .pages)) (getD (weighed (treeOf t) m .pages) 0 0))
+      → judgePlan t m ≡ answerOf (Feasible (length (weighed (treeOf t) m .pages)) (getD (weighed (treeOf t) m .pages) 0 0))
   judge-bridge p =
       let j : Judged t m = judged-bridge .1 p in
       judged-answer j
@@ -150,11 +150,11 @@ module _ {t : List ℕ} (a : AcceptedFacts t) (m : List ℕ) (long : length m �
 
 -- what the judge says of a plan by shape
 pub shape-feasible : {t : List ℕ} → AcceptedFacts t → (m : List ℕ) (root : ℕ) → FeasibleShape (limitOf t) (treeOf t) m root
-    → (feasiblePlan t m ≡ true) × (judgePlan t m ≡ accepted (Feasible (length (weighed (treeOf t) m .pages)) root))
+    → (feasiblePlan t m ≡ true) × (judgePlan t m ≡ answerOf (Feasible (length (weighed (treeOf t) m .pages)) root))
 unfolding markAt
 shape-feasible {t} a m root f =
     let long : length m ≡ nodeCount t = omega (arith, f .long, tree-size (a .sound)) in
     let p : ShapePlan t m = record { first = f .first; allows = f .allows; within = f .within } in (
       feasible-bridge a m long .1 p,
-      judge-bridge a m long p ∙ ap (λ r. accepted (Feasible (length (weighed (treeOf t) m .pages)) r)) (f .root-page),
+      judge-bridge a m long p ∙ ap (λ r. answerOf (Feasible (length (weighed (treeOf t) m .pages)) r)) (f .root-page),
     )

@@ -14,16 +14,14 @@ use Rattle.model.specs.Basics.{pick, atPlace, countTo}
 use Rattle.model.specs.Table.{nodeCount, limitOf, weightAt}
 use Rattle.model.specs.Plan.{begins, continues, markAt, hasMark, goodMark, badMark, pageOf, pageCount, pageWeight, heavyPage}
 use Rattle.model.specs.Runs.{Run, countOf, holds, homeOf, runWeight, withinLimit, runCount, rootWeight, runsOf}
-use Rattle.model.specs.Refusals.{Check, shortTable, badCount, badLimit, badLength, noWeight, badWalk, heavyNode, formChecks, treeChecks, soundForm, acceptedTree, refusedForWeight, firstOf, refused, accepted, readTree}
+use Rattle.model.specs.Refusals.{heavyNode, formChecks, treeChecks, soundForm, acceptedTree, refusedForWeight, firstOf, refused, accepted, readTree}
 use Rattle.model.specs.Demand.{HeldWithin}
 use Rattle.model.specs.declared.Place.{Place}
 use Rattle.model.specs.declared.Place.the-variants.{At, Nowhere}
-use Rattle.model.specs.declared.Verdict.{Verdict}
-use Rattle.model.specs.declared.Verdict.the-variants.{NotJudged}
 use Rattle.theory.specs.Ranges.{Upto, pick-true, pick-false, atPlace-at, atPlace-nowhere, sumTo-cong, countTo-le, countTo-all, firstTo-none}
 use Rattle.theory.specs.Sums.{sumTo-only, sumTo-one}
 use Rattle.theory.specs.Sound.{SoundFacts, sound-facts, accepted-facts, facts-accepted, heavy-none, both-true}
-use Rattle.theory.specs.Checks.{form-numbers, firstOf-pass, accepted-pass, firstOf-stop}
+use Rattle.theory.specs.Checks.{firstOf-pass, firstOf-stop, never-first, form-never-seven}
 use Rattle.theory.specs.Pages.{bad-none, good-first, good-later, pageOf-begins}
 use Rattle.theory.specs.Listed.{every-all}
 use Rattle.theory.specs.RunLists.{HoldFacts, holds-facts, home-first}
@@ -200,50 +198,30 @@ refused-unheld t = (
 
 -- ---- The tree reader's answer
 
--- the numbers of the checks are at most k
-NumbersTo : ℕ → List Check → Type 0
-NumbersTo k [] = Unit {0}
-NumbersTo k (c ∷ cs) = (c .number ≤ k) × NumbersTo k cs
-
-firstOf-numbers : (k : ℕ) (v : Verdict) (cs : List Check) → NumbersTo k cs → firstOf cs (accepted v) .number ≤ k
-unfolding firstOf NumbersTo atPlace refused
-firstOf-numbers k v [] n = omega arith
-firstOf-numbers k v (c ∷ cs) n = go (c .place) (firstOf-numbers k v cs (n .1))
-  where
-    go : (o : Place) → firstOf cs (accepted v) .number ≤ k
-        → (atPlace o (refused (c .number)) (firstOf cs (accepted v))) .number ≤ k
-    go (At p) ih = n .0
-    go Nowhere ih = ih
-
-form-to-six : (t : List ℕ) → NumbersTo 6 (formChecks t)
-unfolding NumbersTo formChecks shortTable badCount badLimit badLength noWeight badWalk
-form-to-six t = (omega arith, (omega arith, (omega arith, (omega arith, (omega arith, (omega arith, tt))))))
-
 -- of a table of sound form the reader asks only whether a node outweighs K
-read-sound : (t : List ℕ) → soundForm t ≡ true → readTree t ≡ firstOf (heavyNode t ∷ []) (accepted NotJudged)
+read-sound : (t : List ℕ) → soundForm t ≡ true → readTree t ≡ firstOf (heavyNode t ∷ []) accepted
 unfolding readTree treeChecks soundForm
-read-sound t e = firstOf-pass (formChecks t) (heavyNode t ∷ []) (accepted NotJudged) e
+read-sound t e = firstOf-pass (formChecks t) (heavyNode t ∷ []) accepted e
 
 read-heavy : (t : List ℕ) (p : ℕ) → soundForm t ≡ true → heavyNode t .place ≡ At p → readTree t .number ≡ 7
-unfolding firstOf heavyNode refused
+unfolding firstOf heavyNode
 read-heavy t p e q =
     ap (λ a. a .number) (read-sound t e)
-    ∙ ap (λ a. a .number) (atPlace-at (heavyNode t .place) p (refused 7) (accepted NotJudged) q)
+    ∙ ap (λ a. a .number) (atPlace-at (heavyNode t .place) p (refused 7) accepted q)
 
 read-light : (t : List ℕ) → soundForm t ≡ true → heavyNode t .place ≡ Nowhere → readTree t .number ≡ 0
 unfolding firstOf heavyNode
 read-light t e q =
     ap (λ a. a .number) (read-sound t e)
-    ∙ ap (λ a. a .number) (atPlace-nowhere (heavyNode t .place) (refused 7) (accepted NotJudged) q)
+    ∙ ap (λ a. a .number) (atPlace-nowhere (heavyNode t .place) (refused 7) accepted q)
 
--- of any other it answers 6 at most
-read-unsound : (t : List ℕ) → soundForm t ≡ false → readTree t .number ≤ 6
+-- of any other it does not answer 7
+read-unsound : (t : List ℕ) → soundForm t ≡ false → readTree t .number ≡ 7 → ⊥
 unfolding readTree treeChecks soundForm
-read-unsound t e =
-    let stop : firstOf (formChecks t ++ (heavyNode t ∷ [])) (accepted NotJudged) ≡ firstOf (formChecks t) (accepted NotJudged) =
-    firstOf-stop NotJudged (formChecks t) (heavyNode t ∷ []) (accepted NotJudged)
-    (λ z. true≢false (sym (accepted-pass NotJudged (formChecks t) (form-numbers t) z) ∙ e)) in
-    omega (arith, ap (λ a. a .number) stop, firstOf-numbers 6 NotJudged (formChecks t) (form-to-six t))
+read-unsound t e seven =
+    let stop = firstOf-stop (formChecks t) (heavyNode t ∷ []) accepted accepted e in
+    let form = never-first 7 (formChecks t) accepted (form-never-seven t) (sym (ap (λ a. a .number) stop) ∙ seven) in
+    true≢false (sym (form .0) ∙ e)
 
 -- the tree reader answers 7 exactly where the tree is refused for weight
 pub seven-refused : (t : List ℕ) → (readTree t .number ≡ 7) ↔ (refusedForWeight t ≡ true)
@@ -257,7 +235,7 @@ seven-refused t = (λ e. there e (soundForm t) refl (acceptedTree t) refl, back)
         → (soundForm t && not (acceptedTree t)) ≡ true
     there e true q true q′ = absurd (omega (arith, read-light t q (light-place q′)))
     there e true q false q′ = rw (q, q′)
-    there e false q c q′ = absurd (omega (arith, read-unsound t q))
+    there e false q c q′ = absurd (read-unsound t q e)
 
     back : (soundForm t && not (acceptedTree t)) ≡ true → readTree t .number ≡ 7
     back e = go (heavyNode t .place) refl

@@ -65,3 +65,4 @@ pub mod CellsChosen
 pub mod Lowest
 pub mod Promise
 pub mod ArchiveLowest
+pub mod ArchivePromise

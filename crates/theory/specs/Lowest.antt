@@ -12,7 +12,7 @@ use Rattle.model.specs.Table.{Chain, end, node, limitOf, treeOf, weightAt, labe
 use Rattle.model.specs.Plan.{markAt, pageCount, pageWeight}
 use Rattle.model.specs.Runs.{runsOf}
 use Rattle.model.specs.Steps.{Entry, entryAt, childrenOf, bestMarks, levelMarks, singleMarks, pairMarks}
-use Rattle.model.specs.Refusals.{accepted, judgePlan}
+use Rattle.model.specs.Refusals.{answerOf, judgePlan}
 use Rattle.model.specs.Demand.{Lowest}
 use Rattle.model.specs.declared.Verdict.the-variants.{Feasible}
 use Rattle.theory.specs.Sound.{AcceptedFacts}
@@ -71,14 +71,14 @@ module _ {t : List ℕ} (a : AcceptedFacts t) where
   -- the verdict's figures are those of the entries: the sum of the counts and a page for the root, and the rest of the root's entry
   abbrev ByEntries : Bool → List ℕ → Type 0
   ByEntries gains m =
-      judgePlan t m ≡ accepted (Feasible (pagesOf gains (limitOf t) (treeOf t)) (rootEntry gains (limitOf t) (treeOf t) .rest))
+      judgePlan t m ≡ answerOf (Feasible (pagesOf gains (limitOf t) (treeOf t)) (rootEntry gains (limitOf t) (treeOf t) .rest))
 
   by-entries : (gains : Bool) (m : List ℕ) → Judged t m
       → Figured (limitOf t) (treeOf t) m (pagesOf gains (limitOf t) (treeOf t)) (rootEntry gains (limitOf t) (treeOf t) .rest)
       → ByEntries gains m
   by-entries gains m j f =
       judged-answer j
-      ∙ ap₂ (λ (p w : ℕ). accepted (Feasible p w)) (count-is m j ∙ f .count) (root-is m j ∙ f .feasible .root-page)
+      ∙ ap₂ (λ (p w : ℕ). answerOf (Feasible p w)) (count-is m j ∙ f .count) (root-is m j ∙ f .feasible .root-page)
 
   pub best-figures : ByEntries true (bestMarks (limitOf t) (treeOf t))
   unfolding rootEntry

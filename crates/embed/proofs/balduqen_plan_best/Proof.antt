@@ -23,7 +23,10 @@ returns c =
     let p = c .before .before .before .before .before .plan-best in
     let same = c .flatten .ensures in (
       ap (λ (f : Figures). left f (p .last .1 .0) (p .last .1 .1 .0)) same ∙ ap leftBy (p .ensures .0),
-      record { answer = p .result; figures = same; promise = p .ensures .1 },
+      (
+        record { answer = p .result; figures = same; promise = p .ensures .1 .0 },
+        record { answer = p .result; figures = same; promise = p .ensures .1 .1 },
+      ),
     )
 
 pub balduqen-plan-best-spec : {M : Type 1} → statement M

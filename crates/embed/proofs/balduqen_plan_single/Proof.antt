@@ -21,7 +21,10 @@ same-length-2 c = search needs
 returns : tie.Need-returns
 returns c =
     let p = c .before .before .before .before .before .plan-single in
-    ap (λ (f : Figures). left f (p .last .1 .0) (p .last .1 .1 .0)) (c .flatten .ensures) ∙ ap leftBy (p .ensures)
+    let same = c .flatten .ensures in (
+      ap (λ (f : Figures). left f (p .last .1 .0) (p .last .1 .1 .0)) same ∙ ap leftBy (p .ensures .0),
+      record { answer = p .result; figures = same; promise = p .ensures .1 },
+    )
 
 pub balduqen-plan-single-spec : {M : Type 1} → statement M
 balduqen-plan-single-spec =

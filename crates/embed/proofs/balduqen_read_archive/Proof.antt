@@ -21,7 +21,8 @@ same-length-2 c = search needs
 returns : tie.Need-returns
 returns c =
     let p = c .before .before .before .before .before .read-archive in
-    ap (λ (f : Figures). refilled f (p .last .1 .0) (p .last .1 .1 .0)) (c .flatten .ensures) ∙ ap refilledBy (p .ensures)
+    let same = c .flatten .ensures in
+    (ap (λ (f : Figures). refilled f (p .last .1 .0) (p .last .1 .1 .0)) same ∙ ap refilledBy (p .ensures .0), record { answer = p .result; figures = same; promise = p .ensures .1 })
 
 pub balduqen-read-archive-spec : {M : Type 1} → statement M
 balduqen-read-archive-spec =

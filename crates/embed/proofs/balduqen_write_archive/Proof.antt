@@ -18,7 +18,8 @@ same-length c = search needs
 returns : tie.Need-returns
 returns c =
     let p = c .before .before .before .write-archive in
-    ap (λ (f : Figures). filled f (p .last .1 .1 .0)) (c .flatten .ensures) ∙ ap filledBy (p .ensures)
+    let same = c .flatten .ensures in
+    (ap (λ (f : Figures). filled f (p .last .1 .1 .0)) same ∙ ap filledBy (p .ensures .0), record { answer = p .result; figures = same; promise = p .ensures .1 })
 
 pub balduqen-write-archive-spec : {M : Type 1} → statement M
 balduqen-write-archive-spec =

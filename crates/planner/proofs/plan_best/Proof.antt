@@ -1,5 +1,4 @@
 -- `planner::plan_best` meets its contract. Assumes nothing.
-use Rattle.model.specs.Refusals.{planBest}
 use Rattle.planner.proofs.Planning.{best-promised}
 use borrow.Author.Needs.{needs}
 use Rattle.planner.proofs.plan_best.Statement.{statement}
@@ -15,10 +14,9 @@ same-length-2 : tie.Need-same-length-2
 same-length-2 c = search needs
 
 returns : tie.Need-returns
-unfolding planBest
 returns c =
     let made = c .before .before .before .before .make-plan .ensures in
-    (made, best-promised made)
+    (made .0, (made .1, best-promised (made .0)))
 
 pub plan-best-spec : {M : Type 1} → statement M
 plan-best-spec = tie.close (tie.spec make-plan-requires same-length same-length-2 returns)

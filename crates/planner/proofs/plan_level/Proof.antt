@@ -1,5 +1,4 @@
 -- `planner::plan_level` meets its contract. Assumes nothing.
-use Rattle.model.specs.Refusals.{planLevel}
 use borrow.Author.Needs.{needs}
 use Rattle.planner.proofs.plan_level.Statement.{statement}
 use Rattle.planner.proofs.plan_level.Tie as tie
@@ -14,7 +13,6 @@ same-length-2 : tie.Need-same-length-2
 same-length-2 c = search needs
 
 returns : tie.Need-returns
-unfolding planLevel
 returns c = c .before .before .before .before .make-plan .ensures
 
 pub plan-level-spec : {M : Type 1} → statement M

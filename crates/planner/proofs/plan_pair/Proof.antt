@@ -1,5 +1,4 @@
 -- `planner::plan_pair` meets its contract. Assumes nothing.
-use Rattle.model.specs.Refusals.{planPair}
 use borrow.Author.Needs.{needs}
 use Rattle.planner.proofs.plan_pair.Statement.{statement}
 use Rattle.planner.proofs.plan_pair.Tie as tie
@@ -14,7 +13,6 @@ same-length-2 : tie.Need-same-length-2
 same-length-2 c = search needs
 
 returns : tie.Need-returns
-unfolding planPair
 returns c = c .before .before .before .before .make-plan .ensures
 
 pub plan-pair-spec : {M : Type 1} → statement M

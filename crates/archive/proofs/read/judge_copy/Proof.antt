@@ -50,7 +50,7 @@ refuse-requires-2 c κs = search needs
 returns-2 : tie.Need-returns-2
 returns-2 c =
     let w = c .before .before .before .before in
-    copy-refused (c .refuse2 .ensures) (copy-stopped (archive w) _ _ _ (copied w) _ (w .write-archive .ensures) (c .before .if2 .taken) (fresh (w .before)))
+    copy-refused (c .refuse2 .ensures) (copy-stopped (archive w) _ _ _ (copied w) _ (w .write-archive .ensures .0) (c .before .if2 .taken) (fresh (w .before)))
 
 array-share-prefix-copy : tie.Need-array-share-prefix-copy
 array-share-prefix-copy c = let w = c .before .before .before in part-within (copied w) _ _ (copied-long w)
@@ -64,7 +64,7 @@ same-bytes-requires c κs = search needs
 returns-3 : tie.Need-returns-3
 returns-3 c =
     let w = c .before .before .before .before .before .before in
-    copy-same (archive w) _ _ _ (copied w) _ (w .write-archive .ensures) (λ i. omega (arith, w .before .before .before .before .shared-slice-known2 .given i)) (c .before .before .before .if2 .left)
+    copy-same (archive w) _ _ _ (copied w) _ (w .write-archive .ensures .0) (λ i. omega (arith, w .before .before .before .before .shared-slice-known2 .given i)) (c .before .before .before .if2 .left)
     (compared (c .before) ∙ c .if3 .taken)
 
 refuse-requires-3 : tie.Need-refuse-requires-3
@@ -74,7 +74,7 @@ returns-4 : tie.Need-returns-4
 returns-4 c =
     let w = c .before .before .before .before .before .before .before in
     copy-refused (c .refuse3 .ensures)
-    (copy-differs (archive w) _ _ _ (copied w) _ (w .write-archive .ensures) (c .before .before .before .before .if2 .left) (compared (c .before .before) ∙ c .before .if3 .left))
+    (copy-differs (archive w) _ _ _ (copied w) _ (w .write-archive .ensures .0) (c .before .before .before .before .if2 .left) (compared (c .before .before) ∙ c .before .if3 .left))
 
 pub judge-copy-spec : {M : Type 1} → statement M
 judge-copy-spec =

@@ -5,10 +5,11 @@ use mathlib.Core.List.{List}
 use Prim.Native.Nat.{ℕ}
 use native.Mathlib.Omega.{arith}
 use lib.ListN.{length, take}
-use Rattle.model.specs.Table.{nodeCount, tableBytes}
+use Rattle.model.specs.Table.{Bytes, nodeCount, tableBytes}
 use Rattle.model.specs.Archive.{tableIn, marksIn}
 use Rattle.model.specs.Refusals.{isArchive}
 use Rattle.archive.specs.Size.{archiveNodes, longestTable}
+use Rattle.archive.specs.Answers.{read-both}
 use Rattle.archive.proofs.Parts.{known-part, reader-many, reader-none, reader-table, reader-marks, reader-done}
 use borrow.Author.Needs.{needs}
 use Rattle.archive.proofs.read.read_archive.Statement.{statement}
@@ -19,6 +20,9 @@ use Rattle.archive.proofs.read.read_archive.Tie as tie
 module _ (b : tie.After-table-bytes) where
   abbrev archive : List ℕ
   archive = b .before .before .before .before .before .before .before .before .before .before .before .args .archive .now
+
+  known : Bytes archive
+  known i = omega (arith, b .before .before .before .before .before .before .before .before .before .before .shared-slice-known .given i)
 
   abbrev tree : List ℕ
   tree = take (b .table-bytes .result) (b .before .before .before .decode .last .1 .0)
@@ -50,7 +54,9 @@ refuse-requires : tie.Need-refuse-requires
 refuse-requires c κs = search needs
 
 returns : tie.Need-returns
-returns c = reader-many _ (c .refuse .ensures) (omega (arith, c .before .before .node-count .ensures, c .before .if1 .taken))
+returns c =
+    read-both (λ i. omega (arith, c .before .before .before .before .before .shared-slice-known .given i))
+    (reader-many _ (c .refuse .ensures) (omega (arith, c .before .before .node-count .ensures, c .before .if1 .taken)))
 
 slice-aggregate-decode : tie.Need-slice-aggregate-decode
 slice-aggregate-decode c = search needs
@@ -86,7 +92,7 @@ returns-2 : tie.Need-returns-2
 returns-2 c =
     let j = c .before .before in
     let b = j .before .before .before in
-    reader-none (archive b) _ _ (tree b) (plan b) (j .judge-copy .result) (j .judge-copy .ensures) (c .if2 .taken) (told b)
+    read-both (known b) (reader-none (archive b) _ _ (tree b) (plan b) (j .judge-copy .result) (j .judge-copy .ensures) (c .if2 .taken) (told b))
 
 refuse-requires-2 : tie.Need-refuse-requires-2
 refuse-requires-2 c κs = search needs
@@ -95,7 +101,8 @@ returns-3 : tie.Need-returns-3
 returns-3 c =
     let e = c .before .before in
     let j = e .before .before in
-    reader-table _ (c .refuse2 .ensures) (size-is (j .before .before .before)) (j .judge-copy .ensures .accepts (e .if2 .left) .0) (c .before .if3 .taken)
+    let b = j .before .before .before in
+    read-both (known b) (reader-table _ (c .refuse2 .ensures) (size-is b) (j .judge-copy .ensures .accepts (e .if2 .left) .0) (c .before .if3 .taken))
 
 cast-refuse : tie.Need-cast-refuse
 cast-refuse c = search needs
@@ -108,7 +115,8 @@ returns-4 c =
     let e = c .before .before .before in
     let j = e .before .before in
     let b = j .before .before .before in
-    reader-marks _ (c .refuse3 .ensures) (b .before .before .before .before .before .before .before .node-count .ensures) (j .judge-copy .ensures .accepts (e .if2 .left) .0) (c .before .before .if3 .left ∙ size-is b) (c .before .if4 .taken)
+    read-both (known b)
+    (reader-marks _ (c .refuse3 .ensures) (b .before .before .before .before .before .before .before .node-count .ensures) (j .judge-copy .ensures .accepts (e .if2 .left) .0) (c .before .before .if3 .left ∙ size-is b) (c .before .if4 .taken))
 
 array-share-prefix-tree-2 : tie.Need-array-share-prefix-tree-2
 array-share-prefix-tree-2 c = search needs
@@ -139,8 +147,9 @@ returns-5 c =
     let e = c .before .before .before .before .before .before .before .before .before .before in
     let j = e .before .before .before .before in
     let b = j .before .before .before in
-    reader-done (archive b) _ _ (tree b) (plan b) (j .judge-copy .result) (j .judge-copy .ensures) (e .before .before .if2 .left) (e .before .if3 .left ∙ size-is b)
-    (e .if4 .left ∙ b .before .before .before .before .before .before .before .node-count .ensures) _ _ (c .before .before .before .before .before .before .before .copy-bytes .ensures) (c .before .before .copy-bytes2 .ensures)
+    read-both (known b)
+    (reader-done (archive b) _ _ (tree b) (plan b) (j .judge-copy .result) (j .judge-copy .ensures) (e .before .before .if2 .left) (e .before .if3 .left ∙ size-is b)
+    (e .if4 .left ∙ b .before .before .before .before .before .before .before .node-count .ensures) _ _ (c .before .before .before .before .before .before .before .copy-bytes .ensures) (c .before .before .copy-bytes2 .ensures))
 
 pub read-archive-spec : {M : Type 1} → statement M
 read-archive-spec =

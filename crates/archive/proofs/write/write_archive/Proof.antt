@@ -10,7 +10,7 @@ use Rattle.model.specs.Refusals.{refused, judgePlan}
 use Rattle.model.specs.declared.Answer.{Answer}
 use Rattle.theory.specs.ArchiveBack.{Planned, feasible-planned}
 use Rattle.theory.specs.ArchiveAnswers.{judge-feasible, write-refuses, write-short, write-done}
-use Rattle.archive.specs.Answers.{written}
+use Rattle.archive.specs.Answers.{written, write-both}
 use borrow.Author.Needs.{needs}
 use Rattle.archive.proofs.write.write_archive.Statement.{statement}
 use Rattle.archive.proofs.write.write_archive.Tie as tie
@@ -39,8 +39,9 @@ returns : tie.Need-returns
 returns c =
     let a = c .before .before .before .before .before .before .args in
     let judged = c .before .before .judge-plan .ensures in
-    ap (λ (x : Answer). written x (a .out .now)) judged
-    ∙ write-refuses _ _ (a .out .now) (λ z. c .if1 .taken (ap (λ (x : Answer). x .number) judged ∙ z))
+    write-both
+    (ap (λ (x : Answer). written x (a .out .now)) judged
+    ∙ write-refuses _ _ (a .out .now) (λ z. c .if1 .taken (ap (λ (x : Answer). x .number) judged ∙ z)))
 
 lay-plan-requires : tie.Need-lay-plan-requires
 lay-plan-requires c κs = feasible c .tree
@@ -61,8 +62,9 @@ returns-2 : tie.Need-returns-2
 returns-2 c =
     let b = c .before .before in
     let out = b .before .before .before .before .before .before .before .before .before .args .out .now in
-    ap (λ (x : Answer). written x out) (c .refuse .ensures ∙ ap (refused 12) (size-is b))
-    ∙ write-short _ _ out (accepts (b .before .before .before)) (λ e. omega (arith, c .before .if2 .taken, size-is b))
+    write-both
+    (ap (λ (x : Answer). written x out) (c .refuse .ensures ∙ ap (refused 12) (size-is b))
+    ∙ write-short _ _ out (accepts (b .before .before .before)) (λ e. omega (arith, c .before .if2 .taken, size-is b)))
 
 fill-archive-requires : tie.Need-fill-archive-requires
 fill-archive-requires c κs =
@@ -75,8 +77,9 @@ same-length c = search needs
 returns-3 : tie.Need-returns-3
 returns-3 c =
     let b = c .before .before .before .before .before in
-    ap₂ written (b .before .before .before .before .before .judge-plan .ensures) (c .before .before .fill-archive .ensures)
-    ∙ write-done _ _ _ (accepts (b .before .before .before)) (c .before .before .before .before .if2 .left ∙ size-is b)
+    write-both
+    (ap₂ written (b .before .before .before .before .before .judge-plan .ensures) (c .before .before .fill-archive .ensures)
+    ∙ write-done _ _ _ (accepts (b .before .before .before)) (c .before .before .before .before .if2 .left ∙ size-is b))
 
 pub write-archive-spec : {M : Type 1} → statement M
 write-archive-spec =

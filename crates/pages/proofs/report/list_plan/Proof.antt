@@ -56,7 +56,7 @@ list-pages-requires : tie.Need-list-pages-requires
 list-pages-requires c κs =
     let w = c .before .before .before .write-archive in
     let b = c .before .before .before .before .before in
-    (part-pages (b .before .before .before .before .before .before .pre .0) (size-is b) _ (w .last .1 .1 .0) _ (w .result) (fresh b) (w .kept .1 .1 .0) (w .ensures), b .before .before .before .before .before .before .pre .1)
+    (part-pages (b .before .before .before .before .before .before .pre .0) (size-is b) _ (w .last .1 .1 .0) _ (w .result) (fresh b) (w .kept .1 .1 .0) (w .ensures .0), b .before .before .before .before .before .before .pre .1)
 
 same-length : tie.Need-same-length
 same-length c = search needs
@@ -66,7 +66,7 @@ returns c =
     let w = c .before .before .before .before .before .before .write-archive in
     let b = c .before .before .before .before .before .before .before .before in
     let l = c .before .before .list-pages .ensures in
-    (part-lines (b .before .before .before .before .before .before .pre .0) (size-is b) _ (w .last .1 .1 .0) _ (w .result) (fresh b) (w .kept .1 .1 .0) (w .ensures) (l .0), l .1)
+    (part-lines (b .before .before .before .before .before .before .pre .0) (size-is b) _ (w .last .1 .1 .0) _ (w .result) (fresh b) (w .kept .1 .1 .0) (w .ensures .0) (l .0), l .1)
 
 pub list-plan-spec : {M : Type 1} → statement M
 list-plan-spec =

@@ -1,7 +1,6 @@
 -- `pages::report::report_plan` meets its contract. Assumes nothing.
 use native.Mathlib.Omega.{arith}
 use Rattle.model.specs.Steps.{bestMarks}
-use Rattle.model.specs.Refusals.{planBest}
 use Rattle.pages.specs.Appended.{filled-first}
 use Rattle.pages.specs.Listing.{made-planned, lines-refused, lines-planned}
 use borrow.Author.Needs.{needs}
@@ -34,12 +33,11 @@ returns c =
     )
 
 list-plan-requires : tie.Need-list-plan-requires
-unfolding planBest
 list-plan-requires c κs =
     let n = c .before .before in
     let a = n .before .before .before .before .before .before .plan-best in
     let s = n .before .before .before .before .before .before .before .before .before .before .before .before .before in
-    (made-planned bestMarks _ _ _ (a .result) _ _ (a .ensures .0) (n .if1 .left), s .pre)
+    (made-planned bestMarks _ _ _ (a .result) _ _ (a .ensures .0) (a .ensures .1 .0) (n .if1 .left), s .pre)
 
 same-length-4 : tie.Need-same-length-4
 same-length-4 c = search needs
