@@ -10,7 +10,7 @@ use balduqen_tests::model::{
     self, archive_bytes, archive_length, judge, plan_best, read, scratch_length, word, Answer,
     MAX_NODES,
 };
-use balduqen_tests::rule_sheet::{rebuild, Rebuilt};
+use balduqen_tests::rule_sheet::{rebuild, Failed, Rebuilt};
 use std::collections::BTreeSet;
 
 const SHEET: &str = include_str!("../../docs/RULE-SHEET.txt");
@@ -43,6 +43,38 @@ fn form_of_the_sheets() {
     }
 }
 
+/// The text of a section, from its heading to the next one.
+fn section(number: usize) -> &'static str {
+    let heading = |number: usize| SHEET.find(&format!("\n{number}. "));
+    let begin = heading(number).expect("a section") + 1;
+    &SHEET[begin..heading(number + 1).unwrap_or(SHEET.len())]
+}
+
+/// The sections stand in the order of their numbers, each section that is named is there, and a
+/// step of an example, as 'The tree (section 7).', names the section with that heading.
+#[test]
+fn numbers_of_the_sections() {
+    let number_of = |heading: &str| heading.split_once(". ")?.0.parse().ok();
+    let numbers: Vec<usize> = SHEET.lines().filter_map(number_of).collect();
+    assert_eq!(numbers, (1..=numbers.len()).collect::<Vec<usize>>());
+
+    let words: Vec<&str> = SHEET.split_whitespace().collect();
+    let mut steps = BTreeSet::new();
+    for four in words.windows(4) {
+        if !["section", "(section"].contains(&four[2]) {
+            continue;
+        }
+        let number = four[3].trim_matches([',', '.', ')']).parse();
+        let number = number.expect("a section's number");
+        let heading = section(number).lines().next().expect("a heading");
+        if four[0] == "The" {
+            assert!(heading.contains(&four[1].to_uppercase()), "{heading}");
+            steps.insert(number);
+        }
+    }
+    assert_eq!(steps, (6..=10).collect());
+}
+
 /// The byte that two digits in base 16 print; none for anything else.
 fn byte_printed(text: &str) -> Option<u8> {
     let is_two_digits = text.len() == 2 && text.bytes().all(|byte| byte.is_ascii_hexdigit());
@@ -62,7 +94,7 @@ fn bytes_of_the_example() {
     assert_eq!(archive[..], archive_of_e());
 
     let (mut in_lines, mut in_words) = (vec![], vec![]);
-    for line in SHEET.lines() {
+    for line in section(12).lines() {
         let items: Vec<&str> = line.split_whitespace().collect();
         if items.len() >= 2 && items[0].parse() == Ok(in_lines.len()) {
             if let Some(bytes) = items[1..].iter().map(|item| byte_printed(item)).collect() {
@@ -158,52 +190,58 @@ fn each_check_can_fail() {
     let node = |n: usize, word: usize| 3 + 4 * 3 + 4 * (n - 1) + word - 1;
     let good = archive_of_e();
     let mut seen = BTreeSet::new();
-    let mut fails = |number: u32, archive: &[u8]| {
-        assert_eq!(rebuild(archive), Err(number), "{}", show(archive));
+    let mut fails = |check: u32, place: usize, archive: &[u8]| {
+        let failed = Err(Failed { check, place });
+        assert_eq!(rebuild(archive), failed, "{}", show(archive));
         assert!(!agree(archive, model::read_archive));
-        seen.insert(number);
+        seen.insert(check);
     };
-    fails(1, &[]);
-    fails(1, &good[..5]);
-    fails(2, &changed_e(&[(0, 0)]));
-    fails(2, &changed_e(&[(0, 1025)]));
-    fails(3, &changed_e(&[(1, 0)]));
-    fails(3, &changed_e(&[(1, 1025)]));
-    fails(4, &changed_e(&[(2, 0)]));
-    fails(4, &changed_e(&[(2, 7)]));
-    fails(5, &good[..6]);
-    fails(5, &good[..77]);
-    fails(5, &[&good[..], &[0]].concat());
-    fails(5, &changed_e(&[(0, 5)]));
-    fails(5, &changed_e(&[(2, 2)]));
-    fails(6, &changed_e(&[(node(3, 1), 0)]));
-    fails(6, &changed_e(&[(node(6, 1), 6)]));
-    fails(7, &changed_e(&[(node(1, 3), 1)]));
+    fails(1, 0, &[]);
+    fails(1, 0, &good[..5]);
+    fails(2, 0, &changed_e(&[(0, 0)]));
+    fails(2, 0, &changed_e(&[(0, 1025)]));
+    fails(3, 0, &changed_e(&[(1, 0)]));
+    fails(3, 0, &changed_e(&[(1, 1025)]));
+    fails(4, 0, &changed_e(&[(2, 0)]));
+    fails(4, 0, &changed_e(&[(2, 7)]));
+    fails(5, 0, &good[..6]);
+    fails(5, 0, &good[..77]);
+    fails(5, 0, &[&good[..], &[0]].concat());
+    fails(5, 0, &changed_e(&[(0, 5)]));
+    fails(5, 0, &changed_e(&[(2, 2)]));
+    fails(6, 3, &changed_e(&[(node(3, 1), 0)]));
+    fails(6, 6, &changed_e(&[(node(6, 1), 6)]));
+    fails(7, 1, &changed_e(&[(node(1, 3), 1)]));
     for (n, parent) in [(2, 0), (2, 2), (3, 3), (3, 4), (5, 2), (6, 2), (6, 7)] {
-        fails(8, &changed_e(&[(node(n, 3), parent)]));
+        fails(8, n, &changed_e(&[(node(n, 3), parent)]));
     }
-    fails(9, &changed_e(&[(page(1, 1), 0)]));
-    fails(9, &changed_e(&[(page(1, 1), 2)]));
-    fails(9, &changed_e(&[(page(1, 2), 2)]));
-    fails(10, &changed_e(&[(page(2, 1), 0)]));
-    fails(10, &changed_e(&[(page(2, 1), 1)]));
-    fails(10, &changed_e(&[(page(3, 1), 2)]));
-    fails(10, &changed_e(&[(page(3, 1), 7)]));
+    fails(9, 1, &changed_e(&[(page(1, 1), 0)]));
+    fails(9, 1, &changed_e(&[(page(1, 1), 2)]));
+    fails(9, 1, &changed_e(&[(page(1, 2), 2)]));
+    fails(10, 2, &changed_e(&[(page(2, 1), 0)]));
+    fails(10, 2, &changed_e(&[(page(2, 1), 1)]));
+    fails(10, 3, &changed_e(&[(page(3, 1), 2)]));
+    fails(10, 3, &changed_e(&[(page(3, 1), 7)]));
     for last in [0, 1, 4, 5, 7] {
-        fails(11, &changed_e(&[(page(2, 2), last)]));
+        fails(11, 2, &changed_e(&[(page(2, 2), last)]));
     }
-    fails(12, &changed_e(&[(page(3, 1), 3), (page(3, 2), 6)]));
-    fails(12, &changed_e(&[(page(3, 1), 6), (page(3, 2), 6)]));
+    fails(12, 3, &changed_e(&[(page(3, 1), 3), (page(3, 2), 6)]));
+    fails(12, 6, &changed_e(&[(page(3, 1), 6), (page(3, 2), 6)]));
     for (p, next) in [(1, 0), (1, 1), (1, 3), (2, 0), (3, 1), (3, 4)] {
-        fails(13, &changed_e(&[(page(p, 4), next)]));
+        fails(13, p, &changed_e(&[(page(p, 4), next)]));
     }
-    fails(14, &changed_e(&[(page(1, 3), 4)]));
-    fails(14, &changed_e(&[(page(3, 3), 5)]));
-    fails(14, &changed_e(&[(node(2, 1), 3)]));
-    fails(15, &changed_e(&[(node(2, 1), 4), (page(2, 3), 6)]));
+    fails(14, 1, &changed_e(&[(page(1, 3), 4)]));
+    fails(14, 3, &changed_e(&[(page(3, 3), 5)]));
+    fails(14, 2, &changed_e(&[(node(2, 1), 3)]));
+    fails(15, 2, &changed_e(&[(node(2, 1), 4), (page(2, 3), 6)]));
     for (n, next) in [(1, 1), (1, 2), (2, 0), (2, 6), (3, 4), (5, 6), (6, 2)] {
-        fails(16, &changed_e(&[(node(n, 4), next)]));
+        fails(16, n, &changed_e(&[(node(n, 4), next)]));
     }
+    // Two failures: the lower node or page of one check, and the lower of two checks.
+    fails(6, 3, &changed_e(&[(node(3, 1), 0), (node(5, 1), 9)]));
+    fails(14, 2, &changed_e(&[(page(2, 3), 5), (page(3, 3), 5)]));
+    fails(8, 6, &changed_e(&[(node(2, 4), 0), (node(6, 3), 2)]));
+    fails(14, 3, &changed_e(&[(page(3, 3), 5), (node(1, 4), 2)]));
 
     let on_the_sheet: Vec<u32> = SHEET
         .lines()
@@ -285,9 +323,9 @@ fn agree(archive: &[u8], reader: Reader) -> bool {
             assert_told(&told, &table, &marks, archive);
             true
         }
-        Err(check) => {
+        Err(failed) => {
             let refusal = Answer::refused(13, 0);
-            assert_eq!(answer, refusal, "check {check}: {}", show(archive));
+            assert_eq!(answer, refusal, "{failed:?}: {}", show(archive));
             false
         }
     }
