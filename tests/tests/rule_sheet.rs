@@ -1,4 +1,4 @@
-//! The printed rule sheet, docs/RULE-SHEET.txt: its form, its example, and that the reader written
+//! The printed rule sheet, docs/RULE-SHEET.txt: its form, its examples, and that the reader written
 //! from it alone reads archives exactly as the model and the library.
 
 use balduqen_tests::cases::{archive_of_e, case_e, MARKS_OF_E};
@@ -57,14 +57,15 @@ fn numbers_of_the_sections() {
     let number_of = |heading: &str| heading.split_once(". ")?.0.parse().ok();
     let numbers: Vec<usize> = SHEET.lines().filter_map(number_of).collect();
     assert_eq!(numbers, (1..=numbers.len()).collect::<Vec<usize>>());
+    assert!(SHEET.contains(&format!("12 to {} are examples", numbers.len())));
 
     let words: Vec<&str> = SHEET.split_whitespace().collect();
     let mut steps = BTreeSet::new();
     for four in words.windows(4) {
-        if !["section", "(section"].contains(&four[2]) {
+        if !["section", "(section", "Section"].contains(&four[2]) {
             continue;
         }
-        let number = four[3].trim_matches([',', '.', ')']).parse();
+        let number = four[3].trim_matches([',', '.', ':', ')']).parse();
         let number = number.expect("a section's number");
         let heading = section(number).lines().next().expect("a heading");
         if four[0] == "The" {
@@ -81,41 +82,93 @@ fn byte_printed(text: &str) -> Option<u8> {
     is_two_digits.then(|| u8::from_str_radix(text, 16).expect("two digits in base 16"))
 }
 
-/// The lines of a place and some bytes, and the lines of two places, a word's bytes and the word:
-/// both give the archive that the model writes for case E and its best plan.
-#[test]
-fn bytes_of_the_example() {
-    let table = case_e().bytes();
-    let mut marks = [9; 6];
-    assert!(plan_best(&table, &mut marks, &mut vec![9; scratch_length(6, 5)]).is_accepted());
-    assert_eq!(marks, MARKS_OF_E);
-    let mut archive = [9; 78];
-    assert!(model::write_archive(&table, &marks, &mut archive).is_accepted());
-    assert_eq!(archive[..], archive_of_e());
-
-    let (mut in_lines, mut in_words) = (vec![], vec![]);
-    for line in section(12).lines() {
+/// The bytes on the lines of a place and some bytes.
+fn bytes_printed(text: &str) -> Vec<u8> {
+    let mut bytes = vec![];
+    for line in text.lines() {
         let items: Vec<&str> = line.split_whitespace().collect();
-        if items.len() >= 2 && items[0].parse() == Ok(in_lines.len()) {
-            if let Some(bytes) = items[1..].iter().map(|item| byte_printed(item)).collect() {
-                let bytes: Vec<u8> = bytes;
-                in_lines.extend(bytes);
-            }
-        }
-        if items.len() >= 5 && items[0] == format!("{},", in_words.len()) {
-            assert_eq!(items[1].parse(), Ok(in_words.len() + 1), "{line}");
-            in_words.extend([items[2], items[3]].map(|item| byte_printed(item).expect(line)));
-            let place = in_words.len() / 2 - 1;
-            assert_eq!(items[4].parse(), Ok(word(&in_words, place)), "{line}");
+        if items.len() >= 2 && items[0].parse() == Ok(bytes.len()) {
+            let more: Option<Vec<u8>> = items[1..].iter().map(|item| byte_printed(item)).collect();
+            bytes.extend(more.unwrap_or_default());
         }
     }
-    assert_eq!(in_lines, archive);
+    bytes
+}
+
+/// The place and the bytes of a word on a line of two places, the word's bytes and the word; none
+/// for any other line.
+fn word_printed(line: &str) -> Option<(usize, [u8; 2])> {
+    let items: Vec<&str> = line.split_whitespace().collect();
+    if items.len() < 5 {
+        return None;
+    }
+    let place = items[0].strip_suffix(',')?.parse().ok()?;
+    let bytes = [byte_printed(items[2])?, byte_printed(items[3])?];
+    assert_eq!(items[1].parse(), Ok(place + 1), "{line}");
+    assert_eq!(items[4].parse(), Ok(u16::from_be_bytes(bytes)), "{line}");
+    Some((place, bytes))
+}
+
+/// The archive that the model writes for the table and its best plan, which has these marks.
+fn archive_of_best(table: &Table, marks: &[u8], pages: usize) -> Vec<u8> {
+    let (count, limit) = (marks.len(), usize::from(table.limit));
+    let table = table.bytes();
+    let (mut made, mut scratch) = (vec![9; count], vec![9; scratch_length(count, limit)]);
+    assert!(plan_best(&table, &mut made, &mut scratch).is_accepted());
+    assert_eq!(made, marks);
+    let mut archive = vec![9; archive_length(pages, count)];
+    assert!(model::write_archive(&table, marks, &mut archive).is_accepted());
+    archive
+}
+
+/// The lines of bytes and the lines of words both give the archive of case E and its best plan.
+#[test]
+fn bytes_of_the_example() {
+    let archive = archive_of_best(&case_e(), &MARKS_OF_E, 3);
+    assert_eq!(archive, archive_of_e());
+    assert_eq!(bytes_printed(section(12)), archive);
+    let mut in_words = vec![];
+    for (place, bytes) in section(12).lines().filter_map(word_printed) {
+        assert_eq!(place, in_words.len());
+        in_words.extend(bytes);
+    }
     assert_eq!(in_words, archive);
 }
 
-/// The lines of the example's two tables are on the sheet, one after another.
+/// The archive of the example of two pages, as printed.
+fn archive_of_two_pages() -> Vec<u8> {
+    bytes_printed(section(15))
+}
+
+/// The printed bytes are the archive of this tree and its best plan, and the lines of the head, the
+/// pages and the nodes have its words.
 #[test]
-fn tables_of_the_example() {
+fn bytes_of_the_example_of_two_pages() {
+    let mut table = Table::new(14, &[0, 1, 2, 2, 1, 5, 1], &[3, 4, 1, 5, 2, 1, 2]);
+    for (record, label) in table.records.iter_mut().zip([300, 20, 0, 7, 20, 9, 44]) {
+        record.label = label;
+    }
+    let archive = archive_of_best(&table, &[1, 1, 0, 0, 2, 0, 0], 2);
+    assert_eq!(archive_of_two_pages(), archive);
+
+    let names = ["head", "page 1", "page 2"].map(str::to_string);
+    let names = names
+        .into_iter()
+        .chain((1..=7).map(|n| format!("node {n}")));
+    let (head, records) = archive.split_at(6);
+    let mut text = String::new();
+    for (name, bytes) in names.zip([head].into_iter().chain(records.chunks(8))) {
+        text += &format!("    {name:<6}");
+        for place in 0..bytes.len() / 2 {
+            text += &format!("{:>7}", word(bytes, place));
+        }
+        text += "\n";
+    }
+    assert!(section(15).contains(&text), "{text}");
+}
+
+/// The lines of an example's tree and of its two tables are in its section, one after another.
+fn assert_printed(told: &Rebuilt, section: &str) {
     fn list(numbers: &[usize]) -> String {
         let texts: Vec<String> = numbers.iter().map(usize::to_string).collect();
         match numbers {
@@ -123,7 +176,19 @@ fn tables_of_the_example() {
             _ => texts.join(", "),
         }
     }
-    let told = rebuild(&archive_of_e()).expect("a sound archive");
+    /// The lines of all nodes below this one, whose own line has so much in front.
+    fn draw(told: &Rebuilt, n: usize, front: &str, text: &mut String) {
+        let children = &told.nodes[n - 1].children;
+        for child in children {
+            *text += &format!("{front}+-- {child}\n");
+            let is_last = child == &children[children.len() - 1];
+            let more = if is_last { "    " } else { "|   " };
+            draw(told, *child, &format!("{front}{more}"), text);
+        }
+    }
+    let mut text = "    1\n".to_string();
+    draw(told, 1, "    ", &mut text);
+    assert!(section.contains(&text), "{text}");
     let mut text = "    Node  Weight  Label  Parent  Mark  Page  Next node  Children\n".to_string();
     for (n, node) in (1..).zip(&told.nodes) {
         text += &format!(
@@ -137,7 +202,7 @@ fn tables_of_the_example() {
             list(&node.children)
         );
     }
-    assert!(SHEET.contains(&text), "{text}");
+    assert!(section.contains(&text), "{text}");
     let mut text = "    Page  First node  Last sibling  Weight  Next page  Nodes\n".to_string();
     for (p, page) in (1..).zip(&told.pages) {
         text += &format!(
@@ -149,10 +214,61 @@ fn tables_of_the_example() {
             list(&page.nodes)
         );
     }
-    assert!(SHEET.contains(&text), "{text}");
+    assert!(section.contains(&text), "{text}");
 }
 
-/// The second example: one page, with marks 0.
+#[test]
+fn tables_of_the_example() {
+    let told = rebuild(&archive_of_e()).expect("a sound archive");
+    assert_printed(&told, section(13));
+}
+
+#[test]
+fn tables_of_the_example_of_two_pages() {
+    let told = rebuild(&archive_of_two_pages()).expect("a sound archive");
+    assert_printed(&told, section(16));
+    // What the example is there to show: nodes with mark 0 on page 2, some of them between the two
+    // nodes of its run and one after them, and a last sibling that is not the last child.
+    assert_eq!(told.pages[1].run, [2, 5]);
+    assert_eq!(told.pages[1].nodes, [2, 3, 4, 5, 6]);
+    assert_eq!(told.nodes[0].children, [2, 5, 7]);
+    for reader in [model::read_archive, ffi::read_archive] {
+        assert!(agree(&archive_of_two_pages(), reader));
+    }
+}
+
+/// The example of two pages with the word set anew that a section prints: first the line as it was,
+/// then a line for each change.
+fn changed_as_printed(section: &str) -> Vec<Vec<u8>> {
+    let archive = archive_of_two_pages();
+    let mut lines = section.lines().filter_map(word_printed);
+    let (place, bytes) = lines.next().expect("a line of a word");
+    assert_eq!(archive[place..place + 2], bytes);
+    lines
+        .map(|(again, bytes)| {
+            assert_eq!(again, place);
+            let mut changed = archive.clone();
+            changed[place..place + 2].copy_from_slice(&bytes);
+            changed
+        })
+        .collect()
+}
+
+/// The check and the node that the sheet names are those at which the reader stops, and the archive
+/// is refused with 13.
+#[test]
+fn example_of_a_check_that_fails() {
+    let changed = changed_as_printed(section(17));
+    assert_eq!(changed.len(), 1);
+    let Failed { check, place } = rebuild(&changed[0]).expect_err("a failed check");
+    let said = format!("So check {check} fails at node {place}.");
+    assert!(section(17).contains(&said), "{said}");
+    for reader in [model::read_archive, ffi::read_archive] {
+        assert!(!agree(&changed[0], reader));
+    }
+}
+
+/// The example of one page, with marks 0.
 #[test]
 fn example_with_mark_0() {
     let words: [u16; 23] = [
