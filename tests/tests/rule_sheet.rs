@@ -255,17 +255,119 @@ fn changed_as_printed(section: &str) -> Vec<Vec<u8>> {
 }
 
 /// The check and the node that the sheet names are those at which the reader stops, and the archive
-/// is refused with 13.
+/// is refused with 13. With 1 as the parent of that node it is accepted, as another tree.
 #[test]
 fn example_of_a_check_that_fails() {
     let changed = changed_as_printed(section(17));
     assert_eq!(changed.len(), 1);
-    let Failed { check, place } = rebuild(&changed[0]).expect_err("a failed check");
+    let mut archive = changed[0].clone();
+    let Failed { check, place } = rebuild(&archive).expect_err("a failed check");
     let said = format!("So check {check} fails at node {place}.");
     assert!(section(17).contains(&said), "{said}");
     for reader in [model::read_archive, ffi::read_archive] {
-        assert!(!agree(&changed[0], reader));
+        assert!(!agree(&archive, reader));
     }
+
+    let right = rebuild(&archive_of_two_pages()).expect("a sound archive");
+    assert_eq!(right.nodes[place - 1].parent, 2);
+    set_word(&mut archive, 3 + 4 * 2 + 4 * (place - 1) + 2, 1);
+    let told = rebuild(&archive).expect("a sound archive");
+    assert_ne!(table_of(&told), table_of(&right));
+    for reader in [model::read_archive, ffi::read_archive] {
+        assert!(agree(&archive, reader));
+    }
+}
+
+/// With any of the three parents of node 4 all checks hold and the pages have the same nodes, and
+/// the library's reader accepts the archive, each time as another tree.
+#[test]
+fn example_of_a_wrong_word_that_no_check_finds() {
+    let mut archives = changed_as_printed(section(18));
+    archives.push(archive_of_two_pages());
+    let mut seen = BTreeSet::new();
+    for (archive, (parent, mark)) in archives.iter().zip([(3, 0), (1, 2), (2, 0)]) {
+        let told = rebuild(archive).expect("a sound archive");
+        assert_eq!((told.nodes[3].parent, told.nodes[3].mark), (parent, mark));
+        assert_eq!(told.pages[0].nodes, [1, 7]);
+        assert_eq!(told.pages[1].nodes, [2, 3, 4, 5, 6]);
+        assert!(agree(archive, model::read_archive));
+        let (mut table, mut marks) = ([9; 60], [9; 7]);
+        let answer = ffi::read_archive(archive, &mut table, &mut marks);
+        assert_eq!(answer, Answer::accepted(2, 5));
+        assert_told(&told, &table, &marks, archive);
+        seen.insert(table);
+    }
+    assert_eq!(seen.len(), 3);
+}
+
+/// The words that can be wrong with no check failing (section 11), and all others.
+enum Kind {
+    Limit,
+    Label,
+    ParentOf(usize),
+    Other,
+}
+
+fn kind_of_word(place: usize, pages: usize) -> Kind {
+    match place.checked_sub(3 + 4 * pages) {
+        None if place == 1 => Kind::Limit,
+        Some(word) if word % 4 == 1 => Kind::Label,
+        Some(word) if word % 4 == 2 => Kind::ParentOf(word / 4 + 1),
+        _ => Kind::Other,
+    }
+}
+
+/// With another parent of node n no check fails only if each page has the nodes that it had. If the
+/// node has mark 0 and both parents are on one page, no check but check 8 can fail.
+fn assert_other_parent(right: &Rebuilt, n: usize, parent: usize, told: &Result<Rebuilt, Failed>) {
+    let node = &right.nodes[n - 1];
+    let is_on_same_page =
+        (1..=right.nodes.len()).contains(&parent) && right.nodes[parent - 1].page == node.page;
+    match told {
+        Ok(told) => {
+            for (told, right) in told.pages.iter().zip(&right.pages) {
+                assert_eq!(told.nodes, right.nodes);
+            }
+        }
+        Err(failed) if node.mark == 0 && is_on_same_page => assert_eq!(failed.check, 8),
+        Err(failed) => assert!([7, 8, 11, 12, 14].contains(&failed.check), "{failed:?}"),
+    }
+}
+
+/// What section 11 says of one wrong word: the checks hold with any label and with any K from the
+/// weight of the heaviest page to 1,024, can hold with another parent, and fail with any other word.
+#[test]
+fn one_wrong_word() {
+    let random = &mut Random::new(2008);
+    let mut archives = small_archives();
+    archives.push(archive_of_two_pages());
+    archives.extend((0..200).map(|_| random_archive(random, 8, 12)));
+    let mut parents_not_found = 0;
+    for archive in &archives {
+        let right = rebuild(archive).expect("a sound archive");
+        let heaviest = right.pages.iter().map(|page| page.weight).max();
+        let heaviest = heaviest.expect("a page");
+        for place in 0..archive.len() / 2 {
+            for value in (0..30).chain([1023, 1024, 1025, 65535]) {
+                if word(archive, place) == value {
+                    continue;
+                }
+                let mut changed = archive.clone();
+                set_word(&mut changed, place, value as u16);
+                let told = rebuild(&changed);
+                match kind_of_word(place, right.pages.len()) {
+                    Kind::Limit => assert_eq!(told.is_ok(), (heaviest..=1024).contains(&value)),
+                    Kind::Label => assert!(told.is_ok()),
+                    Kind::ParentOf(n) => {
+                        assert_other_parent(&right, n, value, &told);
+                        parents_not_found += usize::from(told.is_ok());
+                    }
+                    Kind::Other => assert!(told.is_err(), "{}", show(&changed)),
+                }
+            }
+        }
+    }
+    assert!(parents_not_found >= 200, "{parents_not_found}");
 }
 
 /// The example of one page, with marks 0.
