@@ -114,8 +114,7 @@ fn read_head(archive: &[u8], lines: &Lines) -> Result<Head, Failed> {
 /// Section 7. Marks and pages are filled in later.
 fn rebuild_tree(lines: &Lines, head: &Head) -> Result<Vec<Node>, Failed> {
     let mut nodes = vec![];
-    for n in 1..=head.nodes {
-        let record = &lines[head.pages + n];
+    for record in &lines[1 + head.pages..] {
         nodes.push(Node {
             weight: record[0],
             label: record[1],
@@ -147,8 +146,7 @@ fn rebuild_tree(lines: &Lines, head: &Head) -> Result<Vec<Node>, Failed> {
 /// Section 8. The nodes of the pages are filled in later.
 fn rebuild_runs(lines: &Lines, head: &Head, nodes: &[Node]) -> Result<Vec<Page>, Failed> {
     let mut pages = vec![];
-    for p in 1..=head.pages {
-        let record = &lines[p];
+    for record in &lines[1..=head.pages] {
         pages.push(Page {
             first_node: record[0],
             last_sibling: record[1],
