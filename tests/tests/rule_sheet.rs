@@ -1,4 +1,4 @@
-//! The printed rule sheet, docs/RULE-SHEET.txt: its form, its example, and that the reader written
+//! The printed rule sheet, docs/RULE-SHEET.txt: its form, its examples, and that the reader written
 //! from it alone reads archives exactly as the model and the library.
 
 use balduqen_tests::cases::{archive_of_e, case_e, MARKS_OF_E};
@@ -10,7 +10,7 @@ use balduqen_tests::model::{
     self, archive_bytes, archive_length, judge, plan_best, read, scratch_length, word, Answer,
     MAX_NODES,
 };
-use balduqen_tests::rule_sheet::{rebuild, Rebuilt};
+use balduqen_tests::rule_sheet::{rebuild, Failed, Rebuilt};
 use std::collections::BTreeSet;
 
 const SHEET: &str = include_str!("../../docs/RULE-SHEET.txt");
@@ -43,47 +43,132 @@ fn form_of_the_sheets() {
     }
 }
 
+/// The text of a section, from its heading to the next one.
+fn section(number: usize) -> &'static str {
+    let heading = |number: usize| SHEET.find(&format!("\n{number}. "));
+    let begin = heading(number).expect("a section") + 1;
+    &SHEET[begin..heading(number + 1).unwrap_or(SHEET.len())]
+}
+
+/// The sections stand in the order of their numbers, each section that is named is there, and a
+/// step of an example, as 'The tree (section 7).', names the section with that heading.
+#[test]
+fn numbers_of_the_sections() {
+    let number_of = |heading: &str| heading.split_once(". ")?.0.parse().ok();
+    let numbers: Vec<usize> = SHEET.lines().filter_map(number_of).collect();
+    assert_eq!(numbers, (1..=numbers.len()).collect::<Vec<usize>>());
+    assert!(SHEET.contains(&format!("12 to {} are examples", numbers.len())));
+
+    let words: Vec<&str> = SHEET.split_whitespace().collect();
+    let mut steps = BTreeSet::new();
+    for four in words.windows(4) {
+        if !["section", "(section", "Section"].contains(&four[2]) {
+            continue;
+        }
+        let number = four[3].trim_matches([',', '.', ':', ')']).parse();
+        let number = number.expect("a section's number");
+        let heading = section(number).lines().next().expect("a heading");
+        if four[0] == "The" {
+            assert!(heading.contains(&four[1].to_uppercase()), "{heading}");
+            steps.insert(number);
+        }
+    }
+    assert_eq!(steps, (6..=10).collect());
+}
+
 /// The byte that two digits in base 16 print; none for anything else.
 fn byte_printed(text: &str) -> Option<u8> {
     let is_two_digits = text.len() == 2 && text.bytes().all(|byte| byte.is_ascii_hexdigit());
     is_two_digits.then(|| u8::from_str_radix(text, 16).expect("two digits in base 16"))
 }
 
-/// The lines of a place and some bytes, and the lines of two places, a word's bytes and the word:
-/// both give the archive that the model writes for case E and its best plan.
-#[test]
-fn bytes_of_the_example() {
-    let table = case_e().bytes();
-    let mut marks = [9; 6];
-    assert!(plan_best(&table, &mut marks, &mut vec![9; scratch_length(6, 5)]).is_accepted());
-    assert_eq!(marks, MARKS_OF_E);
-    let mut archive = [9; 78];
-    assert!(model::write_archive(&table, &marks, &mut archive).is_accepted());
-    assert_eq!(archive[..], archive_of_e());
-
-    let (mut in_lines, mut in_words) = (vec![], vec![]);
-    for line in SHEET.lines() {
+/// The bytes on the lines of a place and some bytes.
+fn bytes_printed(text: &str) -> Vec<u8> {
+    let mut bytes = vec![];
+    for line in text.lines() {
         let items: Vec<&str> = line.split_whitespace().collect();
-        if items.len() >= 2 && items[0].parse() == Ok(in_lines.len()) {
-            if let Some(bytes) = items[1..].iter().map(|item| byte_printed(item)).collect() {
-                let bytes: Vec<u8> = bytes;
-                in_lines.extend(bytes);
-            }
-        }
-        if items.len() >= 5 && items[0] == format!("{},", in_words.len()) {
-            assert_eq!(items[1].parse(), Ok(in_words.len() + 1), "{line}");
-            in_words.extend([items[2], items[3]].map(|item| byte_printed(item).expect(line)));
-            let place = in_words.len() / 2 - 1;
-            assert_eq!(items[4].parse(), Ok(word(&in_words, place)), "{line}");
+        if items.len() >= 2 && items[0].parse() == Ok(bytes.len()) {
+            let more: Option<Vec<u8>> = items[1..].iter().map(|item| byte_printed(item)).collect();
+            bytes.extend(more.unwrap_or_default());
         }
     }
-    assert_eq!(in_lines, archive);
+    bytes
+}
+
+/// The place and the bytes of a word on a line of two places, the word's bytes and the word; none
+/// for any other line.
+fn word_printed(line: &str) -> Option<(usize, [u8; 2])> {
+    let items: Vec<&str> = line.split_whitespace().collect();
+    if items.len() < 5 {
+        return None;
+    }
+    let place = items[0].strip_suffix(',')?.parse().ok()?;
+    let bytes = [byte_printed(items[2])?, byte_printed(items[3])?];
+    assert_eq!(items[1].parse(), Ok(place + 1), "{line}");
+    assert_eq!(items[4].parse(), Ok(u16::from_be_bytes(bytes)), "{line}");
+    Some((place, bytes))
+}
+
+/// The archive that the model writes for the table and its best plan, which has these marks.
+fn archive_of_best(table: &Table, marks: &[u8], pages: usize) -> Vec<u8> {
+    let (count, limit) = (marks.len(), usize::from(table.limit));
+    let table = table.bytes();
+    let (mut made, mut scratch) = (vec![9; count], vec![9; scratch_length(count, limit)]);
+    assert!(plan_best(&table, &mut made, &mut scratch).is_accepted());
+    assert_eq!(made, marks);
+    let mut archive = vec![9; archive_length(pages, count)];
+    assert!(model::write_archive(&table, marks, &mut archive).is_accepted());
+    archive
+}
+
+/// The lines of bytes and the lines of words both give the archive of case E and its best plan.
+#[test]
+fn bytes_of_the_example() {
+    let archive = archive_of_best(&case_e(), &MARKS_OF_E, 3);
+    assert_eq!(archive, archive_of_e());
+    assert_eq!(bytes_printed(section(12)), archive);
+    let mut in_words = vec![];
+    for (place, bytes) in section(12).lines().filter_map(word_printed) {
+        assert_eq!(place, in_words.len());
+        in_words.extend(bytes);
+    }
     assert_eq!(in_words, archive);
 }
 
-/// The lines of the example's two tables are on the sheet, one after another.
+/// The archive of the example of two pages, as printed.
+fn archive_of_two_pages() -> Vec<u8> {
+    bytes_printed(section(15))
+}
+
+/// The printed bytes are the archive of this tree and its best plan, and the lines of the head, the
+/// pages and the nodes have its words.
 #[test]
-fn tables_of_the_example() {
+fn bytes_of_the_example_of_two_pages() {
+    let mut table = Table::new(14, &[0, 1, 2, 2, 1, 5, 1], &[3, 4, 1, 5, 2, 1, 2]);
+    for (record, label) in table.records.iter_mut().zip([300, 20, 0, 7, 20, 9, 44]) {
+        record.label = label;
+    }
+    let archive = archive_of_best(&table, &[1, 1, 0, 0, 2, 0, 0], 2);
+    assert_eq!(archive_of_two_pages(), archive);
+
+    let names = ["head", "page 1", "page 2"].map(str::to_string);
+    let names = names
+        .into_iter()
+        .chain((1..=7).map(|n| format!("node {n}")));
+    let (head, records) = archive.split_at(6);
+    let mut text = String::new();
+    for (name, bytes) in names.zip([head].into_iter().chain(records.chunks(8))) {
+        text += &format!("    {name:<6}");
+        for place in 0..bytes.len() / 2 {
+            text += &format!("{:>7}", word(bytes, place));
+        }
+        text += "\n";
+    }
+    assert!(section(15).contains(&text), "{text}");
+}
+
+/// The lines of an example's tree and of its two tables are in its section, one after another.
+fn assert_printed(told: &Rebuilt, section: &str) {
     fn list(numbers: &[usize]) -> String {
         let texts: Vec<String> = numbers.iter().map(usize::to_string).collect();
         match numbers {
@@ -91,7 +176,19 @@ fn tables_of_the_example() {
             _ => texts.join(", "),
         }
     }
-    let told = rebuild(&archive_of_e()).expect("a sound archive");
+    /// The lines of all nodes below this one, whose own line has so much in front.
+    fn draw(told: &Rebuilt, n: usize, front: &str, text: &mut String) {
+        let children = &told.nodes[n - 1].children;
+        for child in children {
+            *text += &format!("{front}+-- {child}\n");
+            let is_last = child == &children[children.len() - 1];
+            let more = if is_last { "    " } else { "|   " };
+            draw(told, *child, &format!("{front}{more}"), text);
+        }
+    }
+    let mut text = "    1\n".to_string();
+    draw(told, 1, "    ", &mut text);
+    assert!(section.contains(&text), "{text}");
     let mut text = "    Node  Weight  Label  Parent  Mark  Page  Next node  Children\n".to_string();
     for (n, node) in (1..).zip(&told.nodes) {
         text += &format!(
@@ -105,7 +202,7 @@ fn tables_of_the_example() {
             list(&node.children)
         );
     }
-    assert!(SHEET.contains(&text), "{text}");
+    assert!(section.contains(&text), "{text}");
     let mut text = "    Page  First node  Last sibling  Weight  Next page  Nodes\n".to_string();
     for (p, page) in (1..).zip(&told.pages) {
         text += &format!(
@@ -117,10 +214,163 @@ fn tables_of_the_example() {
             list(&page.nodes)
         );
     }
-    assert!(SHEET.contains(&text), "{text}");
+    assert!(section.contains(&text), "{text}");
 }
 
-/// The second example: one page, with marks 0.
+#[test]
+fn tables_of_the_example() {
+    let told = rebuild(&archive_of_e()).expect("a sound archive");
+    assert_printed(&told, section(13));
+}
+
+#[test]
+fn tables_of_the_example_of_two_pages() {
+    let told = rebuild(&archive_of_two_pages()).expect("a sound archive");
+    assert_printed(&told, section(16));
+    // What the example is there to show: nodes with mark 0 on page 2, some of them between the two
+    // nodes of its run and one after them, and a last sibling that is not the last child.
+    assert_eq!(told.pages[1].run, [2, 5]);
+    assert_eq!(told.pages[1].nodes, [2, 3, 4, 5, 6]);
+    assert_eq!(told.nodes[0].children, [2, 5, 7]);
+    for reader in [model::read_archive, ffi::read_archive] {
+        assert!(agree(&archive_of_two_pages(), reader));
+    }
+}
+
+/// The example of two pages with the word set anew that a section prints: first the line as it was,
+/// then a line for each change.
+fn changed_as_printed(section: &str) -> Vec<Vec<u8>> {
+    let archive = archive_of_two_pages();
+    let mut lines = section.lines().filter_map(word_printed);
+    let (place, bytes) = lines.next().expect("a line of a word");
+    assert_eq!(archive[place..place + 2], bytes);
+    lines
+        .map(|(again, bytes)| {
+            assert_eq!(again, place);
+            let mut changed = archive.clone();
+            changed[place..place + 2].copy_from_slice(&bytes);
+            changed
+        })
+        .collect()
+}
+
+/// The check and the node that the sheet names are those at which the reader stops, and the archive
+/// is refused with 13. With 1 as the parent of that node it is accepted, as another tree.
+#[test]
+fn example_of_a_check_that_fails() {
+    let changed = changed_as_printed(section(17));
+    assert_eq!(changed.len(), 1);
+    let mut archive = changed[0].clone();
+    let Failed { check, place } = rebuild(&archive).expect_err("a failed check");
+    let said = format!("So check {check} fails at node {place}.");
+    assert!(section(17).contains(&said), "{said}");
+    for reader in [model::read_archive, ffi::read_archive] {
+        assert!(!agree(&archive, reader));
+    }
+
+    let right = rebuild(&archive_of_two_pages()).expect("a sound archive");
+    assert_eq!(right.nodes[place - 1].parent, 2);
+    set_word(&mut archive, 3 + 4 * 2 + 4 * (place - 1) + 2, 1);
+    let told = rebuild(&archive).expect("a sound archive");
+    assert_ne!(table_of(&told), table_of(&right));
+    for reader in [model::read_archive, ffi::read_archive] {
+        assert!(agree(&archive, reader));
+    }
+}
+
+/// With any of the three parents of node 4 all checks hold and the pages have the same nodes, and
+/// the library's reader accepts the archive, each time as another tree.
+#[test]
+fn example_of_a_wrong_word_that_no_check_finds() {
+    let mut archives = changed_as_printed(section(18));
+    archives.push(archive_of_two_pages());
+    let mut seen = BTreeSet::new();
+    for (archive, (parent, mark)) in archives.iter().zip([(3, 0), (1, 2), (2, 0)]) {
+        let told = rebuild(archive).expect("a sound archive");
+        assert_eq!((told.nodes[3].parent, told.nodes[3].mark), (parent, mark));
+        assert_eq!(told.pages[0].nodes, [1, 7]);
+        assert_eq!(told.pages[1].nodes, [2, 3, 4, 5, 6]);
+        assert!(agree(archive, model::read_archive));
+        let (mut table, mut marks) = ([9; 60], [9; 7]);
+        let answer = ffi::read_archive(archive, &mut table, &mut marks);
+        assert_eq!(answer, Answer::accepted(2, 5));
+        assert_told(&told, &table, &marks, archive);
+        seen.insert(table);
+    }
+    assert_eq!(seen.len(), 3);
+}
+
+/// The words that can be wrong with no check failing (section 11), and all others.
+enum Kind {
+    Limit,
+    Label,
+    ParentOf(usize),
+    Other,
+}
+
+fn kind_of_word(place: usize, pages: usize) -> Kind {
+    match place.checked_sub(3 + 4 * pages) {
+        None if place == 1 => Kind::Limit,
+        Some(word) if word % 4 == 1 => Kind::Label,
+        Some(word) if word % 4 == 2 => Kind::ParentOf(word / 4 + 1),
+        _ => Kind::Other,
+    }
+}
+
+/// With another parent of node n no check fails only if each page has the nodes that it had. If the
+/// node has mark 0 and both parents are on one page, no check but check 8 can fail.
+fn assert_other_parent(right: &Rebuilt, n: usize, parent: usize, told: &Result<Rebuilt, Failed>) {
+    let node = &right.nodes[n - 1];
+    let is_on_same_page =
+        (1..=right.nodes.len()).contains(&parent) && right.nodes[parent - 1].page == node.page;
+    match told {
+        Ok(told) => {
+            for (told, right) in told.pages.iter().zip(&right.pages) {
+                assert_eq!(told.nodes, right.nodes);
+            }
+        }
+        Err(failed) if node.mark == 0 && is_on_same_page => assert_eq!(failed.check, 8),
+        Err(failed) => assert!([7, 8, 11, 12, 14].contains(&failed.check), "{failed:?}"),
+    }
+}
+
+/// What section 11 says of one wrong word: the checks hold with any label and with any K from the
+/// weight of the heaviest page to 1,024, can hold with another parent, and fail with any other word.
+#[test]
+fn one_wrong_word() {
+    let random = &mut Random::new(2008);
+    let mut archives = small_archives();
+    archives.push(archive_of_two_pages());
+    archives.extend((0..200).map(|_| random_archive(random, 8, 12)));
+    let mut parents_not_found = 0;
+    for archive in &archives {
+        let right = rebuild(archive).expect("a sound archive");
+        let heaviest = right.pages.iter().map(|page| page.weight).max();
+        let heaviest = heaviest.expect("a page");
+        for place in 0..archive.len() / 2 {
+            for value in (0..30).chain([1023, 1024, 1025, 65535]) {
+                if word(archive, place) == value {
+                    continue;
+                }
+                let mut changed = archive.clone();
+                set_word(&mut changed, place, value as u16);
+                let told = rebuild(&changed);
+                match kind_of_word(place, right.pages.len()) {
+                    Kind::Limit => assert_eq!(told.is_ok(), (heaviest..=1024).contains(&value)),
+                    Kind::Label => assert!(told.is_ok()),
+                    Kind::ParentOf(n) => {
+                        assert_other_parent(&right, n, value, &told);
+                        parents_not_found += usize::from(told.is_ok());
+                    }
+                    Kind::Other => assert!(told.is_err(), "{}", show(&changed)),
+                }
+            }
+        }
+    }
+    assert!(parents_not_found >= 200, "{parents_not_found}");
+}
+
+/// The example of one page, with marks 0.
 #[test]
 fn example_with_mark_0() {
     let words: [u16; 23] = [
@@ -158,52 +408,58 @@ fn each_check_can_fail() {
     let node = |n: usize, word: usize| 3 + 4 * 3 + 4 * (n - 1) + word - 1;
     let good = archive_of_e();
     let mut seen = BTreeSet::new();
-    let mut fails = |number: u32, archive: &[u8]| {
-        assert_eq!(rebuild(archive), Err(number), "{}", show(archive));
+    let mut fails = |check: u32, place: usize, archive: &[u8]| {
+        let failed = Err(Failed { check, place });
+        assert_eq!(rebuild(archive), failed, "{}", show(archive));
         assert!(!agree(archive, model::read_archive));
-        seen.insert(number);
+        seen.insert(check);
     };
-    fails(1, &[]);
-    fails(1, &good[..5]);
-    fails(2, &changed_e(&[(0, 0)]));
-    fails(2, &changed_e(&[(0, 1025)]));
-    fails(3, &changed_e(&[(1, 0)]));
-    fails(3, &changed_e(&[(1, 1025)]));
-    fails(4, &changed_e(&[(2, 0)]));
-    fails(4, &changed_e(&[(2, 7)]));
-    fails(5, &good[..6]);
-    fails(5, &good[..77]);
-    fails(5, &[&good[..], &[0]].concat());
-    fails(5, &changed_e(&[(0, 5)]));
-    fails(5, &changed_e(&[(2, 2)]));
-    fails(6, &changed_e(&[(node(3, 1), 0)]));
-    fails(6, &changed_e(&[(node(6, 1), 6)]));
-    fails(7, &changed_e(&[(node(1, 3), 1)]));
+    fails(1, 0, &[]);
+    fails(1, 0, &good[..5]);
+    fails(2, 0, &changed_e(&[(0, 0)]));
+    fails(2, 0, &changed_e(&[(0, 1025)]));
+    fails(3, 0, &changed_e(&[(1, 0)]));
+    fails(3, 0, &changed_e(&[(1, 1025)]));
+    fails(4, 0, &changed_e(&[(2, 0)]));
+    fails(4, 0, &changed_e(&[(2, 7)]));
+    fails(5, 0, &good[..6]);
+    fails(5, 0, &good[..77]);
+    fails(5, 0, &[&good[..], &[0]].concat());
+    fails(5, 0, &changed_e(&[(0, 5)]));
+    fails(5, 0, &changed_e(&[(2, 2)]));
+    fails(6, 3, &changed_e(&[(node(3, 1), 0)]));
+    fails(6, 6, &changed_e(&[(node(6, 1), 6)]));
+    fails(7, 1, &changed_e(&[(node(1, 3), 1)]));
     for (n, parent) in [(2, 0), (2, 2), (3, 3), (3, 4), (5, 2), (6, 2), (6, 7)] {
-        fails(8, &changed_e(&[(node(n, 3), parent)]));
+        fails(8, n, &changed_e(&[(node(n, 3), parent)]));
     }
-    fails(9, &changed_e(&[(page(1, 1), 0)]));
-    fails(9, &changed_e(&[(page(1, 1), 2)]));
-    fails(9, &changed_e(&[(page(1, 2), 2)]));
-    fails(10, &changed_e(&[(page(2, 1), 0)]));
-    fails(10, &changed_e(&[(page(2, 1), 1)]));
-    fails(10, &changed_e(&[(page(3, 1), 2)]));
-    fails(10, &changed_e(&[(page(3, 1), 7)]));
+    fails(9, 1, &changed_e(&[(page(1, 1), 0)]));
+    fails(9, 1, &changed_e(&[(page(1, 1), 2)]));
+    fails(9, 1, &changed_e(&[(page(1, 2), 2)]));
+    fails(10, 2, &changed_e(&[(page(2, 1), 0)]));
+    fails(10, 2, &changed_e(&[(page(2, 1), 1)]));
+    fails(10, 3, &changed_e(&[(page(3, 1), 2)]));
+    fails(10, 3, &changed_e(&[(page(3, 1), 7)]));
     for last in [0, 1, 4, 5, 7] {
-        fails(11, &changed_e(&[(page(2, 2), last)]));
+        fails(11, 2, &changed_e(&[(page(2, 2), last)]));
     }
-    fails(12, &changed_e(&[(page(3, 1), 3), (page(3, 2), 6)]));
-    fails(12, &changed_e(&[(page(3, 1), 6), (page(3, 2), 6)]));
+    fails(12, 3, &changed_e(&[(page(3, 1), 3), (page(3, 2), 6)]));
+    fails(12, 6, &changed_e(&[(page(3, 1), 6), (page(3, 2), 6)]));
     for (p, next) in [(1, 0), (1, 1), (1, 3), (2, 0), (3, 1), (3, 4)] {
-        fails(13, &changed_e(&[(page(p, 4), next)]));
+        fails(13, p, &changed_e(&[(page(p, 4), next)]));
     }
-    fails(14, &changed_e(&[(page(1, 3), 4)]));
-    fails(14, &changed_e(&[(page(3, 3), 5)]));
-    fails(14, &changed_e(&[(node(2, 1), 3)]));
-    fails(15, &changed_e(&[(node(2, 1), 4), (page(2, 3), 6)]));
+    fails(14, 1, &changed_e(&[(page(1, 3), 4)]));
+    fails(14, 3, &changed_e(&[(page(3, 3), 5)]));
+    fails(14, 2, &changed_e(&[(node(2, 1), 3)]));
+    fails(15, 2, &changed_e(&[(node(2, 1), 4), (page(2, 3), 6)]));
     for (n, next) in [(1, 1), (1, 2), (2, 0), (2, 6), (3, 4), (5, 6), (6, 2)] {
-        fails(16, &changed_e(&[(node(n, 4), next)]));
+        fails(16, n, &changed_e(&[(node(n, 4), next)]));
     }
+    // Two failures: the lower node or page of one check, and the lower of two checks.
+    fails(6, 3, &changed_e(&[(node(3, 1), 0), (node(5, 1), 9)]));
+    fails(14, 2, &changed_e(&[(page(2, 3), 5), (page(3, 3), 5)]));
+    fails(8, 6, &changed_e(&[(node(2, 4), 0), (node(6, 3), 2)]));
+    fails(14, 3, &changed_e(&[(page(3, 3), 5), (node(1, 4), 2)]));
 
     let on_the_sheet: Vec<u32> = SHEET
         .lines()
@@ -285,9 +541,9 @@ fn agree(archive: &[u8], reader: Reader) -> bool {
             assert_told(&told, &table, &marks, archive);
             true
         }
-        Err(check) => {
+        Err(failed) => {
             let refusal = Answer::refused(13, 0);
-            assert_eq!(answer, refusal, "check {check}: {}", show(archive));
+            assert_eq!(answer, refusal, "{failed:?}: {}", show(archive));
             false
         }
     }
