@@ -211,32 +211,32 @@ planner_tests!(pair, Kind::Pair, ffi::plan_pair);
 planner_tests!(level, Kind::Level, ffi::plan_level);
 planner_tests!(best, Kind::Best, ffi::plan_best);
 
-/// The best planner against exhaustive search, without the model's planner.
+/// The best planner against exhaustive search. The model reads the tree; its judge and its planners
+/// are not asked.
 mod search {
     use super::*;
-    use balduqen_tests::exhaustive::{best_of_plans, best_of_run_sets, score_of_plan};
-    use balduqen_tests::model::read;
+    use balduqen_tests::exhaustive::{best_of_plans, best_of_run_sets, score_of_plan, Score};
+    use balduqen_tests::model::{read, Tree};
 
-    /// Checks one tree and gives the library's score.
-    fn check(random: &mut Random, table: &[u8]) -> (usize, u32) {
+    /// Checks one tree against its best score.
+    fn check(random: &mut Random, table: &[u8], best: fn(&Tree) -> Option<Score>) {
         let tree = read(table).expect("an accepted table");
-        let (answer, marks) = best::TESTED.plan_with_good_buffers(random, table);
-        let score = best_of_plans(&tree);
-        assert_eq!(
-            (answer.pages as usize, answer.root),
-            score,
-            "{}",
-            show(table)
-        );
-        assert_eq!(score_of_plan(&tree, &marks), Some(score), "{}", show(table));
-        score
+        let (pages, root) = best(&tree).expect("an accepted tree is held within its limit");
+        let count = tree.node_count();
+        let mut marks = random.bytes(count);
+        let filling = random.number() as u32;
+        let mut scratch = vec![filling; scratch_length(count, tree.limit as usize)];
+        let answer = ffi::plan_best(table, &mut marks, &mut scratch);
+        assert_eq!(answer, Answer::accepted(pages, root), "{}", show(table));
+        let made = score_of_plan(&tree, &marks);
+        assert_eq!(made, Some((pages, root)), "{marks:?}: {}", show(table));
     }
 
     #[test]
     fn best_of_all_small_trees() {
         let random = &mut Random::new(808);
         for_each_table(1..=5, &[1, 2, 3], &[3, 4, 5, 6], |table| {
-            check(random, table);
+            check(random, table, best_of_plans);
         });
     }
 
@@ -246,22 +246,19 @@ mod search {
         for _ in 0..20000 {
             let limit = random.pick(&[5, 8, 20]);
             let table = any_table(random, 8, limit).bytes();
-            check(random, &table);
+            check(random, &table, best_of_plans);
         }
     }
 
     #[test]
-    fn best_of_run_sequences() {
+    fn best_of_all_run_sets() {
         let random = &mut Random::new(810);
+        for_each_table(1..=5, &[1, 2, 3], &[3, 5], |table| {
+            check(random, table, best_of_run_sets);
+        });
         for _ in 0..2000 {
             let table = any_table(random, 7, 10).bytes();
-            let tree = read(&table).expect("an accepted table");
-            assert_eq!(
-                check(random, &table),
-                best_of_run_sets(&tree),
-                "{}",
-                show(&table)
-            );
+            check(random, &table, best_of_run_sets);
         }
     }
 }
