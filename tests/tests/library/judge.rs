@@ -138,7 +138,7 @@ fn damaged_tables() {
     seen.expect(&[0, 1, 2, 3, 4, 5, 6, 7, 8, 10], 50);
 }
 
-/// A page of each number can be the first heavy one.
+/// Pages of many numbers come as the first heavy one.
 #[test]
 fn heavy_pages() {
     let random = &mut Random::new(704);
