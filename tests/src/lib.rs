@@ -1,6 +1,7 @@
 //! What the outside tests share: a model of document 01 written from the document alone, exhaustive
 //! search over plans and over sets of sibling runs, generators of trees and tables, the document's
-//! own cases, helpers for checks, the calls into the proved library, and the entries of both sides.
+//! own cases, helpers for checks, guarded buffers, the calls into the proved library, and the entries
+//! of both sides.
 
 pub mod cases;
 pub mod check;
@@ -8,5 +9,6 @@ pub mod entries;
 pub mod exhaustive;
 pub mod ffi;
 pub mod gen;
+pub mod guarded;
 pub mod model;
 pub mod rule_sheet;
