@@ -1,5 +1,6 @@
 //! Tests of the page program: a table goes in on standard input, and what comes out is compared
-//! with the text that the model gives. BALDUQEN_PAGES names the program.
+//! with the text that the model gives. BALDUQEN_PAGES names the program, if it is another than the
+//! one that was built here.
 
 use balduqen_tests::cases::*;
 use balduqen_tests::check::{show, Seen};
