@@ -5,6 +5,9 @@
 set -u -o pipefail
 cd "$(dirname "$0")" || exit 2
 
+# The gate tests what this tree builds. By hand, these have the tests use another library or page program.
+unset BALDUQEN_LIB BALDUQEN_PAGES
+
 passed=0
 failed=0
 
