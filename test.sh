@@ -1,6 +1,6 @@
 #!/usr/bin/env bash
-# All tests: proves every crate, tries the must-fail edits, runs the page program, then the tests in Rust and C against the proved library
-# and the page program, and those of the tools.
+# All tests: proves every crate, tries the must-fail edits and looks through their logs, runs the page program, then the tests in Rust
+# and C against the proved library and the page program, those of the tools, and the README's first command. The bench has to build.
 # The last line is 'N passed, M failed', and the exit status is 0 only where M is 0.
 set -u -o pipefail
 cd "$(dirname "$0")" || exit 2
@@ -68,6 +68,12 @@ status=$?
 tail -n 1 "$log" > "$log.last"
 add proofs "$status" "$(sum "$log.last" '^([0-9]+) passed, [0-9]+ failed$')" "$(sum "$log.last" '^[0-9]+ passed, ([0-9]+) failed$')" 60
 
+# Each must-fail edit is refused for a fact that no longer holds.
+tools/must-fail-logs.sh target/must-fail > "$log"
+status=$?
+cat "$log"
+add edits "$status" "$((status == 0))" "$(wc -l < "$log")" 1
+
 rt staticlib embed > "$log" 2>&1
 status=$?
 cat "$log"
@@ -77,6 +83,13 @@ add library "$status" "$([ -s target/staticlib/libembed.a ] && echo 1 || echo 0)
 gcc -std=c11 -Wall -Wextra -Werror -Iinclude examples/case_e.c -o target/case_e target/staticlib/libembed.a &&
   target/case_e | diff - examples/case_e.out
 add_one example "$?"
+
+# The README's first command: what it shows, and the picture.
+./pages.sh tools/samples/e.txt target/e.svg | diff - tools/samples/e.plan && cmp target/e.svg docs/case-e.svg
+add_one readme "$?"
+
+(cd bench && CARGO_TARGET_DIR=../target/bench cargo build --release --offline)
+add_one bench "$?"
 
 in_rust tests tests/entries.rs=8 tests/guarded.rs=14 tests/library.rs=75 tests/model.rs=31 tests/program.rs=13 tests/rule_sheet.rs=27
 in_rust tools src/main.rs=26 tests/commands.rs=4 tests/must_fail_logs.rs=3
