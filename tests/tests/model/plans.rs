@@ -32,6 +32,9 @@ fn judge_of_all_marks() {
         for_each_marks(tree.node_count(), |marks| {
             let answer = judge(table, marks);
             assert_eq!(answer, told(&tree, &prefixes, marks), "{tree:?} {marks:?}");
+            let score = (answer.pages as usize, answer.root);
+            let score = answer.is_accepted().then_some(score);
+            assert_eq!(score_of_plan(&tree, marks), score, "{tree:?} {marks:?}");
             seen.add(answer);
         });
     });
