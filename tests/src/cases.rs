@@ -1,5 +1,6 @@
 //! Cases A to G of document 01 and its examples of refusals.
 
+use crate::ffi;
 use crate::gen::Table;
 use crate::model::{plan_best, plan_level, plan_pair, plan_single, Planner};
 
@@ -20,6 +21,15 @@ impl Kind {
             Kind::Level => plan_level,
             Kind::Single => plan_single,
             Kind::Pair => plan_pair,
+        }
+    }
+
+    pub fn library(self) -> Planner {
+        match self {
+            Kind::Best => ffi::plan_best,
+            Kind::Level => ffi::plan_level,
+            Kind::Single => ffi::plan_single,
+            Kind::Pair => ffi::plan_pair,
         }
     }
 }

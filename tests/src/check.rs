@@ -2,6 +2,7 @@
 
 use crate::model::Answer;
 use std::collections::BTreeMap;
+use std::hint::black_box;
 
 /// Counts the answers by number, so that a test can show that its inputs reach what they should.
 #[derive(Default)]
@@ -32,6 +33,19 @@ pub fn show(bytes: &[u8]) -> String {
         .map(|byte| format!("{byte:02x}"))
         .collect();
     format!("{} bytes: {}", bytes.len(), shown.join(" "))
+}
+
+/// Makes a call with a copy of the input and looks at it afterwards. The black box keeps the
+/// compiler from taking it for granted that the copy is unchanged.
+pub fn with_copy<T>(input: &[u8], call: impl FnOnce(&[u8]) -> T) -> T {
+    let copy = input.to_vec();
+    let result = call(black_box(&copy));
+    assert!(
+        *black_box(&copy) == input,
+        "an input was written: {}",
+        show(input)
+    );
+    result
 }
 
 /// A lent buffer with a margin on both sides that a callee must leave alone.

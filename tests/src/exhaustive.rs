@@ -1,6 +1,8 @@
-//! Exhaustive search over all plans of a small tree, and over all its sequences of sibling runs.
+//! Exhaustive search over all plans of a small tree, and over all sets of sibling runs that hold it.
 //!
-//! Both weigh the pages themselves, so that they do not lean on the judge they are compared with.
+//! Of the model they take the tree as its reader tells it. They decide by themselves which marks are
+//! allowed, which runs hold the tree and what each page weighs, so that they lean on no judge and no
+//! planner that they are compared with. A weight may be 0 or over the limit.
 
 use crate::model::Tree;
 
@@ -10,24 +12,32 @@ pub type Score = (usize, u32);
 /// A run: its first node and its last sibling.
 pub type Run = (usize, usize);
 
-/// Calls `visit` with each vector of marks that is allowed.
+/// Calls `visit` with each list of allowed marks, once.
 pub fn for_each_plan(tree: &Tree, mut visit: impl FnMut(&[u8])) {
-    let mut marks = vec![1];
-    add_mark(tree, &mut marks, &mut visit);
+    add_mark(tree, &mut vec![], &mut visit);
 }
 
 fn add_mark(tree: &Tree, marks: &mut Vec<u8>, visit: &mut impl FnMut(&[u8])) {
-    let node = marks.len() + 1;
-    if node > tree.node_count() {
+    if marks.len() == tree.node_count() {
         return visit(marks);
     }
     for mark in 0..=2 {
-        let follows_run = tree.before[node].is_some_and(|sibling| marks[sibling - 1] != 0);
-        if mark < 2 || follows_run {
+        if is_allowed(tree, marks, mark) {
             marks.push(mark);
             add_mark(tree, marks, visit);
             marks.pop();
         }
+    }
+}
+
+/// Whether the next node may have this mark, after allowed marks of the nodes before it.
+fn is_allowed(tree: &Tree, before: &[u8], mark: u8) -> bool {
+    let node = before.len() + 1;
+    match mark {
+        0 => node != 1,
+        1 => true,
+        2 => tree.before[node].is_some_and(|sibling| before[sibling - 1] != 0),
+        _ => false,
     }
 }
 
@@ -38,12 +48,19 @@ pub fn page_weights(tree: &Tree, marks: &[u8]) -> Vec<u32> {
     for node in tree.nodes() {
         weights[first_of_page(tree, marks, node)] += tree.weights[node];
     }
-    weights.retain(|&weight| weight > 0);
-    weights
+    // A page is there by its first node, whatever it weighs.
+    tree.nodes()
+        .filter(|&node| marks[node - 1] == 1)
+        .map(|node| weights[node])
+        .collect()
 }
 
-/// The score of a plan with allowed marks; none if it is not feasible.
+/// The score of a plan; none if a mark is not allowed or a page is over the limit.
 pub fn score_of_plan(tree: &Tree, marks: &[u8]) -> Option<Score> {
+    let mut nodes = tree.nodes();
+    if !nodes.all(|node| is_allowed(tree, &marks[..node - 1], marks[node - 1])) {
+        return None;
+    }
     let weights = page_weights(tree, marks);
     let feasible = weights.iter().all(|&weight| weight <= tree.limit);
     feasible.then_some((weights.len(), weights[0]))
@@ -61,20 +78,20 @@ fn first_of_page(tree: &Tree, marks: &[u8], node: usize) -> usize {
     }
 }
 
-pub fn best_of_plans(tree: &Tree) -> Score {
+/// The best score of all plans; none if no plan is feasible.
+pub fn best_of_plans(tree: &Tree) -> Option<Score> {
     best_of_plans_where(tree, |_| true)
 }
 
-/// The best score of the plans that the test lets through. The plan with a page for each node must
-/// be one of them.
-pub fn best_of_plans_where(tree: &Tree, test: impl Fn(&[u8]) -> bool) -> Score {
+/// The best score of the plans that the test lets through; none if none of these is feasible.
+pub fn best_of_plans_where(tree: &Tree, test: impl Fn(&[u8]) -> bool) -> Option<Score> {
     let mut best = None;
     for_each_plan(tree, |marks| {
         if test(marks) {
             keep_smaller(&mut best, score_of_plan(tree, marks));
         }
     });
-    best.expect("the plan with a page for each node is feasible")
+    best
 }
 
 fn keep_smaller(best: &mut Option<Score>, score: Option<Score>) {
@@ -154,12 +171,13 @@ pub fn score_of_runs(tree: &Tree, runs: &[Run]) -> Option<Score> {
     feasible.then_some((runs.len(), weights[page_of[1].expect("node 1 is in a run")]))
 }
 
-pub fn best_of_run_sets(tree: &Tree) -> Score {
+/// The best score of all sets of runs; none if no set holds the tree within the limit.
+pub fn best_of_run_sets(tree: &Tree) -> Option<Score> {
     let mut best = None;
     for_each_run_set(tree, |runs| {
         keep_smaller(&mut best, score_of_runs(tree, runs))
     });
-    best.expect("the runs of one node each hold the tree within the limit")
+    best
 }
 
 /// The runs of a plan with allowed marks, in rising order.

@@ -1,11 +1,14 @@
-//! What the outside tests share: a model of document 01 written from the document alone, an
-//! exhaustive search over plans, generators of trees and tables, the document's own cases, helpers
-//! for checks, and the calls into the proved library.
+//! What the outside tests share: a model of document 01 written from the document alone, exhaustive
+//! search over plans and over sets of sibling runs, generators of trees and tables, the document's
+//! own cases, helpers for checks, guarded buffers, the calls into the proved library, and the entries
+//! of both sides.
 
 pub mod cases;
 pub mod check;
+pub mod entries;
 pub mod exhaustive;
 pub mod ffi;
 pub mod gen;
+pub mod guarded;
 pub mod model;
 pub mod rule_sheet;

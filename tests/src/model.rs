@@ -13,7 +13,7 @@ mod tree;
 pub use archive::{archive_bytes, archive_length, read_archive, write_archive};
 pub use plan::{judge, pages, verdict, Page};
 pub use planners::{plan_best, plan_level, plan_pair, plan_single, scratch_length};
-pub use tree::{read, read_tree, word, Tree, MAX_LIMIT, MAX_NODES};
+pub use tree::{read, read_sound, read_tree, word, Tree, MAX_LIMIT, MAX_NODES};
 
 /// A number and a place, and the verdict beside them where a plan is given or made and accepted.
 /// The same four words, in the same order, are what the library gives back.

@@ -1,4 +1,5 @@
-//! Tests of the model itself: against document 01's own cases, and against exhaustive search.
+//! Tests of the model itself: against document 01's own cases and, for small trees, against
+//! exhaustive search over plans and runs and against lists of all shapes and archives.
 
 #[path = "model/archive.rs"]
 mod archive;

@@ -1,13 +1,15 @@
 //! Tests of the page program: a table goes in on standard input, and what comes out is compared
-//! with the text that the model gives. BALDUQEN_PAGES names the program.
+//! with the text that the model gives. BALDUQEN_PAGES names the program, if it is another than the
+//! one that was built here.
 
 use balduqen_tests::cases::*;
 use balduqen_tests::check::{show, Seen};
 use balduqen_tests::gen::*;
 use balduqen_tests::model::{pages, read, scratch_length, word, Answer};
-use std::io::{ErrorKind, Write};
-use std::process::{Command, Stdio};
-use std::time::Duration;
+use std::fs::{self, OpenOptions};
+use std::io::{self, ErrorKind, Read, Seek, Write};
+use std::process::{Child, Command, Stdio};
+use std::time::{Duration, Instant};
 use std::{env, thread};
 
 /// The planner whose plan the program writes.
@@ -19,15 +21,27 @@ const MOST_INPUT: usize = 8197;
 /// The scratch words that it lends.
 const SCRATCH: usize = 10240;
 
-/// Runs the program on an input that comes in pieces.
-fn run_on_pieces(pieces: &[&[u8]]) -> String {
+fn start(input: impl Into<Stdio>) -> Child {
     let program = env::var("BALDUQEN_PAGES").unwrap_or("../target/bin/pages".to_string());
-    let mut child = Command::new(&program)
-        .stdin(Stdio::piped())
+    Command::new(&program)
+        .stdin(input)
         .stdout(Stdio::piped())
         .stderr(Stdio::piped())
         .spawn()
-        .unwrap_or_else(|error| panic!("{program}: {error}"));
+        .unwrap_or_else(|error| panic!("{program}: {error}"))
+}
+
+/// What the program writes, once it ends.
+fn text_of(child: Child) -> String {
+    let output = child.wait_with_output().expect("the program ends");
+    assert!(output.status.success(), "{:?}", output.status);
+    assert!(output.stderr.is_empty(), "{}", show(&output.stderr));
+    String::from_utf8(output.stdout).expect("text")
+}
+
+/// Runs the program on an input that comes in pieces.
+fn run_on_pieces(pieces: &[&[u8]]) -> String {
+    let mut child = start(Stdio::piped());
     let mut input = child.stdin.take().expect("a pipe");
     for (index, piece) in pieces.iter().enumerate() {
         if index > 0 {
@@ -40,17 +54,14 @@ fn run_on_pieces(pieces: &[&[u8]]) -> String {
         }
     }
     drop(input);
-    let output = child.wait_with_output().expect("the program ends");
-    assert!(output.status.success(), "{:?}", output.status);
-    assert!(output.stderr.is_empty(), "{}", show(&output.stderr));
-    String::from_utf8(output.stdout).expect("text")
+    text_of(child)
 }
 
 fn run(input: &[u8]) -> String {
     run_on_pieces(&[input])
 }
 
-/// The model's answer to an input, and its text.
+/// The model's answer to what is read of an input, and its text.
 fn expected(input: &[u8]) -> (Answer, String) {
     let table = &input[..input.len().min(MOST_INPUT)];
     let count = if table.len() < 2 { 0 } else { word(table, 0) };
@@ -126,7 +137,7 @@ fn no_input_and_short_input() {
     }
 }
 
-/// The program reads one byte more than the longest table has, and no more.
+/// What is longer than the longest table is refused for its length, if for nothing before that.
 #[test]
 fn long_input() {
     let random = &mut Random::new(901);
@@ -141,6 +152,78 @@ fn long_input() {
         assert_eq!(run(&small), "refused 4 at 52\n");
         assert_eq!(run(&vec![0; length]), "refused 2 at 0\n");
         assert_eq!(run(&vec![255; length]), "refused 2 at 65535\n");
+    }
+}
+
+/// Inputs of this length that begin differently, and what the model says of each.
+fn inputs_of(length: usize) -> Vec<(Vec<u8>, String)> {
+    let random = &mut Random::new(906);
+    let largest = random_table(random, Form::Mixed, 1024, 1).bytes();
+    [largest, case_e().bytes(), vec![0, 6, 255, 255], vec![]]
+        .map(|mut input| {
+            input.resize(length, 1);
+            let text = expected(&input).1;
+            (input, text)
+        })
+        .to_vec()
+}
+
+/// Of a file the program reads all, but no more than 8,197 bytes. The test and the program share
+/// one place in the file, so afterwards it is where the program stopped.
+#[test]
+fn what_is_read_of_a_file() {
+    let path = concat!(env!("CARGO_TARGET_TMPDIR"), "/what_is_read_of_a_file");
+    for length in [0, 3, 52, 8195, 8196, 8197, 8198, 100_000] {
+        for (input, text) in inputs_of(length) {
+            let mut options = OpenOptions::new();
+            options.read(true).write(true).create(true).truncate(true);
+            let mut file = options.open(path).expect("a new file");
+            fs::remove_file(path).expect("the file is there");
+            file.write_all(&input).expect("the file is written");
+            file.rewind().expect("a file");
+            let child = start(file.try_clone().expect("the same place in the file"));
+            assert_eq!(text_of(child), text);
+            let place = file.stream_position().expect("a place in a file");
+            assert_eq!(place, length.min(MOST_INPUT) as u64);
+        }
+    }
+}
+
+/// So it is of a pipe: what lies beyond is left in it.
+#[test]
+fn what_is_read_of_a_pipe() {
+    // A pipe takes 65,536 bytes before they are read.
+    for length in [8196, 8197, 8198, 20_000, 60_000] {
+        for (input, text) in inputs_of(length) {
+            let (mut output_end, mut input_end) = io::pipe().expect("a pipe");
+            input_end.write_all(&input).expect("the pipe has room");
+            drop(input_end);
+            let child = start(output_end.try_clone().expect("the same pipe"));
+            assert_eq!(text_of(child), text);
+            let mut left = vec![];
+            output_end.read_to_end(&mut left).expect("the rest");
+            assert!(left == input[length.min(MOST_INPUT)..], "{}", show(&left));
+        }
+    }
+}
+
+/// Nor does it wait for more, where the pipe stays open.
+#[test]
+fn no_wait_for_more() {
+    for (input, text) in inputs_of(MOST_INPUT) {
+        let mut child = start(Stdio::piped());
+        let mut open = child.stdin.take().expect("a pipe");
+        open.write_all(&input).expect("the input is written");
+        let began = Instant::now();
+        while child.try_wait().expect("a process").is_none() {
+            if began.elapsed() > Duration::from_secs(20) {
+                child.kill().expect("a process");
+                panic!("it waits for more than {MOST_INPUT} bytes");
+            }
+            thread::sleep(Duration::from_millis(1));
+        }
+        assert_eq!(text_of(child), text);
+        drop(open);
     }
 }
 

@@ -5,7 +5,7 @@ use super::Answer;
 pub const MAX_NODES: usize = 1024;
 pub const MAX_LIMIT: usize = 1024;
 
-/// An accepted tree. The lists are indexed by node number; index 0 is not a node.
+/// A tree of sound form. The lists are indexed by node number; index 0 is not a node.
 #[derive(Clone, Debug, PartialEq, Eq)]
 pub struct Tree {
     pub limit: u32,
@@ -42,8 +42,19 @@ struct Record {
     next_sibling: usize,
 }
 
-/// The tree that a table tells, or the refusal.
+/// The tree of an accepted table, or the refusal.
 pub fn read(table: &[u8]) -> Result<Tree, Answer> {
+    let tree = read_sound(table)?;
+    let heavy = tree.nodes().find(|&node| tree.weights[node] > tree.limit);
+    match heavy {
+        Some(node) => Err(Answer::refused(7, node)),
+        None => Ok(tree),
+    }
+}
+
+/// The tree of a table of sound form, also where a node outweighs the limit, or the refusal: those
+/// that are checked before 7.
+pub fn read_sound(table: &[u8]) -> Result<Tree, Answer> {
     if table.len() < 4 {
         return Err(Answer::refused(1, 0));
     }
@@ -72,9 +83,6 @@ pub fn read(table: &[u8]) -> Result<Tree, Answer> {
     }
     if let Err(place) = walk(&records) {
         return Err(Answer::refused(6, place));
-    }
-    if let Some(index) = records.iter().position(|record| record.weight > limit) {
-        return Err(Answer::refused(7, index + 1));
     }
     Ok(build(limit, &records))
 }

@@ -1,8 +1,7 @@
 //! The judge of the library.
 
-use super::with_copy;
 use balduqen_tests::cases::*;
-use balduqen_tests::check::{show, Seen};
+use balduqen_tests::check::{show, with_copy, Seen};
 use balduqen_tests::ffi;
 use balduqen_tests::gen::*;
 use balduqen_tests::model::{self, read, verdict, word, Answer};
@@ -138,7 +137,7 @@ fn damaged_tables() {
     seen.expect(&[0, 1, 2, 3, 4, 5, 6, 7, 8, 10], 50);
 }
 
-/// A page of each number can be the first heavy one.
+/// Pages of many numbers come as the first heavy one.
 #[test]
 fn heavy_pages() {
     let random = &mut Random::new(704);

@@ -1,64 +1,48 @@
 //! The planners of the library.
 
-use super::with_copy;
 use balduqen_tests::cases::*;
-use balduqen_tests::check::{show, Lent, Seen};
+use balduqen_tests::check::{show, with_copy, Lent, Seen};
 use balduqen_tests::ffi;
 use balduqen_tests::gen::*;
-use balduqen_tests::model::{scratch_length, word, Answer, Planner};
+use balduqen_tests::model::{scratch_length, word, Answer};
 
-/// A planner of the library and which one it is.
-#[derive(Clone, Copy)]
-struct Tested {
-    kind: Kind,
-    library: Planner,
+/// The library's answer and marks; both, and the scratch left behind, checked against the model's.
+/// The buffers hold these on entry.
+fn plan(kind: Kind, table: &[u8], marks: &[u8], scratch: &[u32]) -> (Answer, Vec<u8>) {
+    let mut model_marks = marks.to_vec();
+    let mut model_scratch = scratch.to_vec();
+    let model_answer = kind.model()(table, &mut model_marks, &mut model_scratch);
+
+    let mut lent_marks = Lent::new(marks, 0xa5);
+    let mut lent_scratch = Lent::new(scratch, 0xa5a5_a5a5);
+    let answer = with_copy(table, |table| {
+        kind.library()(table, lent_marks.slice(), lent_scratch.slice())
+    });
+    assert_eq!(answer, model_answer, "{kind:?}: {}", show(table));
+    let marks = lent_marks.content();
+    assert_eq!(marks, model_marks, "{kind:?} {answer:?}: {}", show(table));
+    let same_scratch = lent_scratch.content() == model_scratch;
+    assert!(
+        same_scratch,
+        "scratch after {kind:?} {answer:?}: {}",
+        show(table)
+    );
+    (answer, marks.to_vec())
 }
 
-impl Tested {
-    /// The library's answer and marks; both, and the scratch left behind, checked against the
-    /// model's. The buffers hold these on entry.
-    fn plan(self, table: &[u8], marks: &[u8], scratch: &[u32]) -> (Answer, Vec<u8>) {
-        let mut model_marks = marks.to_vec();
-        let mut model_scratch = scratch.to_vec();
-        let model_answer = self.kind.model()(table, &mut model_marks, &mut model_scratch);
-
-        let mut lent_marks = Lent::new(marks, 0xa5);
-        let mut lent_scratch = Lent::new(scratch, 0xa5a5_a5a5);
-        let answer = with_copy(table, |table| {
-            (self.library)(table, lent_marks.slice(), lent_scratch.slice())
-        });
-        assert_eq!(answer, model_answer, "{:?}: {}", self.kind, show(table));
-        let marks = lent_marks.content();
-        assert_eq!(
-            marks,
-            model_marks,
-            "{:?} {answer:?}: {}",
-            self.kind,
-            show(table)
-        );
-        let same_scratch = lent_scratch.content() == model_scratch;
-        assert!(
-            same_scratch,
-            "scratch after {:?} {answer:?}: {}",
-            self.kind,
-            show(table)
-        );
-        (answer, marks.to_vec())
-    }
-
-    /// A call with good buffers, if the table is good. What they hold on entry is free.
-    fn plan_with_good_buffers(self, random: &mut Random, table: &[u8]) -> (Answer, Vec<u8>) {
-        let (count, limit) = (word(table, 0), word(table, 1));
-        let marks = random.bytes(count);
-        let filling = random.number() as u32;
-        self.plan(table, &marks, &vec![filling; scratch_length(count, limit)])
-    }
+/// A call with good buffers, if the table is good. What they hold on entry is free.
+fn plan_with_good_buffers(kind: Kind, random: &mut Random, table: &[u8]) -> (Answer, Vec<u8>) {
+    let (count, limit) = (word(table, 0), word(table, 1));
+    let marks = random.bytes(count);
+    let filling = random.number() as u32;
+    let scratch = vec![filling; scratch_length(count, limit)];
+    plan(kind, table, &marks, &scratch)
 }
 
-fn cases(tested: Tested) {
+fn cases(kind: Kind) {
     let random = &mut Random::new(801);
-    for made in made().into_iter().filter(|made| made.kind == tested.kind) {
-        let answer = tested.plan_with_good_buffers(random, &made.table.bytes());
+    for made in made().into_iter().filter(|made| made.kind == kind) {
+        let answer = plan_with_good_buffers(kind, random, &made.table.bytes());
         assert_eq!(
             answer,
             (Answer::accepted(made.pages, made.root), made.marks),
@@ -68,18 +52,18 @@ fn cases(tested: Tested) {
     }
     for (table, number, place) in refused_tables() {
         let refusal = Answer::refused(number, place);
-        assert_eq!(tested.plan(&table, &[7; 6], &[7; 192]).0, refusal);
-        assert_eq!(tested.plan(&table, &[], &[]).0, refusal);
-        assert_eq!((tested.library)(&table, &mut [], &mut []), refusal);
+        assert_eq!(plan(kind, &table, &[7; 6], &[7; 192]).0, refusal);
+        assert_eq!(plan(kind, &table, &[], &[]).0, refusal);
+        assert_eq!(kind.library()(&table, &mut [], &mut []), refusal);
     }
 }
 
 /// Case E with a fault for any selection of the numbers 1 to 9.
-fn order_of_the_checks(tested: Tested) {
+fn order_of_the_checks(kind: Kind) {
     for (table, number, place) in faulty_tables() {
         for marks in 5..=7 {
             for scratch in [0, 191, 192, 193] {
-                let answer = tested.plan(&table, &vec![7; marks], &vec![7; scratch]).0;
+                let answer = plan(kind, &table, &vec![7; marks], &vec![7; scratch]).0;
                 let expected = match (number, marks, scratch) {
                     (0, 6, 0 | 191) => Answer::refused(9, 192),
                     (0, 6, _) => Answer {
@@ -96,48 +80,42 @@ fn order_of_the_checks(tested: Tested) {
     }
 }
 
-fn all_small_trees(tested: Tested) {
+fn all_small_trees(kind: Kind) {
     let random = &mut Random::new(802);
     let mut seen = Seen::default();
     for_each_table(1..=6, &[1, 2, 3, 4], &[1, 2, 3, 4], |table| {
-        seen.add(tested.plan_with_good_buffers(random, table).0);
+        seen.add(plan_with_good_buffers(kind, random, table).0);
     });
     seen.expect(&[0, 7], 1000);
 }
 
-fn random_trees(tested: Tested) {
+fn random_trees(kind: Kind) {
     let random = &mut Random::new(803);
     let mut seen = Seen::default();
     for _ in 0..12000 {
         let limit = random.pick(&[6, 12, 30]);
         let table = any_table(random, 40, limit).bytes();
-        seen.add(tested.plan_with_good_buffers(random, &table).0);
+        seen.add(plan_with_good_buffers(kind, random, &table).0);
     }
     seen.expect(&[0], 12000);
 }
 
 /// Larger trees of the form that most needs second plans.
-fn comb_trees(tested: Tested) {
+fn comb_trees(kind: Kind) {
     let random = &mut Random::new(804);
     for _ in 0..2000 {
         let (count, limit) = (random.between(30, 200), random.between(4, 30));
         let table = random_table(random, Form::Comb, count, limit).bytes();
-        assert!(tested
-            .plan_with_good_buffers(random, &table)
-            .0
-            .is_accepted());
+        assert!(plan_with_good_buffers(kind, random, &table).0.is_accepted());
     }
 }
 
-fn largest_trees(tested: Tested) {
+fn largest_trees(kind: Kind) {
     let random = &mut Random::new(805);
     for form in FORMS {
         for limit in [1, 9, 150, 1024] {
             let table = random_table(random, form, 1024, limit).bytes();
-            assert!(tested
-                .plan_with_good_buffers(random, &table)
-                .0
-                .is_accepted());
+            assert!(plan_with_good_buffers(kind, random, &table).0.is_accepted());
         }
     }
     // One page that is full, and one node too many for it.
@@ -145,14 +123,14 @@ fn largest_trees(tested: Tested) {
         for form in [Form::Deep, Form::Mixed] {
             let parents = random_parents(random, form, count);
             let table = Table::new(1023, &parents, &vec![1; count]).bytes();
-            let answer = tested.plan_with_good_buffers(random, &table).0;
+            let answer = plan_with_good_buffers(kind, random, &table).0;
             assert_eq!(answer.pages == 1, count == 1023);
         }
     }
 }
 
 /// Good trees with buffers that are too short, too long or just right.
-fn lengths_of_buffers(tested: Tested) {
+fn lengths_of_buffers(kind: Kind) {
     let random = &mut Random::new(806);
     let mut seen = Seen::default();
     for _ in 0..10000 {
@@ -162,12 +140,12 @@ fn lengths_of_buffers(tested: Tested) {
         let marks = random.pick(&[count, count, count, count - 1, count + 1, 0, 3 * count]);
         let scratch = random.pick(&[asked, asked + 1, asked + 9, asked - 1, asked / 4, 0]);
         let marks = random.bytes(marks);
-        seen.add(tested.plan(&table, &marks, &vec![0xdead_beef; scratch]).0);
+        seen.add(plan(kind, &table, &marks, &vec![0xdead_beef; scratch]).0);
     }
     seen.expect(&[0, 8, 9], 500);
 }
 
-fn damaged_tables(tested: Tested) {
+fn damaged_tables(kind: Kind) {
     let random = &mut Random::new(807);
     let mut seen = Seen::default();
     for _ in 0..20000 {
@@ -177,66 +155,64 @@ fn damaged_tables(tested: Tested) {
         // Often enough for the table before the damage.
         let scratch = random.pick(&[0, 720, 800]);
         let marks = random.bytes(count);
-        seen.add(tested.plan(&damaged, &marks, &vec![0xdead_beef; scratch]).0);
+        seen.add(plan(kind, &damaged, &marks, &vec![0xdead_beef; scratch]).0);
     }
     seen.expect(&[0, 1, 2, 3, 4, 5, 6, 7, 8, 9], 50);
 }
 
 macro_rules! planner_tests {
-    ($name:ident, $kind:expr, $library:expr, $($test:ident)*) => {
+    ($name:ident, $kind:expr, $($test:ident)*) => {
         mod $name {
             use super::*;
-
-            pub const TESTED: Tested = Tested { kind: $kind, library: $library };
 
             $(
                 #[test]
                 fn $test() {
-                    super::$test(TESTED);
+                    super::$test($kind);
                 }
             )*
         }
     };
-    ($name:ident, $kind:expr, $library:expr) => {
+    ($name:ident, $kind:expr) => {
         planner_tests!(
-            $name, $kind, $library,
+            $name, $kind,
             cases order_of_the_checks all_small_trees random_trees comb_trees largest_trees
             lengths_of_buffers damaged_tables
         );
     };
 }
 
-planner_tests!(single, Kind::Single, ffi::plan_single);
-planner_tests!(pair, Kind::Pair, ffi::plan_pair);
-planner_tests!(level, Kind::Level, ffi::plan_level);
-planner_tests!(best, Kind::Best, ffi::plan_best);
+planner_tests!(single, Kind::Single);
+planner_tests!(pair, Kind::Pair);
+planner_tests!(level, Kind::Level);
+planner_tests!(best, Kind::Best);
 
-/// The best planner against exhaustive search, without the model's planner.
+/// The best planner against exhaustive search. The model reads the tree; its judge and its planners
+/// are not asked.
 mod search {
     use super::*;
-    use balduqen_tests::exhaustive::{best_of_plans, best_of_run_sets, score_of_plan};
-    use balduqen_tests::model::read;
+    use balduqen_tests::exhaustive::{best_of_plans, best_of_run_sets, score_of_plan, Score};
+    use balduqen_tests::model::{read, Tree};
 
-    /// Checks one tree and gives the library's score.
-    fn check(random: &mut Random, table: &[u8]) -> (usize, u32) {
+    /// Checks one tree against its best score.
+    fn check(random: &mut Random, table: &[u8], best: fn(&Tree) -> Option<Score>) {
         let tree = read(table).expect("an accepted table");
-        let (answer, marks) = best::TESTED.plan_with_good_buffers(random, table);
-        let score = best_of_plans(&tree);
-        assert_eq!(
-            (answer.pages as usize, answer.root),
-            score,
-            "{}",
-            show(table)
-        );
-        assert_eq!(score_of_plan(&tree, &marks), Some(score), "{}", show(table));
-        score
+        let (pages, root) = best(&tree).expect("an accepted tree is held within its limit");
+        let count = tree.node_count();
+        let mut marks = random.bytes(count);
+        let filling = random.number() as u32;
+        let mut scratch = vec![filling; scratch_length(count, tree.limit as usize)];
+        let answer = ffi::plan_best(table, &mut marks, &mut scratch);
+        assert_eq!(answer, Answer::accepted(pages, root), "{}", show(table));
+        let made = score_of_plan(&tree, &marks);
+        assert_eq!(made, Some((pages, root)), "{marks:?}: {}", show(table));
     }
 
     #[test]
     fn best_of_all_small_trees() {
         let random = &mut Random::new(808);
         for_each_table(1..=5, &[1, 2, 3], &[3, 4, 5, 6], |table| {
-            check(random, table);
+            check(random, table, best_of_plans);
         });
     }
 
@@ -246,22 +222,19 @@ mod search {
         for _ in 0..20000 {
             let limit = random.pick(&[5, 8, 20]);
             let table = any_table(random, 8, limit).bytes();
-            check(random, &table);
+            check(random, &table, best_of_plans);
         }
     }
 
     #[test]
-    fn best_of_run_sequences() {
+    fn best_of_all_run_sets() {
         let random = &mut Random::new(810);
+        for_each_table(1..=5, &[1, 2, 3], &[3, 5], |table| {
+            check(random, table, best_of_run_sets);
+        });
         for _ in 0..2000 {
             let table = any_table(random, 7, 10).bytes();
-            let tree = read(&table).expect("an accepted table");
-            assert_eq!(
-                check(random, &table),
-                best_of_run_sets(&tree),
-                "{}",
-                show(&table)
-            );
+            check(random, &table, best_of_run_sets);
         }
     }
 }

@@ -1,8 +1,7 @@
 //! The archive reader of the library.
 
-use super::with_copy;
 use balduqen_tests::cases::*;
-use balduqen_tests::check::{show, Lent, Seen};
+use balduqen_tests::check::{show, with_copy, Lent, Seen};
 use balduqen_tests::exhaustive::for_each_plan;
 use balduqen_tests::ffi;
 use balduqen_tests::gen::*;

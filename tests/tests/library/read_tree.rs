@@ -1,8 +1,7 @@
 //! The tree reader of the library.
 
-use super::with_copy;
 use balduqen_tests::cases::*;
-use balduqen_tests::check::{show, Seen};
+use balduqen_tests::check::{show, with_copy, Seen};
 use balduqen_tests::ffi;
 use balduqen_tests::gen::*;
 use balduqen_tests::model::{self, Answer};

@@ -66,8 +66,8 @@ fn round_trips_of_the_largest() {
     }
 }
 
-/// Most of what small trees and plans can write: up to three nodes, node numbers as labels,
-/// weights of 1 and 2, limits up to 5.
+/// All that accepted trees and feasible plans write with up to three nodes, node numbers as labels,
+/// weights of 1 and 2, and limits up to 5.
 fn all_archives() -> BTreeSet<Vec<u8>> {
     let mut all = BTreeSet::new();
     for count in 1..=3 {
@@ -89,7 +89,7 @@ fn all_archives() -> BTreeSet<Vec<u8>> {
     all
 }
 
-/// True if the words that `all_archives` leaves out are not in this archive.
+/// True if `all_archives` has this archive wherever any tree and plan write it.
 fn is_small(archive: &[u8]) -> bool {
     let (count, limit, pages) = (word(archive, 0), word(archive, 1), word(archive, 2));
     count <= 3
@@ -101,17 +101,17 @@ fn is_small(archive: &[u8]) -> bool {
         })
 }
 
-/// One or two words of each small archive are set anew: the reader accepts the result exactly if it
-/// is the archive of another small tree and plan.
+/// One or two words of each small archive are set anew. Where the result is small too, the reader
+/// accepts it exactly if it is in the list of all of them.
 #[test]
 fn changed_small_archives() {
     let all = all_archives();
     let mut accepted = 0;
-    let mut try_one = |archive: &[u8]| {
-        if is_small(archive) {
-            let is_written = all.contains(archive);
-            assert_eq!(read_back(archive).is_some(), is_written, "{archive:?}");
-            accepted += usize::from(is_written);
+    let mut try_one = |archive: &[u8], changed: &[u8]| {
+        if is_small(changed) {
+            let is_written = all.contains(changed);
+            assert_eq!(read_back(changed).is_some(), is_written, "{changed:?}");
+            accepted += usize::from(is_written && changed != archive);
         }
     };
     let random = &mut Random::new(503);
@@ -121,16 +121,14 @@ fn changed_small_archives() {
             for value in 0..=6 {
                 let mut changed = archive.clone();
                 changed[2 * place + 1] = value;
-                try_one(&changed);
+                try_one(archive, &changed);
                 let second = random.between(0, words - 1);
                 changed[2 * second + 1] = random.between(0, 6) as u8;
-                try_one(&changed);
+                try_one(archive, &changed);
             }
         }
     }
-    // Each archive comes once for each of its words, unchanged; the others are the point.
-    let unchanged: usize = all.iter().map(|archive| archive.len() / 2).sum();
-    assert!(accepted > unchanged + 1000, "{accepted}");
+    assert!(accepted > 900, "{accepted}");
 }
 
 /// Every single byte of case E's archive, every value: what is accepted is written again the same,

@@ -1,4 +1,4 @@
-//! The planners against exhaustive search.
+//! The planners against exhaustive search and, on larger trees, against each other.
 
 use super::plan;
 use balduqen_tests::cases::{Kind, KINDS};
@@ -22,7 +22,11 @@ fn score(kind: Kind, table: &[u8]) -> Score {
 
 fn best_is_best(table: &[u8]) {
     let tree = read(table).expect("an accepted table");
-    assert_eq!(score(Kind::Best, table), best_of_plans(&tree), "{tree:?}");
+    assert_eq!(
+        Some(score(Kind::Best, table)),
+        best_of_plans(&tree),
+        "{tree:?}"
+    );
 }
 
 #[test]
@@ -62,7 +66,7 @@ fn single_among_plans_of_single_nodes() {
         let table = any_table(random, 8, 12).bytes();
         let tree = read(&table).expect("an accepted table");
         let best = best_of_plans_where(&tree, |marks| !marks.contains(&2));
-        assert_eq!(score(Kind::Single, &table), best, "{tree:?}");
+        assert_eq!(Some(score(Kind::Single, &table)), best, "{tree:?}");
     }
 }
 
@@ -80,7 +84,7 @@ fn pair_among_plans_of_the_two_way_tree() {
             })
         };
         let best = best_of_plans_where(&tree, is_two_way);
-        assert_eq!(score(Kind::Pair, &table), best, "{tree:?}");
+        assert_eq!(Some(score(Kind::Pair, &table)), best, "{tree:?}");
     }
 }
 
@@ -99,9 +103,9 @@ fn level_at_each_node() {
             let small = one_level(&tree, node, &rests);
             let mut own = vec![1];
             own.extend(children.iter().map(|&child| marks[child - 1]));
-            let chosen = score_of_plan(&small, &own).expect("a feasible plan");
+            let chosen = score_of_plan(&small, &own);
             assert_eq!(chosen, best_of_plans(&small), "{tree:?} {marks:?} {node}");
-            rests[node] = chosen.1;
+            rests[node] = chosen.expect("a feasible plan").1;
         }
     }
 }

@@ -1,4 +1,4 @@
-//! The judge, and the sequences of sibling runs.
+//! The judge, and the sets of sibling runs.
 
 use balduqen_tests::check::Seen;
 use balduqen_tests::exhaustive::*;
@@ -32,6 +32,9 @@ fn judge_of_all_marks() {
         for_each_marks(tree.node_count(), |marks| {
             let answer = judge(table, marks);
             assert_eq!(answer, told(&tree, &prefixes, marks), "{tree:?} {marks:?}");
+            let score = (answer.pages as usize, answer.root);
+            let score = answer.is_accepted().then_some(score);
+            assert_eq!(score_of_plan(&tree, marks), score, "{tree:?} {marks:?}");
             seen.add(answer);
         });
     });
@@ -50,36 +53,54 @@ fn judge_of_marks_of_another_length() {
     }
 }
 
-/// Each set of runs that holds the tree is the runs of one plan, and each plan's runs are one.
+/// Each set of runs that holds the tree is the runs of one plan with the same score, and each plan's
+/// runs are one.
+fn run_sets_are_plans_of(tree: &Tree) {
+    let mut sets = BTreeMap::new();
+    for_each_run_set(tree, |runs| {
+        let mut sorted = runs.to_vec();
+        sorted.sort();
+        assert_eq!(sets.insert(sorted, score_of_runs(tree, runs)), None);
+    });
+    let mut plans = BTreeMap::new();
+    for_each_plan(tree, |marks| {
+        let runs = runs_of_plan(tree, marks);
+        assert_eq!(plans.insert(runs, score_of_plan(tree, marks)), None);
+    });
+    assert_eq!(sets, plans);
+}
+
+/// Of every shape with up to six nodes: with weights that rise from 1, with pages that weigh
+/// nothing, and with nodes that outweigh the limit.
 #[test]
 fn run_sets_are_the_plans() {
     for count in 1..=6 {
         for parents in all_parents(count) {
-            let weights: Vec<u16> = (1..=count as u16).collect();
-            let table = Table::new(12, &parents, &weights).bytes();
-            let tree = read(&table).expect("an accepted table");
-            let mut sets = BTreeMap::new();
-            for_each_run_set(&tree, |runs| {
-                let mut sorted = runs.to_vec();
-                sorted.sort();
-                assert_eq!(sets.insert(sorted, score_of_runs(&tree, runs)), None);
-            });
-            let mut plans = BTreeMap::new();
-            for_each_plan(&tree, |marks| {
-                let runs = runs_of_plan(&tree, marks);
-                assert_eq!(plans.insert(runs, score_of_plan(&tree, marks)), None);
-            });
-            assert_eq!(sets, plans);
+            let table = Table::new(12, &parents, &vec![1; count]).bytes();
+            let mut tree = read(&table).expect("an accepted table");
+            for (first, step) in [(1, 1), (0, 0), (0, 1), (10, 1)] {
+                for node in tree.nodes() {
+                    tree.weights[node] = first + step * (node as u32 - 1);
+                }
+                run_sets_are_plans_of(&tree);
+            }
         }
     }
 }
 
+/// Also where a page weighs nothing, and where a node outweighs the limit and there is no best.
 #[test]
 fn best_of_run_sets_is_best_of_plans() {
     let random = &mut Random::new(302);
+    let mut unheld = 0;
     for _ in 0..4000 {
         let table = any_table(random, 7, 12);
-        let tree = read(&table.bytes()).expect("an accepted table");
-        assert_eq!(best_of_run_sets(&tree), best_of_plans(&tree), "{tree:?}");
+        let mut tree = read(&table.bytes()).expect("an accepted table");
+        let node = random.between(1, tree.node_count());
+        tree.weights[node] = random.pick(&[tree.weights[node], 0, tree.limit + 1]);
+        let best = best_of_run_sets(&tree);
+        assert_eq!(best, best_of_plans(&tree), "{tree:?}");
+        unheld += usize::from(best.is_none());
     }
+    assert!((1000..2000).contains(&unheld), "{unheld}");
 }

@@ -1,0 +1,431 @@
+//! The library on buffers that stand against memory that cannot be touched, each call against the
+//! model. What is lent to be read stands in memory that cannot be written. A touch outside what was
+//! lent ends the process, which counts as a failure.
+
+use balduqen_tests::cases::*;
+use balduqen_tests::check::{show, Seen};
+use balduqen_tests::ffi;
+use balduqen_tests::gen::*;
+use balduqen_tests::guarded::{Guarded, Side, SIDES};
+use balduqen_tests::model::{
+    self, archive_bytes, archive_length, read, scratch_length, Answer, MAX_NODES,
+};
+use std::env;
+use std::os::unix::process::ExitStatusExt;
+use std::process::{Command, Stdio};
+
+fn read_tree(table: &[u8]) -> Answer {
+    let expected = model::read_tree(table);
+    for side in SIDES {
+        let table = Guarded::read_only(table, side);
+        let answer = ffi::read_tree(table.content());
+        assert_eq!(answer, expected, "{}", show(table.content()));
+    }
+    expected
+}
+
+fn judge(table: &[u8], marks: &[u8]) -> Answer {
+    let expected = model::judge(table, marks);
+    for side in SIDES {
+        let table = Guarded::read_only(table, side);
+        let marks = Guarded::read_only(marks, side);
+        let answer = ffi::judge(table.content(), marks.content());
+        assert_eq!(answer, expected, "{}", show(table.content()));
+    }
+    expected
+}
+
+/// The buffers hold these on entry, here and below.
+fn plan(kind: Kind, table: &[u8], marks: &[u8], scratch: &[u32]) -> Answer {
+    let (mut model_marks, mut model_scratch) = (marks.to_vec(), scratch.to_vec());
+    let expected = kind.model()(table, &mut model_marks, &mut model_scratch);
+    for side in SIDES {
+        let table = Guarded::read_only(table, side);
+        let mut marks = Guarded::new(marks, side);
+        let mut scratch = Guarded::new(scratch, side);
+        let answer = kind.library()(table.content(), marks.slice(), scratch.slice());
+        assert_eq!(answer, expected, "{kind:?}: {}", show(table.content()));
+        assert!(marks.content() == model_marks && scratch.content() == model_scratch);
+    }
+    expected
+}
+
+fn plan_of_each_kind(table: &[u8], marks: &[u8], scratch: &[u32]) {
+    for kind in KINDS {
+        plan(kind, table, marks, scratch);
+    }
+}
+
+fn write_archive(table: &[u8], marks: &[u8], archive: &[u8]) -> Answer {
+    let mut model_archive = archive.to_vec();
+    let expected = model::write_archive(table, marks, &mut model_archive);
+    for side in SIDES {
+        let table = Guarded::read_only(table, side);
+        let marks = Guarded::read_only(marks, side);
+        let mut archive = Guarded::new(archive, side);
+        let answer = ffi::write_archive(table.content(), marks.content(), archive.slice());
+        assert_eq!(answer, expected, "{}", show(table.content()));
+        assert!(archive.content() == model_archive);
+    }
+    expected
+}
+
+fn read_archive(archive: &[u8], table: &[u8], marks: &[u8]) -> Answer {
+    let (mut model_table, mut model_marks) = (table.to_vec(), marks.to_vec());
+    let expected = model::read_archive(archive, &mut model_table, &mut model_marks);
+    for side in SIDES {
+        let archive = Guarded::read_only(archive, side);
+        let mut table = Guarded::new(table, side);
+        let mut marks = Guarded::new(marks, side);
+        let answer = ffi::read_archive(archive.content(), table.slice(), marks.slice());
+        assert_eq!(answer, expected, "{}", show(archive.content()));
+        assert!(table.content() == model_table && marks.content() == model_marks);
+    }
+    expected
+}
+
+/// Hands a table to every entry that takes one, with this plan and with buffers that are right for so
+/// many nodes and that limit. Gives the tree reader's answer.
+fn hand_to_all(table: &[u8], marks: &[u8], limit: usize) -> Answer {
+    let verdict = judge(table, marks);
+    plan_of_each_kind(table, marks, &vec![7; scratch_length(marks.len(), limit)]);
+    let length = archive_length(verdict.pages as usize, marks.len());
+    write_archive(table, marks, &vec![7; length]);
+    read_tree(table)
+}
+
+/// The lengths that a lent buffer is tried with where another is asked for.
+fn other_lengths(asked: usize) -> [usize; 3] {
+    [0, asked - 1, asked + 1]
+}
+
+/// The same, and also with each buffer in turn of another length.
+fn hand_in_all_lengths(table: &[u8], marks: &[u8], limit: usize) -> Answer {
+    let scratch = vec![7; scratch_length(marks.len(), limit)];
+    for length in other_lengths(marks.len()) {
+        let mut marks = marks.to_vec();
+        marks.resize(length, 1);
+        judge(table, &marks);
+        plan_of_each_kind(table, &marks, &scratch);
+        write_archive(table, &marks, &vec![7; archive_length(length, length)]);
+    }
+    for length in other_lengths(scratch.len()) {
+        plan_of_each_kind(table, marks, &vec![7; length]);
+    }
+    let pages = model::judge(table, marks).pages as usize;
+    for length in other_lengths(archive_length(pages, marks.len())) {
+        write_archive(table, marks, &vec![7; length]);
+    }
+    hand_to_all(table, marks, limit)
+}
+
+/// Hands an archive to its reader, with buffers that are right for so many nodes.
+fn hand_to_reader(archive: &[u8], count: usize) -> Answer {
+    read_archive(archive, &vec![7; 4 + 8 * count], &vec![7; count])
+}
+
+/// The same, and also with each buffer in turn of another length.
+fn hand_to_reader_in_all_lengths(archive: &[u8], count: usize) -> Answer {
+    for length in other_lengths(4 + 8 * count) {
+        read_archive(archive, &vec![7; length], &vec![7; count]);
+    }
+    for length in other_lengths(count) {
+        read_archive(archive, &vec![7; 4 + 8 * count], &vec![7; length]);
+    }
+    hand_to_reader(archive, count)
+}
+
+/// The plan with a page for each of so many nodes.
+fn ones(count: usize) -> Vec<u8> {
+    vec![1; count]
+}
+
+/// Touches memory in or next to a guarded buffer, as the name says. Volatile, so that the compiler
+/// leaves none of it out.
+fn touch(name: &str) {
+    let read = |at: *const u8| unsafe { at.read_volatile() };
+    let write = |at: *const u8| unsafe { at.cast_mut().write_volatile(7) };
+    let content = [1, 2, 3, 4, 5];
+    let [starts, ends] = SIDES.map(|side| Guarded::new(&content, side));
+    let before = starts.content().as_ptr().wrapping_sub(1);
+    let after = ends.content().as_ptr_range().end;
+    let read_only = Guarded::read_only(&content, Side::End);
+    let empty = Guarded::new(&[0u8; 0], Side::End);
+    match name {
+        "read inside" => {
+            assert_eq!(read(before.wrapping_add(1)), 1);
+            assert_eq!(read(after.wrapping_sub(1)), 5);
+        }
+        "write inside" => {
+            write(before.wrapping_add(1));
+            write(after.wrapping_sub(1));
+        }
+        "read before" => _ = read(before),
+        "write before" => write(before),
+        "read after" => _ = read(after),
+        "write after" => write(after),
+        "read far after" => _ = read(after.wrapping_add(8 * 65535)),
+        "read what is empty" => _ = read(empty.content().as_ptr()),
+        "write what is read-only" => write(read_only.content().as_ptr()),
+        _ => panic!("no such touch"),
+    }
+}
+
+/// A touch outside a buffer does end the process, so that the other tests here show something. This
+/// test runs itself again in a process of its own for each touch.
+#[test]
+fn touches_outside_end_the_process() {
+    const TOUCH: &str = "BALDUQEN_TOUCH";
+    const SEGMENTATION_FAULT: i32 = 11;
+    if let Ok(name) = env::var(TOUCH) {
+        return touch(&name);
+    }
+    let touched = |name: &str| {
+        Command::new(env::current_exe().expect("this program"))
+            .args(["--exact", "touches_outside_end_the_process"])
+            .env(TOUCH, name)
+            .stdout(Stdio::null())
+            .stderr(Stdio::null())
+            .status()
+            .expect("a process of its own")
+    };
+    for name in ["read inside", "write inside"] {
+        assert!(touched(name).success(), "{name}");
+    }
+    for name in [
+        "read before",
+        "write before",
+        "read after",
+        "write after",
+        "read far after",
+        "write what is read-only",
+        "read what is empty",
+    ] {
+        assert_eq!(touched(name).signal(), Some(SEGMENTATION_FAULT), "{name}");
+    }
+}
+
+/// Case E and the others, their plans, and random trees with random plans.
+#[test]
+fn good_tables() {
+    let random = &mut Random::new(1201);
+    for made in made() {
+        let limit = made.table.limit.into();
+        let answer = hand_in_all_lengths(&made.table.bytes(), &made.marks, limit);
+        assert_eq!(answer, Answer::ACCEPTED);
+    }
+    for _ in 0..100 {
+        let table = any_table(random, 30, 20);
+        let tree = read(&table.bytes()).expect("an accepted table");
+        let marks = feasible_plan(random, &tree);
+        let answer = hand_in_all_lengths(&table.bytes(), &marks, table.limit.into());
+        assert_eq!(answer, Answer::ACCEPTED);
+    }
+}
+
+#[test]
+fn largest_tables() {
+    let random = &mut Random::new(1202);
+    for form in FORMS {
+        let table = random_table(random, form, MAX_NODES, 12).bytes();
+        let tree = read(&table).expect("an accepted table");
+        hand_to_all(&table, &feasible_plan(random, &tree), 12);
+        hand_in_all_lengths(&table, &ones(MAX_NODES), 12);
+    }
+    // The longest scratch.
+    let table = random_table(random, Form::Deep, MAX_NODES, 1024).bytes();
+    let scratch = vec![7; scratch_length(MAX_NODES, 1024)];
+    for kind in KINDS {
+        let answer = plan(kind, &table, &ones(MAX_NODES), &scratch);
+        assert!(answer.is_accepted());
+        plan(kind, &table, &ones(MAX_NODES), &scratch[1..]);
+    }
+}
+
+/// Up to five bytes, with buffers for one node and with none.
+#[test]
+fn shortest_tables() {
+    let mut seen = Seen::default();
+    let values = [0, 1, 255];
+    for length in 0..=5 {
+        for mut code in 0..values.len().pow(length) {
+            let mut table = vec![];
+            for _ in 0..length {
+                table.push(values[code % values.len()]);
+                code /= values.len();
+            }
+            hand_to_all(&table, &[], 4);
+            seen.add(hand_to_all(&table, &ones(1), 4));
+        }
+    }
+    seen.expect(&[1, 2, 3, 4], 5);
+}
+
+/// Case E's table cut short at every length, and longer than it should be.
+#[test]
+fn tables_of_every_length() {
+    let table = case_e().bytes();
+    for length in 0..=table.len() + 20 {
+        let mut bytes = table.clone();
+        bytes.resize(length, 1);
+        let expected = match length {
+            0..=3 => Answer::refused(1, 0),
+            52 => Answer::ACCEPTED,
+            _ => Answer::refused(4, 52),
+        };
+        assert_eq!(hand_in_all_lengths(&bytes, &MARKS_OF_E, 5), expected);
+    }
+}
+
+/// Counts and limits that promise more, or less, than there is.
+#[test]
+fn heads_of_tables() {
+    let mut seen = Seen::default();
+    let values = [0, 1, 5, 6, 7, 8, 511, 512, 1023, 1024, 1025, 32768, 65535];
+    for count in values {
+        for limit in values {
+            let table = Table {
+                count,
+                limit,
+                ..case_e()
+            };
+            seen.add(hand_to_all(&table.bytes(), &MARKS_OF_E, 5));
+            // Marks and scratch as the head promises them, where a scratch can be had.
+            let (count, limit) = (usize::from(count), usize::from(limit));
+            if scratch_length(count, limit) < 1 << 20 {
+                hand_to_all(&table.bytes(), &ones(count), limit);
+            }
+        }
+    }
+    seen.expect(&[0, 2, 3, 4, 7], 1);
+}
+
+/// Case E with every word set to values that lead elsewhere.
+#[test]
+fn changed_tables() {
+    let table = case_e().bytes();
+    for place in 0..table.len() / 2 {
+        for value in [0u16, 1, 2, 3, 6, 7, 8, 255, 256, 1024, 1025, 65535] {
+            let mut changed = table.clone();
+            changed[2 * place..2 * place + 2].copy_from_slice(&value.to_be_bytes());
+            hand_to_all(&changed, &MARKS_OF_E, 5);
+        }
+    }
+}
+
+#[test]
+fn damaged_tables() {
+    let random = &mut Random::new(1203);
+    let mut seen = Seen::default();
+    for _ in 0..2000 {
+        let table = any_table(random, 12, 12);
+        let damaged = damaged(random, &table);
+        let count = table.records.len();
+        let marks = random.bytes(count);
+        seen.add(hand_to_all(&damaged, &marks, table.limit.into()));
+    }
+    seen.expect(&[0, 1, 2, 3, 4, 5, 6, 7], 20);
+}
+
+/// Marks of all values at every place of case E.
+#[test]
+fn changed_marks() {
+    for place in 0..6 {
+        for value in [0, 1, 2, 3, 255] {
+            let mut marks = MARKS_OF_E;
+            marks[place] = value;
+            hand_in_all_lengths(&case_e().bytes(), &marks, 5);
+        }
+    }
+}
+
+#[test]
+fn good_archives() {
+    let random = &mut Random::new(1204);
+    let verdict = Answer::accepted(3, 5);
+    assert_eq!(hand_to_reader_in_all_lengths(&archive_of_e(), 6), verdict);
+    for round in 0..200 {
+        let most = if round % 50 == 0 { MAX_NODES } else { 30 };
+        let table = any_table(random, most, 60).bytes();
+        let tree = read(&table).expect("an accepted table");
+        for marks in [feasible_plan(random, &tree), ones(tree.node_count())] {
+            let archive = archive_bytes(&tree, &marks);
+            let answer = hand_to_reader_in_all_lengths(&archive, marks.len());
+            assert!(answer.is_accepted());
+        }
+    }
+    for form in FORMS {
+        let table = random_table(random, form, MAX_NODES, 1024).bytes();
+        let tree = read(&table).expect("an accepted table");
+        let archive = archive_bytes(&tree, &ones(MAX_NODES));
+        assert!(hand_to_reader(&archive, MAX_NODES).is_accepted());
+    }
+}
+
+/// Case E's archive cut short at every length, and longer than it should be.
+#[test]
+fn archives_of_every_length() {
+    let archive = archive_of_e();
+    for length in 0..=archive.len() + 20 {
+        let mut bytes = archive.clone();
+        bytes.resize(length, 1);
+        let is_whole = length == archive.len();
+        let answer = hand_to_reader_in_all_lengths(&bytes, 6);
+        assert_eq!(answer.is_accepted(), is_whole);
+    }
+}
+
+/// Counts, limits and page counts that promise more, or less, than there is, in front of nothing, of
+/// case E's records, and of as many bytes as promised.
+#[test]
+fn heads_of_archives() {
+    let values: [u16; 12] = [0, 1, 2, 3, 4, 6, 7, 1023, 1024, 1025, 32768, 65535];
+    let rest = &archive_of_e()[6..];
+    let mut accepted = 0;
+    for nodes in values {
+        for pages in values {
+            for limit in [0, 5, 1024, 65535] {
+                let words = [nodes, limit, pages];
+                let head: Vec<u8> = words.iter().flat_map(|word| word.to_be_bytes()).collect();
+                let promised = 8 * usize::from(nodes) + 8 * usize::from(pages);
+                for rest in [&[], rest, &vec![1; promised]] {
+                    let archive = [&head, rest].concat();
+                    accepted += usize::from(hand_to_reader(&archive, 6).is_accepted());
+                    hand_to_reader(&archive, nodes.into());
+                }
+            }
+        }
+    }
+    // Case E's own head, and the one with the highest limit.
+    assert_eq!(accepted, 2);
+}
+
+/// Case E's archive with every word set to values that lead elsewhere.
+#[test]
+fn changed_archives() {
+    let archive = archive_of_e();
+    for place in 0..archive.len() / 2 {
+        for value in [0u16, 1, 2, 3, 4, 5, 6, 7, 255, 256, 1024, 1025, 65535] {
+            let mut changed = archive.clone();
+            changed[2 * place..2 * place + 2].copy_from_slice(&value.to_be_bytes());
+            hand_to_reader(&changed, 6);
+        }
+    }
+}
+
+#[test]
+fn damaged_archives() {
+    let random = &mut Random::new(1205);
+    let mut seen = Seen::default();
+    for _ in 0..3000 {
+        let table = any_table(random, 12, 60).bytes();
+        let tree = read(&table).expect("an accepted table");
+        let marks = feasible_plan(random, &tree);
+        let mut archive = archive_bytes(&tree, &marks);
+        for _ in 0..random.between(1, 2) {
+            archive = flipped(random, archive);
+        }
+        seen.add(hand_to_reader(&archive, marks.len()));
+    }
+    seen.expect(&[0, 13], 200);
+}
