@@ -3,7 +3,7 @@ use mathlib.Core.Path.{_≡_}
 use mathlib.Core.List.{List}
 use Prim.Native.Nat.{ℕ}
 use Rattle.model.specs.Refusals.{Planned, Written, Restored}
-use Rattle.model.specs.Demand.{PlanPromise, BestPromise, WritePromise, ReadPromise}
+use Rattle.model.specs.Demand.{WeightPromise, PlanPromise, BestPromise, WritePromise, ReadPromise}
 use Rattle.model.specs.declared.Answer.{Answer}
 use Rattle.embed.specs.declared.Figures.{Figures}
 use Rattle.embed.specs.Figures.{figuresOf}
@@ -24,6 +24,9 @@ pub record FiguresOf (Promise : Answer → Type 0) (f : Figures) : Type 0 where
   pub answer : Answer
   pub figures : f ≡ figuresOf answer
   pub promise : Promise answer
+
+abbrev pub WeightFigures : List ℕ → Figures → Type 0
+WeightFigures t f = FiguresOf (λ r. WeightPromise t r) f
 
 abbrev pub PlanFigures : List ℕ → List ℕ → List ℕ → Figures → List ℕ → List ℕ → Type 0
 PlanFigures t m s f marks scratch = FiguresOf (λ r. PlanPromise t m s r marks scratch) f

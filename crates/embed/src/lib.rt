@@ -5,7 +5,7 @@ use model::Verdict;
 ghost use mathlib.Core.Path.{_≡_};
 ghost use Rattle.model.specs.Refusals.{readTree, judgePlan, planBest, planLevel, planSingle, planPair, writeArchive, readArchive};
 ghost use Rattle.embed.specs.Figures.{figuresBy, figuresOf};
-ghost use Rattle.embed.specs.Left.{left, leftBy, PlanFigures, BestFigures, filled, filledBy, WriteFigures, refilled, refilledBy, ReadFigures};
+ghost use Rattle.embed.specs.Left.{WeightFigures, left, leftBy, PlanFigures, BestFigures, filled, filledBy, WriteFigures, refilled, refilledBy, ReadFigures};
 
 // A number and a place, and the verdict's page count and root weight, both 0 unless the number is 0.
 #[repr(C)]
@@ -56,6 +56,7 @@ fn flatten(answer: Answer) -> Figures
 #[no_mangle]
 pub extern "C" fn balduqen_read_tree(table: &[u8]) -> Figures
     ensures { λ r. ⌜ r ≡ figuresOf (readTree (now (table .entry))) ⌝ }
+    ensures { λ r. ⌜ WeightFigures (now (table .entry)) r ⌝ }
 {
     flatten(table::read_tree(table))
 }
@@ -63,6 +64,7 @@ pub extern "C" fn balduqen_read_tree(table: &[u8]) -> Figures
 #[no_mangle]
 pub extern "C" fn balduqen_judge(table: &[u8], marks: &[u8]) -> Figures
     ensures { λ r. ⌜ r ≡ figuresOf (judgePlan (now (table .entry)) (now (marks .entry))) ⌝ }
+    ensures { λ r. ⌜ WeightFigures (now (table .entry)) r ⌝ }
 {
     flatten(judge::judge_plan(table, marks))
 }

@@ -17,6 +17,7 @@ ghost use mathlib.Core.Path.{_≡_};
 ghost use Rattle.model.specs.Basics.{atPlace};
 ghost use Rattle.model.specs.Plan.{verdictOf};
 ghost use Rattle.model.specs.Refusals.{answerOf, judgePlan};
+ghost use Rattle.model.specs.Demand.{WeightPromise};
 ghost use Rattle.theory.specs.Sound.{AcceptedFacts};
 
 // The verdict: a bad mark first, then a heavy page, else page count and root weight.
@@ -81,6 +82,7 @@ fn judge_marks(table: &[u8], marks: &[u8]) -> Answer
 // Entry: the judge of plans.
 pub fn judge_plan(table: &[u8], marks: &[u8]) -> Answer
     ensures { λ r. ⌜ r ≡ judgePlan (now (table .entry)) (now (marks .entry)) ⌝ }
+    ensures { λ r. ⌜ WeightPromise (now (table .entry)) r ⌝ }
 {
     let tree = read_tree(table);
     if tree.number != 0 {

@@ -32,27 +32,30 @@ pub record HeldWithin (t : List ℕ) : Type 0 where
   pub held : holds t runs ≡ true
   pub within : withinLimit t runs ≡ true
 
+-- Of the answer r to the table t: a tree of sound form is refused with 7 exactly when no sequence of sibling runs holds it within the limit.
+abbrev pub WeightPromise : List ℕ → Answer → Type 0
+WeightPromise t r = soundForm t ≡ true → (r .number ≡ 7) ↔ (HeldWithin t → ⊥)
+
 -- ---- Planners
 
 -- what a planner is to be lent: an accepted tree, a mark a node, and scratch enough
-pub record Ready (t m s : List ℕ) : Type 0 where
+pub record PlanLent (t m s : List ℕ) : Type 0 where
   pub tree : acceptedTree t ≡ true
   pub marks : length m ≡ nodeCount t
   pub scratch : scratchWords (nodeCount t) (limitOf t) ≤ length s
 
 -- What each planner says with its answer r, and the marks and the scratch that it leaves, where it was lent the table t, the marks m and the
 -- scratch s. Lent what it is to be lent, it accepts: the marks are a feasible plan, and its verdict has their page count and root weight. On
--- refusal the marks and the scratch are as lent.
+-- refusal the marks and the scratch are as lent, and 7 is exact.
 pub record PlanPromise (t m s : List ℕ) (r : Answer) (marks scratch : List ℕ) : Type 0 where
-  pub accepts : Ready t m s → (r ≡ answerOf (Feasible (pageCount t marks) (pageWeight t marks 1))) × (feasiblePlan t marks ≡ true)
+  pub accepts : PlanLent t m s → (r ≡ answerOf (Feasible (pageCount t marks) (pageWeight t marks 1))) × (feasiblePlan t marks ≡ true)
   pub kept : (r .number ≡ 0 → ⊥) → (marks ≡ m) × (scratch ≡ s)
+  pub weight : WeightPromise t r
 
--- What the best planner says besides. Lent what it is to be lent, page count and root weight of its verdict are the lowest there are, and the
--- runs of the marks that it leaves have just these. A tree of sound form is refused with 7 exactly when no sequence of sibling runs holds it
--- within the limit.
+-- What the best planner says besides: lent what it is to be lent, page count and root weight of its verdict are the lowest there are, and the
+-- runs of the marks that it leaves have just these.
 pub record BestPromise (t m s : List ℕ) (r : Answer) (marks : List ℕ) : Type 0 where
-  pub lowest : Ready t m s → (P : ℕ) × (W : ℕ) × (r ≡ answerOf (Feasible P W)) × Lowest t P W (runsOf t marks)
-  pub refusal : soundForm t ≡ true → (r .number ≡ 7) ↔ (HeldWithin t → ⊥)
+  pub lowest : PlanLent t m s → (P : ℕ) × (W : ℕ) × (r ≡ answerOf (Feasible P W)) × Lowest t P W (runsOf t marks)
 
 -- ---- The archive
 
@@ -78,13 +81,14 @@ pub record LowestOnFilm (t a : List ℕ) (p r : Answer) : Type 0 where
 
 -- What the writer says with its answer r and the archive a that it leaves, where it was lent the table t, the marks m and the output out. Marks
 -- that the best planner left for this table, whatever else it was lent, it accepts where the output is as long as the planner's page count
--- asks, and the archive of them is the lowest. On refusal the output is as lent.
+-- asks, and the archive of them is the lowest. On refusal the output is as lent, and 7 is exact.
 pub record WritePromise (t m out : List ℕ) (r : Answer) (a : List ℕ) : Type 0 where
   pub accepts : (lent scratch : List ℕ) (P W : ℕ) → planBest t lent scratch .answer ≡ answerOf (Feasible P W) → planBest t lent scratch .marks ≡ m
       → length out ≡ archiveBytes P (nodeCount t) → r .number ≡ 0
   pub lowest : (lent scratch : List ℕ) → planBest t lent scratch .answer .number ≡ 0 → planBest t lent scratch .marks ≡ m
       → r .number ≡ 0 → LowestOnFilm t a (planBest t lent scratch .answer) r
   pub kept : (r .number ≡ 0 → ⊥) → a ≡ out
+  pub weight : WeightPromise t r
 
 -- the writer, lent the table t, the marks m and some output, accepts and leaves the archive a
 pub record WrittenFrom (t m a : List ℕ) : Type 0 where

@@ -17,7 +17,7 @@ use Rattle.model.specs.Demand.{PlanPromise}
 use Rattle.model.specs.declared.Answer.{Answer}
 use Rattle.theory.specs.Ranges.{Upto, pick-true, pick-false, listTo-zero, listTo-suc, listTo-cong, append-nil}
 use Rattle.theory.specs.Pages.{pages-low}
-use Rattle.theory.specs.Promise.{passes-ready, plan-passes}
+use Rattle.theory.specs.Promise.{passes-lent, plan-passes}
 use Rattle.theory.specs.ArchiveWords.{Page, page-first, getD-runsOf, archive-pages, archive-limit, archive-page}
 use Rattle.theory.specs.ArchiveBack.{Planned, feasible-planned}
 use Rattle.planner.specs.Outcome.{outcome}
@@ -90,7 +90,7 @@ module _ (steps : ℕ → Chain → List ℕ) (t m s : List ℕ) (r : Answer) (m
   pub made-planned : PlanPromise t m s r m′ s′ → r .number ≡ 0 → Planned t m′
   made-planned promise z =
       let pass = plan-passes steps t m s (ap (λ (p : Left). p .answer .number) (sym is) ∙ z) in
-      feasible-planned t m′ (promise .accepts (passes-ready t m s pass) .1)
+      feasible-planned t m′ (promise .accepts (passes-lent t m s pass) .1)
 
 -- the lines of an answer, by its number
 module _ (t : List ℕ) (r : Answer) (m s : List ℕ) {made : Left} (is : outcome r m s ≡ made) where

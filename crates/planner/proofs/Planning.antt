@@ -15,7 +15,7 @@ use Rattle.theory.specs.Sound.{AcceptedFacts, accepted-facts}
 use Rattle.theory.specs.Checks.{lentChecks, plan-never, accepted-pass, refused-fails, firstOf-pass, firstOf-stop}
 use Rattle.theory.specs.Feasible.{Judged}
 use Rattle.theory.specs.Judged.{tree-accepted}
-use Rattle.theory.specs.Promise.{passes-ready, planned-done, planned-refused, plan-promise, best-promise}
+use Rattle.theory.specs.Promise.{passes-lent, planned-done, planned-refused, plan-promise, best-promise}
 use Rattle.planner.specs.Outcome.{outcome, PlanReady}
 
 -- ---- The refusals
@@ -50,7 +50,7 @@ module _ (t m s : List ℕ) (r : Answer) (is : r ≡ firstOf (planChecks t m s) 
   -- nothing is refused
   pub plan-ready : r .number ≡ 0 → PlanReady t m s
   plan-ready e =
-      let ready = passes-ready t m s (plan-passes e) in
+      let ready = passes-lent t m s (plan-passes e) in
       record { tree = accepted-facts t (ready .tree); marks-long = ready .marks; words = ready .scratch }
 
   module _ (steps : ℕ → Chain → List ℕ) where

@@ -15,6 +15,7 @@ ghost use mathlib.Core.Bool.{_||_};
 ghost use Rattle.model.specs.Basics.{firstTo, when, atPlace};
 ghost use Rattle.model.specs.Table.{tableBytes, weightAt};
 ghost use Rattle.model.specs.Refusals.{refused, accepted, firstOf, readTree};
+ghost use Rattle.model.specs.Demand.{WeightPromise};
 ghost use Rattle.theory.specs.Checks.{headChecks};
 
 // The most nodes that a table has.
@@ -128,9 +129,10 @@ fn read_head(table: &[u8]) -> Answer
     )
 }
 
-// Entry: the tree reader, with the refusals 1 to 7.
+// Entry: the tree reader, with the refusals 1 to 7. 7 means that no sequence of sibling runs holds the tree.
 pub fn read_tree(table: &[u8]) -> Answer
     ensures { λ r. ⌜ r ≡ readTree (now (table .entry)) ⌝ }
+    ensures { λ r. ⌜ WeightPromise (now (table .entry)) r ⌝ }
 {
     let head = read_head(table);
     if head.number != 0 {

@@ -13,7 +13,7 @@ use Rattle.model.specs.Plan.{pageCount, pageWeight, verdictOf}
 use Rattle.model.specs.Runs.{rootRun, runsOf}
 use Rattle.model.specs.Archive.{archiveOf, pagesIn}
 use Rattle.model.specs.Refusals.{answerOf, feasiblePlan}
-use Rattle.model.specs.Demand.{Ready, PlanPromise, BestPromise, runIn, runsIn, rootIn, LowestOnFilm}
+use Rattle.model.specs.Demand.{PlanLent, PlanPromise, BestPromise, runIn, runsIn, rootIn, LowestOnFilm}
 use Rattle.model.specs.declared.Verdict.the-variants.{Feasible, Failed}
 use Rattle.model.specs.declared.Beside.{Beside}
 use Rattle.model.specs.declared.Beside.the-variants.{Given, Nothing}
@@ -59,7 +59,7 @@ rootBeside (Given (Feasible pages root)) = root
 rootBeside (Given (Failed c)) = 0
 rootBeside Nothing = 0
 
-module _ {t m s marks scratch : List ℕ} {r : Answer} (p : PlanPromise t m s r marks scratch) (ready : Ready t m s) where
+module _ {t m s marks scratch : List ℕ} {r : Answer} (p : PlanPromise t m s r marks scratch) (ready : PlanLent t m s) where
   pub plan-feasible : feasiblePlan t marks ≡ true
   plan-feasible = p .accepts ready .1
 

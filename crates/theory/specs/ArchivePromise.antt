@@ -13,7 +13,7 @@ use Rattle.model.specs.Plan.{pageCount, pageWeight, verdictOf}
 use Rattle.model.specs.Steps.{bestMarks}
 use Rattle.model.specs.Archive.{archiveOf, archiveBytes, pagesIn, tableIn, marksIn}
 use Rattle.model.specs.Refusals.{writeChecks, readChecks, passes, acceptedTree, feasiblePlan, answerOf, refused, firstOf, judgePlan, planBest, Written, writeArchive, isArchive, Restored, readArchive}
-use Rattle.model.specs.Demand.{Ready, PlanPromise, LowestOnFilm, WritePromise, WrittenFrom, ReadPromise}
+use Rattle.model.specs.Demand.{PlanLent, PlanPromise, LowestOnFilm, WritePromise, WrittenFrom, ReadPromise}
 use Rattle.model.specs.declared.Verdict.the-variants.{Feasible, Failed}
 use Rattle.model.specs.declared.Beside.{Beside}
 use Rattle.model.specs.declared.Beside.the-variants.{Given, Nothing}
@@ -22,8 +22,9 @@ use Rattle.theory.specs.Ranges.{bool-cases, pick-true, pick-false}
 use Rattle.theory.specs.Sound.{facts-accepted}
 use Rattle.theory.specs.Checks.{firstOf-all}
 use Rattle.theory.specs.Feasible.{Judged, feasible-judged, judged-verdict}
+use Rattle.theory.specs.Weight.{write-weight}
 use Rattle.theory.specs.Lowest.{best-judged}
-use Rattle.theory.specs.Promise.{passes-ready, plan-passes, plan-promise, best-promise}
+use Rattle.theory.specs.Promise.{passes-lent, plan-passes, plan-promise, best-promise}
 use Rattle.theory.specs.ArchiveWords.{length-archive, archive-nodes}
 use Rattle.theory.specs.ArchiveBack.{write-read, read-write, tableIn-bytes}
 use Rattle.theory.specs.ArchiveAnswers.{judge-zero, feasible-judge, write-done, write-feasible, writer-done, read-none, read-done, read-film, reader-done, film-read}
@@ -44,8 +45,8 @@ module _ (t m out : List ℕ) where
 
   -- what the best planner left
   module _ (lent scratch : List ℕ) (z : planBest t lent scratch .answer .number ≡ 0) where
-    ready : Ready t lent scratch
-    ready = passes-ready t lent scratch (plan-passes bestMarks t lent scratch z)
+    ready : PlanLent t lent scratch
+    ready = passes-lent t lent scratch (plan-passes bestMarks t lent scratch z)
 
     promise : PlanPromise t lent scratch (planBest t lent scratch .answer) (planBest t lent scratch .marks) (planBest t lent scratch .scratch)
     promise = plan-promise bestMarks t lent scratch best-judged
@@ -74,6 +75,7 @@ module _ (t m out : List ℕ) where
         accepts = λ lent scratch P W e is long. best-accepted lent scratch (ap (λ (a : Answer). a .number) e) P W e is long;
         lowest = λ lent scratch z is done. rw (writer-done t m out done .1) (best-film lent scratch z is);
         kept = refused-kept;
+        weight = write-weight t m out;
       }
 
 -- ---- The reader

@@ -1,6 +1,6 @@
 -- Plans and sequences of sibling runs say the same, both ways, for a table of sound form; and refusal 7 is exact: a table of sound form
 -- is refused for weight just where no sequence of runs holds its tree within the page limit.
--- Defines PlanRuns, RunsPlan, HeldWithin. Proves plan-runs, runs-plan, accepted-held, refused-unheld, seven-refused. Assumes nothing.
+-- Defines PlanRuns, RunsPlan. Proves plan-runs, runs-plan, accepted-held, refused-unheld, seven-refused. Assumes nothing.
 use Prim.Native.Nat.{ℕ, _-_, _≤_}
 use native.Mathlib.Omega.{arith}
 use mathlib.Core.Bool.{Bool, true, false, not, _&&_, true≢false}

@@ -32,6 +32,7 @@ pub mod RunMarks
 pub mod RunsOfPlan
 pub mod PlanOfRuns
 pub mod Held
+pub mod Weight
 -- The archive
 pub mod ArchiveWords
 pub mod ArchiveBack

@@ -12,7 +12,10 @@ flatten-requires : tie.Need-flatten-requires
 flatten-requires c κs = search needs
 
 returns : tie.Need-returns
-returns c = c .flatten .ensures ∙ ap figuresOf (c .before .judge-plan .ensures)
+returns c =
+    let p = c .before .judge-plan in
+    let same = c .flatten .ensures in
+    (same ∙ ap figuresOf (p .ensures .0), record { answer = p .result; figures = same; promise = p .ensures .1 })
 
 pub balduqen-judge-spec : {M : Type 1} → statement M
 balduqen-judge-spec = tie.close (tie.spec judge-plan-requires flatten-requires returns)

@@ -12,7 +12,10 @@ flatten-requires : tie.Need-flatten-requires
 flatten-requires c κs = search needs
 
 returns : tie.Need-returns
-returns c = c .flatten .ensures ∙ ap figuresOf (c .before .read-tree .ensures)
+returns c =
+    let p = c .before .read-tree in
+    let same = c .flatten .ensures in
+    (same ∙ ap figuresOf (p .ensures .0), record { answer = p .result; figures = same; promise = p .ensures .1 })
 
 pub balduqen-read-tree-spec : {M : Type 1} → statement M
 balduqen-read-tree-spec = tie.close (tie.spec read-tree-requires flatten-requires returns)

@@ -52,7 +52,7 @@ returns-2 c =
     let k = e .before .before .check-plan in
     let b = e .before .before .before .before .before .before .before .before in
     let made = plan-made (now (b .args .table)) (now (b .args .marks)) (now (b .args .scratch)) (k .result) (k .ensures) (stepsOf (b .args .planner)) (e .if1 .left) (c .judge-plan .result) (l .last .1 .1 .0) (x .last .0) (l .ensures)
-    (x .ensures ∙ ap (λ (n : ℕ). replicate n 0) (l .kept .1 .1 .1 .0)) (c .judge-plan .ensures) in
+    (x .ensures ∙ ap (λ (n : ℕ). replicate n 0) (l .kept .1 .1 .1 .0)) (c .judge-plan .ensures .0) in
     (made, plan-promised (stepsOf (b .args .planner)) (steps-judged (b .args .planner)) made)
 
 pub make-plan-spec : {M : Type 1} → statement M

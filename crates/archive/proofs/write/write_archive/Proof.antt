@@ -24,7 +24,7 @@ abbrev plan : tie.Else1 → List ℕ
 plan e = e .before .before .before .before .before .before .args .marks .now
 
 accepts : (e : tie.Else1) → judgePlan (tree e) (plan e) .number ≡ 0
-accepts e = sym (ap (λ (x : Answer). x .number) (e .before .before .judge-plan .ensures)) ∙ e .if1 .left
+accepts e = sym (ap (λ (x : Answer). x .number) (e .before .before .judge-plan .ensures .0)) ∙ e .if1 .left
 
 feasible : (e : tie.Else1) → Planned (tree e) (plan e)
 feasible e = feasible-planned (tree e) (plan e) (judge-feasible (tree e) (plan e) (accepts e))
@@ -38,7 +38,7 @@ judge-plan-requires c κs = search needs
 returns : tie.Need-returns
 returns c =
     let a = c .before .before .before .before .before .before .args in
-    let judged = c .before .before .judge-plan .ensures in
+    let judged = c .before .before .judge-plan .ensures .0 in
     write-both
     (ap (λ (x : Answer). written x (a .out .now)) judged
     ∙ write-refuses _ _ (a .out .now) (λ z. c .if1 .taken (ap (λ (x : Answer). x .number) judged ∙ z)))
@@ -78,7 +78,7 @@ returns-3 : tie.Need-returns-3
 returns-3 c =
     let b = c .before .before .before .before .before in
     write-both
-    (ap₂ written (b .before .before .before .before .before .judge-plan .ensures) (c .before .before .fill-archive .ensures)
+    (ap₂ written (b .before .before .before .before .before .judge-plan .ensures .0) (c .before .before .fill-archive .ensures)
     ∙ write-done _ _ _ (accepts (b .before .before .before)) (c .before .before .before .before .if2 .left ∙ size-is b))
 
 pub write-archive-spec : {M : Type 1} → statement M

@@ -19,7 +19,7 @@ use Rattle.planner.proofs.common.check_plan.Tie as tie
 
 -- the number that the tree's checks gave
 number-is : (c : tie.Else1) → c .before .before .read-tree .result .number ≡ readTree (now (c .before .before .before .before .before .before .args .table)) .number
-number-is c = ap (λ (a : Answer). a .number) (c .before .before .read-tree .ensures)
+number-is c = ap (λ (a : Answer). a .number) (c .before .before .read-tree .ensures .0)
 
 -- the number of words, where the tree is accepted
 words-small : (c : tie.After-limit-of) → scratchWords (c .before .node-count .result) (c .limit-of .result) ≤ scratchWords maxNodes maxLimit
@@ -37,8 +37,8 @@ returns : tie.Need-returns
 returns c =
     let x = c .before .before .read-tree in
     let b = c .before .before .before .before .before .before in
-    x .ensures ∙ tree-refuses (now (b .args .table)) (now (b .args .marks)) (now (b .args .scratch))
-    (λ e. c .if1 .taken (ap (λ (a : Answer). a .number) (x .ensures) ∙ e))
+    x .ensures .0 ∙ tree-refuses (now (b .args .table)) (now (b .args .marks)) (now (b .args .scratch))
+    (λ e. c .if1 .taken (ap (λ (a : Answer). a .number) (x .ensures .0) ∙ e))
 
 node-count-requires : tie.Need-node-count-requires
 node-count-requires c κs = search needs
