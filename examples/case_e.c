@@ -34,9 +34,9 @@ static unsigned word(const uint8_t *archive, size_t index)
 
 static bool accepted(const char *step, balduqen_answer answer)
 {
-    if (answer.number != 0)
+    if (answer.number != BALDUQEN_ACCEPTED)
         printf("%s: refused %u at %u\n", step, (unsigned)answer.number, (unsigned)answer.place);
-    return answer.number == 0;
+    return answer.number == BALDUQEN_ACCEPTED;
 }
 
 static bool same_verdict(const char *step, balduqen_answer planned, unsigned pages, unsigned root)

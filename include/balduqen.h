@@ -1,12 +1,33 @@
 /* libembed.a: reads tree tables, plans how a tree is laid on pages, judges plans, and writes and
  * reads the archive.
  *
- * A buffer is lent as a pointer and a length. The pointer is not null, also where the length is 0.
- * The buffers of one call must not overlap. On refusal each keeps what it held.
+ * What a caller must see to. A buffer is lent as a pointer and a length. The pointer is valid for
+ * that many elements, aligned for them, and not null, also where the length is 0. A buffer that a
+ * function fills overlaps no other buffer of the call. Of what the buffers hold, and of their
+ * lengths, nothing is asked: what is not right is refused, and on refusal each buffer keeps what it
+ * held.
  *
- * For a tree of N nodes and a page limit K, a table has 4 + 8 * N bytes, a plan has N marks of a
- * byte each, and an archive of P pages has 6 + 8 * P + 8 * N bytes. Their words are 16 bits, high
- * byte first.
+ * A function reads and writes nothing but what it is lent. It allocates nothing, keeps nothing
+ * between calls, and ends. So any number of threads may call at the same time, each on buffers of
+ * its own; a buffer that is only read may be shared.
+ *
+ * The table. Its words are 16 bits, high byte first. For a tree of N nodes and a page limit K:
+ *
+ *   word 0         N, 1 to 1024
+ *   word 1         K, 1 to 1024
+ *   then for each node, from node 1 on, a record of four words:
+ *                  weight (1 to 65535), label (any word), first child, next sibling
+ *
+ * Nodes are numbered from 1, and 0 stands for no node. Node 1 is the root and has no sibling. The
+ * children of a node are a chain: the first child, its next sibling, and so on until a 0. The order
+ * of nodes is child before sibling: a walk that goes from each node to its first child, with all
+ * below it, and then to its next sibling meets 1, 2, .., N. So a table has 4 + 8 * N bytes.
+ *
+ * A plan has N marks of a byte each, for the nodes in their order: 0 (stays with its parent), 1
+ * (begins a run) or 2 (continues the run of the sibling just before). Each run is a page.
+ *
+ * The archive of a tree and a plan of P pages has 6 + 8 * P + 8 * N bytes: N, K, P, the page
+ * records and the node records. docs/RULE-SHEET.txt tells it byte by byte, with examples.
  */
 #ifndef BALDUQEN_H
 #define BALDUQEN_H
@@ -21,6 +42,10 @@ extern "C" {
 /* The most nodes, and the highest page limit. */
 #define BALDUQEN_MAX_NODES 1024
 #define BALDUQEN_MAX_LIMIT 1024
+
+/* The bytes of stack that a call uses at most, on x86-64. As measured: balduqen_read_archive 82 KiB,
+ * balduqen_write_archive 47, the planners and the judge 27, balduqen_read_tree 3. */
+#define BALDUQEN_STACK 98304
 
 /* Buffer lengths: bytes of a table, 32-bit words of a planner's scratch, bytes of an archive. */
 #define BALDUQEN_TABLE_LENGTH(nodes) (4 + 8 * (size_t)(nodes))
@@ -46,25 +71,42 @@ extern "C" {
  *   13   no accepted tree and feasible plan write it         0
  *
  * The lowest that applies is given, but balduqen_read_archive checks 13, then 12, then 8.
- *
- * Pages and root are the plan's page count and the weight of its root page. They are 0 unless
+ */
+enum {
+    BALDUQEN_ACCEPTED = 0,
+    BALDUQEN_SHORT_TABLE = 1,
+    BALDUQEN_BAD_COUNT = 2,
+    BALDUQEN_BAD_LIMIT = 3,
+    BALDUQEN_BAD_LENGTH = 4,
+    BALDUQEN_NO_WEIGHT = 5,
+    BALDUQEN_BAD_WALK = 6,
+    BALDUQEN_HEAVY_NODE = 7,
+    BALDUQEN_BAD_MARKS = 8,
+    BALDUQEN_SHORT_SCRATCH = 9,
+    BALDUQEN_BAD_MARK = 10,
+    BALDUQEN_HEAVY_PAGE = 11,
+    BALDUQEN_BAD_OUTPUT = 12,
+    BALDUQEN_NO_ARCHIVE = 13
+};
+
+/* Pages and root are the plan's page count and the weight of its root page. They are 0 unless
  * number is 0, and always 0 from balduqen_read_tree, which has no plan.
  */
 typedef struct {
     uint32_t number, place, pages, root;
 } balduqen_answer;
 
-/* Whether the table holds a tree that can be planned. Refuses 1 to 7. */
+/* Whether the table holds a tree that can be planned. Refuses 1 to 7; 7 means that no plan at all
+ * holds the tree. */
 balduqen_answer balduqen_read_tree(const uint8_t *table, size_t table_length);
 
-/* Whether the marks are a plan of the tree with no page over the limit. A mark is 0 (stays with its
- * parent), 1 (begins a run) or 2 (continues the run of the sibling just before). Refuses 1 to 8, 10
- * and 11. */
+/* Whether the marks are a plan of the tree with no page over the limit. Refuses 1 to 8, 10 and 11. */
 balduqen_answer balduqen_judge(const uint8_t *table, size_t table_length,
                                const uint8_t *marks, size_t marks_length);
 
-/* The planners fill the N marks with a plan and leave every scratch word 0. What either holds before
- * is of no matter. The scratch has at least 4 * N * (K + 3) words. They refuse 1 to 9. */
+/* The planners fill the N marks with a plan that the judge accepts, and leave every scratch word 0.
+ * What either holds before is of no matter. The scratch has at least 4 * N * (K + 3) words. They
+ * refuse 1 to 9, and nothing else: a tree that can be planned gets its plan. */
 
 /* The fewest pages of all plans and, with as many, the lightest root page. */
 balduqen_answer balduqen_plan_best(const uint8_t *table, size_t table_length,
@@ -87,13 +129,15 @@ balduqen_answer balduqen_plan_pair(const uint8_t *table, size_t table_length,
                                    uint32_t *scratch, size_t scratch_length);
 
 /* Writes the archive of a tree and a plan. The archive buffer has exactly 6 + 8 * P + 8 * N bytes,
- * where P is the page count that the planner or the judge gave. Refuses 1 to 8 and 10 to 12. */
+ * where P is the page count that the planner or the judge gave. Refuses 1 to 8 and 10 to 12. With
+ * the marks of balduqen_plan_best, page count and root weight on film are that planner's. */
 balduqen_answer balduqen_write_archive(const uint8_t *table, size_t table_length,
                                        const uint8_t *marks, size_t marks_length,
                                        uint8_t *archive, size_t archive_length);
 
-/* Reads the tree and the plan back from an archive. The table buffer has exactly 4 + 8 * N bytes and
- * the marks buffer N. Refuses 13, 12 for the table buffer, then 8 for the marks buffer. */
+/* Reads the tree and the plan back from an archive: the very table and marks that it was written
+ * from. The table buffer has exactly 4 + 8 * N bytes and the marks buffer N. Refuses 13, 12 for the
+ * table buffer, then 8 for the marks buffer. */
 balduqen_answer balduqen_read_archive(const uint8_t *archive, size_t archive_length,
                                       uint8_t *table, size_t table_length,
                                       uint8_t *marks, size_t marks_length);

@@ -12,3 +12,4 @@ pub mod gen;
 pub mod guarded;
 pub mod model;
 pub mod rule_sheet;
+pub mod stack;

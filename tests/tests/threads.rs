@@ -1,0 +1,47 @@
+//! Several threads call the library at the same time, each on buffers of its own, and get what the
+//! model gives.
+
+use balduqen_tests::cases::KINDS;
+use balduqen_tests::entries::{Entries, LIBRARY, MODEL};
+use balduqen_tests::gen::{any_table, Random};
+use balduqen_tests::model::{archive_length, scratch_length, word, Answer};
+use std::thread;
+
+/// The answers of all entries in turn, and the marks and the archive of each planner's plan.
+fn round(entries: &Entries, table: &[u8]) -> (Vec<Answer>, Vec<Vec<u8>>) {
+    let (count, limit) = (word(table, 0), word(table, 1));
+    let mut answers = vec![(entries.read_tree)(table)];
+    let mut buffers = vec![];
+    for kind in KINDS {
+        let mut marks = vec![7; count];
+        let mut scratch = vec![7; scratch_length(count, limit)];
+        let planned = (entries.planner)(kind)(table, &mut marks, &mut scratch);
+        let mut archive = vec![7; archive_length(planned.pages as usize, count)];
+        let (mut table_back, mut marks_back) = (vec![7; table.len()], vec![7; count]);
+        answers.extend([
+            planned,
+            (entries.judge)(table, &marks),
+            (entries.write_archive)(table, &marks, &mut archive),
+            (entries.read_archive)(&archive, &mut table_back, &mut marks_back),
+        ]);
+        buffers.extend([marks, archive, table_back, marks_back]);
+    }
+    (answers, buffers)
+}
+
+#[test]
+fn each_on_its_own_buffers() {
+    thread::scope(|threads| {
+        for seed in 1201..1205 {
+            threads.spawn(move || {
+                let random = &mut Random::new(seed);
+                for _ in 0..150 {
+                    let table = any_table(random, 60, 60).bytes();
+                    let answered = round(&LIBRARY, &table);
+                    assert!(answered.0.iter().all(Answer::is_accepted), "{answered:?}");
+                    assert_eq!(answered, round(&MODEL, &table));
+                }
+            });
+        }
+    });
+}
