@@ -12,7 +12,7 @@ use Rattle.model.specs.Plan.{prevAt, ownerAt, parentFrom, parentAt, mark
 use Rattle.model.specs.Runs.{Run, comesFrom, comesAfter, isRun, isMember, countOf, holds, runWith, homeFrom, homeOf, runWeight, withinLimit, runsOf, runCount, rootWeight}
 use Rattle.model.specs.Steps.{restSum, gainSum, takenCount, largestGain, takeEarliest, reduceFrom, reduce, better, leastOf, winner, staying, asMember, runChoices, running, runOf, lightest, stopsAt, secondStart, gainOf, childOf, childrenFrom, childrenOf, choicesOf, layMarks, bestMarks, levelMarks, whole, cutDown, remainders, laySingle, singleMarks, sides, remainder, takenAt, layPair, pairMarks, entryAt, stretched}
 use Rattle.model.specs.Archive.{nextPage, pageRecords, nextOnPage, nodeRecord, archiveOf, pagesIn, pageFieldIn, nodeFieldIn, parentIn, firstIn, nextIn, tableIn, beginsIn, continuesIn, markIn, marksIn}
-use Rattle.model.specs.Refusals.{shortTable, badCount, badLimit, badLength, noWeight, badWalk, heavyNode, badMarks, shortScratch, markRefused, pageRefused, badOutput, noArchive, formChecks, treeChecks, planChecks, judgeChecks, writeChecks, passes, soundForm, acceptedTree, refusedForWeight, feasiblePlan, refused, firstOf, readTree, judgePlan, planned, planBest, planLevel, planSingle, planPair, writeArchive, isArchive, readChecks, readArchive, scratchWords, Planned}
+use Rattle.model.specs.Refusals.{shortTable, badCount, badLimit, badLength, noWeight, badWalk, heavyNode, badMarks, shortScratch, markRefused, pageRefused, badOutput, noArchive, formChecks, treeChecks, planChecks, judgeChecks, writeChecks, passes, soundForm, acceptedTree, refusedForWeight, feasiblePlan, firstOf, readTree, judgePlan, planned, planBest, planLevel, planSingle, planPair, writeArchive, isArchive, readChecks, readArchive, scratchWords, Planned}
 use Rattle.model.specs.declared.Beside.{Beside}
 use Rattle.model.specs.declared.Beside.the-variants.{Given, Nothing}
 use Rattle.model.specs.declared.Verdict.the-variants.{Feasible, Failed}

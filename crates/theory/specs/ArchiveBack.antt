@@ -1,11 +1,11 @@
 -- Writing and reading back. The archive of an accepted tree and a feasible plan tells that very table and those very marks, so it
 -- passes the reader's test; an archive that passes the test is written by the tree and the plan that it tells, and so by some.
--- Defines tableRow. Proves write-read, read-write, archive-exact. Assumes nothing.
+-- Defines tableRow. Proves write-read, read-write, tableIn-bytes. Assumes nothing.
 use Prim.Native.Nat.{ℕ, zero, suc, _+_, _-_, _*_, _/_, _%_, _≤_, _<_}
 use native.Mathlib.Omega.{arith}
 use mathlib.Core.Bool.{Bool, true, false, _&&_, false≢true}
 use mathlib.Core.Path.{_≡_, refl, sym, _∙_, ap, ap₂}
-use mathlib.Core.Logic.{_⊎_, inl, inr, _↔_}
+use mathlib.Core.Logic.{_⊎_, inl, inr}
 use mathlib.Core.List.{List, [], _∷_}
 use lib.ListN.{length, getD}
 use lib.Seq.{ext-getD}
@@ -380,11 +380,3 @@ tableIn-bytes a h =
         words-cons (nodeFieldIn a v 0) (nodeFieldIn a v 1 ∷ firstIn a v ∷ nextIn a v ∷ []) (field-small a v 0 h)
         (words-cons (nodeFieldIn a v 1) (firstIn a v ∷ nextIn a v ∷ []) (field-small a v 1 h)
         (words-cons (firstIn a v) (nextIn a v ∷ []) first (words-cons (nextIn a v) [] next words-nil)))
-
--- no number but 13 where no accepted tree and feasible plan write the archive: they do exactly when it passes the test
-pub archive-exact : (a : List ℕ) → Bytes a
-    → (isArchive a ≡ true) ↔ ((t : List ℕ) × (m : List ℕ) × Bytes t × (feasiblePlan t m ≡ true) × (archiveOf t m ≡ a))
-archive-exact a h = (
-  λ e. let r = read-write a e in (tableIn a, marksIn a, tableIn-bytes a h, r .0, r .1),
-  λ x. rw (← x .4) (write-read (x .2) (x .3) .2),
-)

@@ -2,29 +2,27 @@
 -- the promises of the planner and the judge, and on the laws of writing and reading back. Assumes nothing.
 use Prim.Native.Nat.{ℕ}
 use native.Mathlib.Omega.{arith}
-use mathlib.Core.Bool.{Bool, true, false, not, true≢false}
-use mathlib.Core.Path.{_≡_, refl, sym, _∙_, ap, ap₂}
-use mathlib.Core.Logic.{_⊎_, inl, inr, ⊎-elim, _↔_}
-use mathlib.Core.List.{List, [], _∷_}
+use mathlib.Core.Bool.{true, false, true≢false}
+use mathlib.Core.Path.{_≡_, sym, _∙_, ap, ap₂}
+use mathlib.Core.Logic.{⊎-elim}
+use mathlib.Core.List.{List}
 use lib.ListN.{length}
 use Rattle.model.specs.Basics.{pick}
 use Rattle.model.specs.Table.{Bytes, nodeCount, tableBytes}
-use Rattle.model.specs.Plan.{pageCount, pageWeight, verdictOf}
-use Rattle.model.specs.Steps.{bestMarks}
-use Rattle.model.specs.Archive.{archiveOf, archiveBytes, pagesIn, tableIn, marksIn}
-use Rattle.model.specs.Refusals.{writeChecks, readChecks, passes, acceptedTree, feasiblePlan, answerOf, refused, firstOf, judgePlan, planBest, Written, writeArchive, isArchive, Restored, readArchive}
-use Rattle.model.specs.Demand.{PlanLent, PlanPromise, LowestOnFilm, WritePromise, WrittenFrom, ReadPromise}
+use Rattle.model.specs.Plan.{pageCount, verdictOf}
+use Rattle.model.specs.Archive.{archiveOf, archiveBytes, tableIn, marksIn}
+use Rattle.model.specs.Refusals.{writeChecks, readChecks, passes, feasiblePlan, answerOf, firstOf, judgePlan, planBest, Written, writeArchive, isArchive, Restored, readArchive}
+use Rattle.model.specs.Demand.{PlanLent, LowestOnFilm, WritePromise, WrittenFrom, ReadPromise}
 use Rattle.model.specs.declared.Verdict.the-variants.{Feasible, Failed}
 use Rattle.model.specs.declared.Beside.{Beside}
 use Rattle.model.specs.declared.Beside.the-variants.{Given, Nothing}
 use Rattle.model.specs.declared.Answer.{Answer}
-use Rattle.theory.specs.Ranges.{bool-cases, pick-true, pick-false}
+use Rattle.theory.specs.Ranges.{bool-cases, pick-false}
 use Rattle.theory.specs.Sound.{facts-accepted}
 use Rattle.theory.specs.Checks.{firstOf-all}
 use Rattle.theory.specs.Feasible.{Judged, feasible-judged, judged-verdict}
 use Rattle.theory.specs.Weight.{write-weight}
-use Rattle.theory.specs.Lowest.{best-judged}
-use Rattle.theory.specs.Promise.{passes-lent, plan-passes, plan-promise, best-promise}
+use Rattle.theory.specs.Promise.{best-lent, best-plan, best-promise}
 use Rattle.theory.specs.ArchiveWords.{length-archive, archive-nodes}
 use Rattle.theory.specs.ArchiveBack.{write-read, read-write, tableIn-bytes}
 use Rattle.theory.specs.ArchiveAnswers.{judge-zero, feasible-judge, write-done, write-feasible, writer-done, read-none, read-done, read-film, reader-done, film-read}
@@ -45,21 +43,18 @@ module _ (t m out : List ℕ) where
 
   -- what the best planner left
   module _ (lent scratch : List ℕ) (z : planBest t lent scratch .answer .number ≡ 0) where
-    ready : PlanLent t lent scratch
-    ready = passes-lent t lent scratch (plan-passes bestMarks t lent scratch z)
-
-    promise : PlanPromise t lent scratch (planBest t lent scratch .answer) (planBest t lent scratch .marks) (planBest t lent scratch .scratch)
-    promise = plan-promise bestMarks t lent scratch best-judged
+    lent-right : PlanLent t lent scratch
+    lent-right = best-lent t lent scratch z
 
     best-film : planBest t lent scratch .marks ≡ m → LowestOnFilm t (archiveOf t m) (planBest t lent scratch .answer) (answerOf (verdictOf t m))
     best-film is =
-        rw is at (film-lowest promise ready (best-promise t lent scratch))
+        rw is at (film-lowest (best-plan t lent scratch) lent-right (best-promise t lent scratch))
 
     best-accepted : (P W : ℕ) → planBest t lent scratch .answer ≡ answerOf (Feasible P W) → planBest t lent scratch .marks ≡ m
         → length out ≡ archiveBytes P (nodeCount t) → writeArchive t m out .answer .number ≡ 0
     best-accepted P W e is long =
-        let judged : judgePlan t m .number ≡ 0 = judge-zero t m (rw is at (plan-feasible promise ready)) in
-        let count : P ≡ pageCount t m = ap (λ (a : Answer). pagesBeside (a .verdict)) (sym e ∙ promise .accepts ready .0) ∙ ap (pageCount t) is in
+        let judged : judgePlan t m .number ≡ 0 = judge-zero t m (rw is at (plan-feasible (best-plan t lent scratch) lent-right)) in
+        let count : P ≡ pageCount t m = ap (λ (a : Answer). pagesBeside (a .verdict)) (sym e ∙ best-plan t lent scratch .accepts lent-right .0) ∙ ap (pageCount t) is in
         ap (λ (w : Written). w .answer .number) (sym (write-done t m out judged (long ∙ ap (λ n. archiveBytes n (nodeCount t)) count))) ∙ judged
 
   refused-kept : (writeArchive t m out .answer .number ≡ 0 → ⊥) → writeArchive t m out .archive ≡ out

@@ -11,7 +11,7 @@ use borrow.Author.Tests.{ltb-false, eq-eqb}
 use Rattle.theory.specs.Ranges.{when-nowhere, append-nil}
 use Rattle.theory.specs.Sound.{passes-first, passes-rest, both-true, both-false}
 use lib.Dec.{eqb, ltb}
-use Rattle.model.specs.Refusals.{Check, shortTable, badCount, badLimit, badLength, noWeight, badWalk, heavyNode, badMarks, shortScratch, markRefused, pageRefused, badOutput, noArchive, formChecks, treeChecks, planChecks, judgeChecks, writeChecks, readChecks, readTree, passes, refused, accepted, firstOf}
+use Rattle.model.specs.Refusals.{Check, shortTable, badCount, badLimit, badLength, noWeight, badWalk, heavyNode, badMarks, shortScratch, markRefused, pageRefused, badOutput, noArchive, formChecks, treeChecks, planChecks, judgeChecks, writeChecks, readChecks, readTree, passes, accepted, firstOf}
 use Rattle.model.specs.declared.Place.{Place}
 use Rattle.model.specs.declared.Place.the-variants.{At, Nowhere}
 use Rattle.model.specs.declared.Answer.{Answer}

@@ -6,11 +6,11 @@ use native.Mathlib.Omega.{arith}
 use mathlib.Core.Bool.{Bool, true, false, not, _&&_, true≢false}
 use mathlib.Core.Path.{_≡_, refl, sym, _∙_, ap}
 use mathlib.Core.Logic.{_↔_}
-use mathlib.Core.List.{List, [], _∷_, _++_}
+use mathlib.Core.List.{List, [], _∷_}
 use lib.ListN.{length, getD, replicate, getD-replicate}
 use lib.Dec.{eqb, leb, ltb}
 use borrow.Author.Tests.{eqb-true, eqb-false, eq-eqb, ne-eqb, leb-true, le-ltb, not-true}
-use Rattle.model.specs.Basics.{pick, atPlace, countTo}
+use Rattle.model.specs.Basics.{pick, countTo}
 use Rattle.model.specs.Table.{nodeCount, limitOf, weightAt}
 use Rattle.model.specs.Plan.{begins, continues, markAt, hasMark, goodMark, badMark, pageOf, pageCount, pageWeight, heavyPage}
 use Rattle.model.specs.Runs.{Run, countOf, holds, homeOf, runWeight, withinLimit, runCount, rootWeight, runsOf}

@@ -1,11 +1,11 @@
--- What the planners' entries promise beside their equations, from the answer and what is left: each accepts, with a feasible plan (plan-promise),
--- and the best planner's plan is the lowest there is (best-promise).
+-- What the planners' entries promise beside their equations, from the answer and what is left: each accepts, with a feasible plan (plan-promise,
+-- best-plan), and the best planner's plan is the lowest there is (best-promise).
 -- Proves lent-passes, passes-lent (right buffers are checks that pass), planned-done, planned-refused (what a planner leaves), plan-passes (a
 -- planner that answers 0 was lent an accepted tree and right buffers). Assumes nothing.
 use Prim.Native.Nat.{ℕ}
-use mathlib.Core.Path.{_≡_, refl, sym, ap, _∙_}
+use mathlib.Core.Path.{_≡_, sym, ap, _∙_}
 use mathlib.Core.Bool.{true, false, not}
-use mathlib.Core.List.{List, [], _∷_, _++_}
+use mathlib.Core.List.{List, [], _∷_}
 use mathlib.Core.Logic.{_↔_, ⊎-elim}
 use native.Mathlib.Omega.{arith}
 use lib.ListN.{length, replicate}
@@ -15,7 +15,7 @@ use Rattle.model.specs.Table.{Chain, nodeCount, limitOf, treeOf}
 use Rattle.model.specs.Plan.{pageCount, pageWeight}
 use Rattle.model.specs.Runs.{runsOf}
 use Rattle.model.specs.Steps.{bestMarks}
-use Rattle.model.specs.Refusals.{badMarks, shortScratch, scratchWords, treeChecks, planChecks, passes, acceptedTree, feasiblePlan, answerOf, accepted, firstOf, readTree, judgePlan, Planned, planned, planBest}
+use Rattle.model.specs.Refusals.{badMarks, shortScratch, scratchWords, treeChecks, planChecks, passes, acceptedTree, answerOf, accepted, firstOf, readTree, judgePlan, Planned, planned, planBest}
 use Rattle.model.specs.Demand.{Lowest, PlanLent, PlanPromise, BestPromise}
 use Rattle.model.specs.declared.Answer.{Answer}
 use Rattle.model.specs.declared.Verdict.the-variants.{Feasible}
@@ -140,3 +140,10 @@ module _ (t m s : List ℕ) where
 
   pub best-promise : BestPromise t m s (planBest t m s .answer) (planBest t m s .marks)
   best-promise = record { lowest = best-low }
+
+  pub best-plan : PlanPromise t m s (planBest t m s .answer) (planBest t m s .marks) (planBest t m s .scratch)
+  best-plan = plan-promise bestMarks t m s best-judged
+
+  -- where it answers 0 it was lent what it is to be lent
+  pub best-lent : planBest t m s .answer .number ≡ 0 → PlanLent t m s
+  best-lent z = passes-lent t m s (plan-passes bestMarks t m s z)
