@@ -10,7 +10,7 @@ use balduqen_tests::model::{
     self, archive_bytes, archive_length, judge, plan_best, read, scratch_length, word, Answer,
     MAX_NODES,
 };
-use balduqen_tests::rule_sheet::{rebuild, Failed, Rebuilt};
+use balduqen_tests::rule_sheet::{rebuild, Failed, Place, Rebuilt};
 use std::collections::BTreeSet;
 
 const SHEET: &str = include_str!("../../docs/RULE-SHEET.txt");
@@ -261,16 +261,21 @@ fn example_of_a_check_that_fails() {
     let changed = changed_as_printed(section(17));
     assert_eq!(changed.len(), 1);
     let mut archive = changed[0].clone();
-    let Failed { check, place } = rebuild(&archive).expect_err("a failed check");
-    let said = format!("So check {check} fails at node {place}.");
+    let failed = rebuild(&archive).expect_err("a failed check");
+    let Place::Node(n) = failed.place else {
+        panic!("{failed}");
+    };
+    let said = format!("So check {} fails at node {n}.", failed.check);
+    assert!(section(17).contains(&said), "{said}");
+    let said = format!("write down \"{failed}\"");
     assert!(section(17).contains(&said), "{said}");
     for reader in [model::read_archive, ffi::read_archive] {
         assert!(!agree(&archive, reader));
     }
 
     let right = rebuild(&archive_of_two_pages()).expect("a sound archive");
-    assert_eq!(right.nodes[place - 1].parent, 2);
-    set_word(&mut archive, 3 + 4 * 2 + 4 * (place - 1) + 2, 1);
+    assert_eq!(right.nodes[n - 1].parent, 2);
+    set_word(&mut archive, 3 + 4 * 2 + 4 * (n - 1) + 2, 1);
     let told = rebuild(&archive).expect("a sound archive");
     assert_ne!(table_of(&told), table_of(&right));
     for reader in [model::read_archive, ffi::read_archive] {
@@ -400,6 +405,79 @@ fn set_word(archive: &mut [u8], place: usize, value: u16) {
     archive[2 * place..2 * place + 2].copy_from_slice(&value.to_be_bytes());
 }
 
+/// The lines of section 5 on what to write down: the checks, and the words for the place.
+fn places_told() -> Vec<(Vec<u32>, &'static str)> {
+    let number = |text: &str| -> u32 { text.parse().expect("a check's number") };
+    let mut told = vec![];
+    for line in section(5).lines() {
+        let Some(row) = line.strip_prefix("    check") else {
+            continue;
+        };
+        let (checks, place) = row.split_once("  ").expect("two columns");
+        let checks = checks.trim_start_matches('s').trim().replace(" and ", ", ");
+        let checks = match checks.split_once(" to ") {
+            Some((first, last)) => (number(first)..=number(last)).collect(),
+            None => checks.split(", ").map(number).collect(),
+        };
+        told.push((checks, place.trim()));
+    }
+    told
+}
+
+/// What section 5 has written down where this check fails at the node or page of that number, which
+/// is zero where there is none.
+fn failed_at(check: u32, number: usize) -> Failed {
+    let told = places_told();
+    let (_, words) = told
+        .iter()
+        .find(|(checks, _)| checks.contains(&check))
+        .expect("a line for each check");
+    let place = match *words {
+        "the number only, with no node or page" => Place::None,
+        "the node" | "the lowest node that is in two runs" => Place::Node(number),
+        "node 1" => Place::Node(1),
+        "the page" => Place::Page(number),
+        "page 1" => Place::Page(1),
+        _ => panic!("{words}"),
+    };
+    Failed { check, place }
+}
+
+/// Section 5 tells the place of each check once, and how three failures are written.
+#[test]
+fn what_to_write_down() {
+    let mut checks: Vec<u32> = places_told().into_iter().flat_map(|told| told.0).collect();
+    checks.sort_unstable();
+    assert_eq!(checks, (1..=16).collect::<Vec<u32>>());
+    let [first, second, third] = [(3, 0), (8, 4), (14, 2)].map(|(c, n)| failed_at(c, n));
+    let said = format!("So you write \"{first}\", or \"{second}\", or \"{third}\".");
+    assert!(section(5).contains(&said), "{said}");
+}
+
+/// Check 12 fails at the lowest node that is in two runs, in whatever order the runs are looked at.
+#[test]
+fn place_of_check_12() {
+    let mut seen = 0;
+    changed_runs(&mut |archive| {
+        let Err(Failed { check: 12, place }) = rebuild(archive) else {
+            return;
+        };
+        let pages = word(archive, 2);
+        let parent = |n: usize| word(archive, 3 + 4 * pages + 4 * (n - 1) + 2);
+        let mut met = BTreeSet::new();
+        let mut in_two_runs = BTreeSet::new();
+        for p in (0..pages).rev() {
+            let (first, last) = (word(archive, 3 + 4 * p), word(archive, 3 + 4 * p + 1));
+            let run = (first..=last).filter(|&n| parent(n) == parent(first));
+            in_two_runs.extend(run.filter(|&n| !met.insert(n)));
+        }
+        let lowest = in_two_runs.first().copied().expect("a node in two runs");
+        assert_eq!(place, Place::Node(lowest), "{}", show(archive));
+        seen += usize::from(in_two_runs.len() > 1);
+    });
+    assert!(seen >= 100, "{seen}");
+}
+
 /// Each check of the sheet fails for some changes to case E that leave the checks before it holding.
 #[test]
 fn each_check_can_fail() {
@@ -408,8 +486,8 @@ fn each_check_can_fail() {
     let node = |n: usize, word: usize| 3 + 4 * 3 + 4 * (n - 1) + word - 1;
     let good = archive_of_e();
     let mut seen = BTreeSet::new();
-    let mut fails = |check: u32, place: usize, archive: &[u8]| {
-        let failed = Err(Failed { check, place });
+    let mut fails = |check: u32, number: usize, archive: &[u8]| {
+        let failed = Err(failed_at(check, number));
         assert_eq!(rebuild(archive), failed, "{}", show(archive));
         assert!(!agree(archive, model::read_archive));
         seen.insert(check);
@@ -457,7 +535,16 @@ fn each_check_can_fail() {
     }
     // Two failures: the lower node or page of one check, and the lower of two checks.
     fails(6, 3, &changed_e(&[(node(3, 1), 0), (node(5, 1), 9)]));
+    fails(8, 2, &changed_e(&[(node(2, 3), 2), (node(3, 3), 2)]));
+    fails(8, 3, &changed_e(&[(node(3, 3), 3), (node(6, 3), 7)]));
+    fails(10, 2, &changed_e(&[(page(2, 1), 0), (page(3, 1), 0)]));
+    fails(11, 2, &changed_e(&[(page(2, 2), 5), (page(3, 2), 6)]));
+    fails(13, 1, &changed_e(&[(page(1, 4), 3), (page(2, 4), 2)]));
     fails(14, 2, &changed_e(&[(page(2, 3), 5), (page(3, 3), 5)]));
+    let heavy = [(2, 4), (4, 4)].map(|(n, weight)| (node(n, 1), weight));
+    let sums = [(2, 6), (3, 6)].map(|(p, sum)| (page(p, 3), sum));
+    fails(15, 2, &changed_e(&[heavy, sums].concat()));
+    fails(16, 2, &changed_e(&[(node(2, 4), 6), (node(4, 4), 0)]));
     fails(8, 6, &changed_e(&[(node(2, 4), 0), (node(6, 3), 2)]));
     fails(14, 3, &changed_e(&[(page(3, 3), 5), (node(1, 4), 2)]));
 
