@@ -35,21 +35,21 @@ impl fmt::Display for Failed {
     }
 }
 
-/// A line of the table of nodes.
+/// A line of the table of nodes: the words of its record, then what is added.
 #[derive(Clone, Debug, PartialEq, Eq)]
 pub struct Node {
     pub weight: usize,
     pub label: usize,
     /// Zero for node 1.
     pub parent: usize,
+    /// Zero if there is none.
+    pub next_node: usize,
     pub children: Vec<usize>,
     pub mark: u8,
     pub page: usize,
-    /// Zero if there is none.
-    pub next_node: usize,
 }
 
-/// A line of the table of pages.
+/// A line of the table of pages: the words of its record, then what is added.
 #[derive(Clone, Debug, PartialEq, Eq)]
 pub struct Page {
     pub first_node: usize,
@@ -59,6 +59,8 @@ pub struct Page {
     pub next_page: usize,
     pub run: Vec<usize>,
     pub nodes: Vec<usize>,
+    /// The sum of the weights of its nodes.
+    pub sum: usize,
 }
 
 /// What the sheet gets back from a sound archive. Node 1 and page 1 are at index 0.
@@ -153,10 +155,10 @@ fn rebuild_tree(lines: &[Line], head: &Head) -> Result<Vec<Node>, Failed> {
             weight: record[0],
             label: record[1],
             parent: record[2],
+            next_node: record[3],
             children: vec![],
             mark: 0,
             page: 0,
-            next_node: record[3],
         });
     }
     for (n, node) in (1..).zip(&nodes) {
@@ -181,7 +183,7 @@ fn rebuild_tree(lines: &[Line], head: &Head) -> Result<Vec<Node>, Failed> {
     Ok(nodes)
 }
 
-/// Section 8. The nodes of the pages are filled in later.
+/// Section 8. The nodes of the pages and their sums are filled in later.
 fn rebuild_runs(lines: &[Line], head: &Head, nodes: &[Node]) -> Result<Vec<Page>, Failed> {
     let mut pages = vec![];
     for record in lines {
@@ -192,6 +194,7 @@ fn rebuild_runs(lines: &[Line], head: &Head, nodes: &[Node]) -> Result<Vec<Page>
             next_page: record[3],
             run: vec![],
             nodes: vec![],
+            sum: 0,
         });
     }
     check(
@@ -247,12 +250,14 @@ fn rebuild_pages(head: &Head, nodes: &mut [Node], pages: &mut [Page]) -> Result<
         }
         pages[nodes[n - 1].page - 1].nodes.push(n);
     }
-    let sum = |page: &Page| -> usize { page.nodes.iter().map(|&n| nodes[n - 1].weight).sum() };
-    for (p, page) in (1..).zip(pages.iter()) {
-        check(14, Place::Page(p), sum(page) == page.weight)?;
+    for page in pages.iter_mut() {
+        page.sum = page.nodes.iter().map(|&n| nodes[n - 1].weight).sum();
     }
     for (p, page) in (1..).zip(pages.iter()) {
-        check(15, Place::Page(p), sum(page) <= head.limit)?;
+        check(14, Place::Page(p), page.sum == page.weight)?;
+    }
+    for (p, page) in (1..).zip(pages.iter()) {
+        check(15, Place::Page(p), page.sum <= head.limit)?;
     }
     for (n, node) in (1..).zip(nodes.iter()) {
         let of_page = &pages[node.page - 1].nodes;

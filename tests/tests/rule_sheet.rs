@@ -10,7 +10,7 @@ use balduqen_tests::model::{
     self, archive_bytes, archive_length, judge, plan_best, read, scratch_length, word, Answer,
     MAX_NODES,
 };
-use balduqen_tests::rule_sheet::{rebuild, Failed, Place, Rebuilt};
+use balduqen_tests::rule_sheet::{rebuild, Failed, Page, Place, Rebuilt};
 use std::collections::BTreeSet;
 
 const SHEET: &str = include_str!("../../docs/RULE-SHEET.txt");
@@ -189,29 +189,41 @@ fn assert_printed(told: &Rebuilt, section: &str) {
     let mut text = "    1\n".to_string();
     draw(told, 1, "    ", &mut text);
     assert!(section.contains(&text), "{text}");
-    let mut text = "    Node  Weight  Label  Parent  Mark  Page  Next node  Children\n".to_string();
+    let mut text = "    Node  Weight  Label  Parent  Next node  Children  Mark  Page\n".to_string();
     for (n, node) in (1..).zip(&told.nodes) {
         text += &format!(
-            "{n:>8}{:>8}{:>7}{:>8}{:>6}{:>6}{:>11}  {}\n",
+            "{n:>8}{:>8}{:>7}{:>8}{:>11}  {:<8}{:>6}{:>6}\n",
             node.weight,
             node.label,
             node.parent,
-            node.mark,
-            node.page,
             node.next_node,
-            list(&node.children)
+            list(&node.children),
+            node.mark,
+            node.page
         );
     }
     assert!(section.contains(&text), "{text}");
-    let mut text = "    Page  First node  Last sibling  Weight  Next page  Nodes\n".to_string();
+    // The two lists are as wide as the longest of them.
+    let width = |lists: fn(&Page) -> &[usize], name: &str| {
+        let widths = told.pages.iter().map(|page| list(lists(page)).len());
+        widths.chain([name.len()]).max().expect("a width")
+    };
+    let run_width = width(|page| &page.run, "Run");
+    let nodes_width = width(|page| &page.nodes, "Nodes");
+    let mut text = format!(
+        "    Page  First node  Last sibling  Weight  Next page  {:<run_width$}  {:<nodes_width$}  Sum\n",
+        "Run", "Nodes"
+    );
     for (p, page) in (1..).zip(&told.pages) {
         text += &format!(
-            "{p:>8}{:>12}{:>14}{:>8}{:>11}  {}\n",
+            "{p:>8}{:>12}{:>14}{:>8}{:>11}  {:<run_width$}  {:<nodes_width$}{:>5}\n",
             page.first_node,
             page.last_sibling,
             page.weight,
             page.next_page,
-            list(&page.nodes)
+            list(&page.run),
+            list(&page.nodes),
+            page.sum
         );
     }
     assert!(section.contains(&text), "{text}");
@@ -600,6 +612,7 @@ fn assert_told(told: &Rebuilt, table: &[u8], marks: &[u8], context: &[u8]) {
             (page.first, page.last)
         );
         assert_eq!(told.weight, page.weight as usize);
+        assert_eq!(told.sum, page.weight as usize);
         assert_eq!(told.nodes, page.nodes);
         let in_run: Vec<usize> = page
             .nodes
