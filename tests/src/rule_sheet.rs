@@ -266,3 +266,14 @@ fn rebuild_pages(head: &Head, nodes: &mut [Node], pages: &mut [Page]) -> Result<
     }
     Ok(())
 }
+
+/// The end of section 10: the short way to list the nodes of a page, if check 16 holds.
+pub fn list_nodes(rebuilt: &Rebuilt, p: usize) -> Vec<usize> {
+    let mut list = vec![];
+    let mut n = rebuilt.pages[p - 1].first_node;
+    while n != 0 {
+        list.push(n);
+        n = rebuilt.nodes[n - 1].next_node;
+    }
+    list
+}

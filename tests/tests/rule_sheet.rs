@@ -10,7 +10,7 @@ use balduqen_tests::model::{
     self, archive_bytes, archive_length, judge, plan_best, read, scratch_length, word, Answer,
     MAX_NODES,
 };
-use balduqen_tests::rule_sheet::{rebuild, Failed, Page, Place, Rebuilt};
+use balduqen_tests::rule_sheet::{list_nodes, rebuild, Failed, Page, Place, Rebuilt};
 use std::collections::BTreeSet;
 
 const SHEET: &str = include_str!("../../docs/RULE-SHEET.txt");
@@ -606,6 +606,9 @@ fn assert_told(told: &Rebuilt, table: &[u8], marks: &[u8], context: &[u8]) {
     }
     let pages = model::pages(&tree, marks);
     assert_eq!(told.pages.len(), pages.len());
+    for p in 1..=pages.len() {
+        assert_eq!(list_nodes(told, p), told.pages[p - 1].nodes);
+    }
     for (told, page) in told.pages.iter().zip(&pages) {
         assert_eq!(
             (told.first_node, told.last_sibling),
