@@ -266,20 +266,71 @@ fn changed_as_printed(section: &str) -> Vec<Vec<u8>> {
         .collect()
 }
 
+/// The place of a word in an archive of so many pages by its name, as 'parent of node 3'.
+fn place_named(name: &str, pages: usize) -> usize {
+    let (word, record) = name.split_once(" of ").expect("a word and a record");
+    let (kind, number) = record.split_once(' ').expect("a kind and a number");
+    let number: usize = number.parse().expect("a number");
+    let (begin, words) = match kind {
+        "page" => (3, ["first node", "last sibling", "weight", "next page"]),
+        "node" => (3 + 4 * pages, ["weight", "label", "parent", "next node"]),
+        _ => panic!("{name}"),
+    };
+    let place = words.iter().position(|&other| other == word);
+    begin + 4 * (number - 1) + place.expect("a word of the record")
+}
+
+/// The example of two pages with the one word set anew that a line of section 17 prints, for each
+/// of these lines, and where the reader stops, which is what the line has written down.
+fn failures_printed() -> Vec<(Vec<u8>, Failed)> {
+    let archive = archive_of_two_pages();
+    let mut failures = vec![];
+    for line in section(17).lines() {
+        let Some((place, bytes)) = word_printed(line) else {
+            continue;
+        };
+        let mut changed = archive.clone();
+        changed[place..place + 2].copy_from_slice(&bytes);
+        let (name, words) = line[28..].split_once(": ").expect("a name and the words");
+        assert_eq!(2 * place_named(name, 2), place, "{line}");
+        let [new, old] = [&changed, &archive].map(|archive| word(archive, place / 2));
+        assert!(words.starts_with(&format!("{new}, not {old}  ")), "{line}");
+        let failed = rebuild(&changed).expect_err("a failed check");
+        assert!(line.ends_with(&format!("  {failed}")), "{line}");
+        failures.push((changed, failed));
+    }
+    failures
+}
+
+/// What a failure at a node, at a page and of check 16 looks like when written down. The reasons
+/// that the sheet gives are true of the example, and the archives are refused with 13.
+#[test]
+fn examples_of_checks_that_fail() {
+    let failures = failures_printed();
+    let failed: Vec<Failed> = failures.iter().map(|failure| failure.1).collect();
+    let told = [(8, 4), (11, 2), (14, 2), (16, 1)].map(|(c, n)| failed_at(c, n));
+    assert_eq!(failed, told);
+    for (archive, _) in &failures {
+        for reader in [model::read_archive, ffi::read_archive] {
+            assert!(!agree(archive, reader));
+        }
+    }
+    let right = rebuild(&archive_of_two_pages()).expect("a sound archive");
+    assert_eq!(right.pages[1].first_node, 2);
+    assert_ne!(right.nodes[1].parent, right.nodes[3].parent);
+    assert_eq!(right.pages[1].sum, 13);
+    assert_eq!(right.nodes[6].page, 1);
+}
+
 /// The check and the node that the sheet names are those at which the reader stops, and the archive
 /// is refused with 13. With 1 as the parent of that node it is accepted, as another tree.
 #[test]
 fn example_of_a_check_that_fails() {
-    let changed = changed_as_printed(section(17));
-    assert_eq!(changed.len(), 1);
-    let mut archive = changed[0].clone();
-    let failed = rebuild(&archive).expect_err("a failed check");
+    let (mut archive, failed) = failures_printed().swap_remove(0);
     let Place::Node(n) = failed.place else {
         panic!("{failed}");
     };
     let said = format!("So check {} fails at node {n}.", failed.check);
-    assert!(section(17).contains(&said), "{said}");
-    let said = format!("write down \"{failed}\"");
     assert!(section(17).contains(&said), "{said}");
     for reader in [model::read_archive, ffi::read_archive] {
         assert!(!agree(&archive, reader));
