@@ -5,29 +5,51 @@
 //! sheet as well and so knew document 01: that it reads archives as the model does shows that the
 //! sheet's rules are complete, not that a stranger finds them clear.
 
+use std::fmt;
+
 /// What the sheet has written down where a check fails (section 5).
 #[derive(Clone, Copy, Debug, PartialEq, Eq)]
 pub struct Failed {
     pub check: u32,
-    /// The node or page; zero where the check is of neither.
-    pub place: usize,
+    pub place: Place,
 }
 
-/// A line of the table of nodes.
+/// Where a check failed.
+#[derive(Clone, Copy, Debug, PartialEq, Eq)]
+pub enum Place {
+    /// The number of the check only.
+    None,
+    Node(usize),
+    Page(usize),
+}
+
+/// As section 5 writes it: "check 3", "check 8, node 4", "check 14, page 2".
+impl fmt::Display for Failed {
+    fn fmt(&self, f: &mut fmt::Formatter) -> fmt::Result {
+        write!(f, "check {}", self.check)?;
+        match self.place {
+            Place::None => Ok(()),
+            Place::Node(n) => write!(f, ", node {n}"),
+            Place::Page(p) => write!(f, ", page {p}"),
+        }
+    }
+}
+
+/// A line of the table of nodes: the words of its record, then what is added.
 #[derive(Clone, Debug, PartialEq, Eq)]
 pub struct Node {
     pub weight: usize,
     pub label: usize,
     /// Zero for node 1.
     pub parent: usize,
+    /// Zero if there is none.
+    pub next_node: usize,
     pub children: Vec<usize>,
     pub mark: u8,
     pub page: usize,
-    /// Zero if there is none.
-    pub next_node: usize,
 }
 
-/// A line of the table of pages.
+/// A line of the table of pages: the words of its record, then what is added.
 #[derive(Clone, Debug, PartialEq, Eq)]
 pub struct Page {
     pub first_node: usize,
@@ -37,6 +59,8 @@ pub struct Page {
     pub next_page: usize,
     pub run: Vec<usize>,
     pub nodes: Vec<usize>,
+    /// The sum of the weights of its nodes.
+    pub sum: usize,
 }
 
 /// What the sheet gets back from a sound archive. Node 1 and page 1 are at index 0.
@@ -47,8 +71,8 @@ pub struct Rebuilt {
     pub pages: Vec<Page>,
 }
 
-/// The words as written out: the head, the page records, the node records.
-type Lines = Vec<Vec<usize>>;
+/// The words of a line as written out.
+type Line = Vec<usize>;
 
 /// N, K and P.
 struct Head {
@@ -60,8 +84,9 @@ struct Head {
 pub fn rebuild(archive: &[u8]) -> Result<Rebuilt, Failed> {
     let lines = write_out(archive);
     let head = read_head(archive, &lines)?;
-    let mut nodes = rebuild_tree(&lines, &head)?;
-    let mut pages = rebuild_runs(&lines, &head, &nodes)?;
+    let (page_lines, node_lines) = name_lines(&lines, &head);
+    let mut nodes = rebuild_tree(node_lines, &head)?;
+    let mut pages = rebuild_runs(page_lines, &head, &nodes)?;
     get_marks_back(&mut nodes, &pages);
     rebuild_pages(&head, &mut nodes, &mut pages)?;
     Ok(Rebuilt {
@@ -71,7 +96,8 @@ pub fn rebuild(archive: &[u8]) -> Result<Rebuilt, Failed> {
     })
 }
 
-fn check(number: u32, place: usize, holds: bool) -> Result<(), Failed> {
+/// A check of one node or page, or of neither. With '?' it stops at once where it fails.
+fn check(number: u32, place: Place, holds: bool) -> Result<(), Failed> {
     if holds {
         Ok(())
     } else {
@@ -87,8 +113,9 @@ fn word(bytes: &[u8]) -> usize {
     256 * usize::from(bytes[0]) + usize::from(bytes[1])
 }
 
-/// Section 5: three words on the first line, then four words on each line.
-fn write_out(archive: &[u8]) -> Lines {
+/// Section 5: three words on the first line, then four words on each line. The lines have no names
+/// yet, since N and P are not checked.
+fn write_out(archive: &[u8]) -> Vec<Line> {
     let (head, records) = archive.split_at(archive.len().min(6));
     let mut lines = vec![head];
     lines.extend(records.chunks(8));
@@ -96,45 +123,58 @@ fn write_out(archive: &[u8]) -> Lines {
     lines.into_iter().map(words).collect()
 }
 
-/// Section 6.
-fn read_head(archive: &[u8], lines: &Lines) -> Result<Head, Failed> {
-    check(1, 0, archive.len() >= 6)?;
+/// Section 6, the checks.
+fn read_head(archive: &[u8], lines: &[Line]) -> Result<Head, Failed> {
+    check(1, Place::None, archive.len() >= 6)?;
     let head = Head {
         nodes: lines[0][0],
         limit: lines[0][1],
         pages: lines[0][2],
     };
-    check(2, 0, head.nodes >= 1 && head.nodes <= 1024)?;
-    check(3, 0, head.limit >= 1 && head.limit <= 1024)?;
-    check(4, 0, head.pages >= 1 && head.pages <= head.nodes)?;
-    check(5, 0, archive.len() == 6 + 8 * head.pages + 8 * head.nodes)?;
+    check(2, Place::None, head.nodes >= 1 && head.nodes <= 1024)?;
+    check(3, Place::None, head.limit >= 1 && head.limit <= 1024)?;
+    check(4, Place::None, head.pages >= 1 && head.pages <= head.nodes)?;
+    check(
+        5,
+        Place::None,
+        archive.len() == 6 + 8 * head.pages + 8 * head.nodes,
+    )?;
     Ok(head)
 }
 
+/// Section 6, after check 5: which lines are the page records and which the node records.
+fn name_lines<'a>(lines: &'a [Line], head: &Head) -> (&'a [Line], &'a [Line]) {
+    lines[1..].split_at(head.pages)
+}
+
 /// Section 7. Marks and pages are filled in later.
-fn rebuild_tree(lines: &Lines, head: &Head) -> Result<Vec<Node>, Failed> {
+fn rebuild_tree(lines: &[Line], head: &Head) -> Result<Vec<Node>, Failed> {
     let mut nodes = vec![];
-    for record in &lines[1 + head.pages..] {
+    for record in lines {
         nodes.push(Node {
             weight: record[0],
             label: record[1],
             parent: record[2],
+            next_node: record[3],
             children: vec![],
             mark: 0,
             page: 0,
-            next_node: record[3],
         });
     }
     for (n, node) in (1..).zip(&nodes) {
-        check(6, n, node.weight >= 1 && node.weight <= head.limit)?;
+        check(
+            6,
+            Place::Node(n),
+            node.weight >= 1 && node.weight <= head.limit,
+        )?;
     }
-    check(7, 1, nodes[0].parent == 0)?;
+    check(7, Place::Node(1), nodes[0].parent == 0)?;
     for n in 2..=head.nodes {
         let mut met = vec![n - 1];
         while met[met.len() - 1] != 1 {
             met.push(nodes[met[met.len() - 1] - 1].parent);
         }
-        check(8, n, met.contains(&nodes[n - 1].parent))?;
+        check(8, Place::Node(n), met.contains(&nodes[n - 1].parent))?;
     }
     for n in 2..=head.nodes {
         let parent = nodes[n - 1].parent;
@@ -143,10 +183,10 @@ fn rebuild_tree(lines: &Lines, head: &Head) -> Result<Vec<Node>, Failed> {
     Ok(nodes)
 }
 
-/// Section 8. The nodes of the pages are filled in later.
-fn rebuild_runs(lines: &Lines, head: &Head, nodes: &[Node]) -> Result<Vec<Page>, Failed> {
+/// Section 8. The nodes of the pages and their sums are filled in later.
+fn rebuild_runs(lines: &[Line], head: &Head, nodes: &[Node]) -> Result<Vec<Page>, Failed> {
     let mut pages = vec![];
-    for record in &lines[1..=head.pages] {
+    for record in lines {
         pages.push(Page {
             first_node: record[0],
             last_sibling: record[1],
@@ -154,18 +194,23 @@ fn rebuild_runs(lines: &Lines, head: &Head, nodes: &[Node]) -> Result<Vec<Page>,
             next_page: record[3],
             run: vec![],
             nodes: vec![],
+            sum: 0,
         });
     }
-    check(9, 1, pages[0].first_node == 1 && pages[0].last_sibling == 1)?;
+    check(
+        9,
+        Place::Page(1),
+        pages[0].first_node == 1 && pages[0].last_sibling == 1,
+    )?;
     for (p, two) in (2..).zip(pages.windows(2)) {
         let (before, first) = (two[0].first_node, two[1].first_node);
-        check(10, p, first > before && first <= head.nodes)?;
+        check(10, Place::Page(p), first > before && first <= head.nodes)?;
     }
     let parent = |n: usize| nodes[n - 1].parent;
     for (p, page) in (1..).zip(&pages) {
         let (first, last) = (page.first_node, page.last_sibling);
         let is_later_sibling = last > first && last <= head.nodes && parent(last) == parent(first);
-        check(11, p, last == first || is_later_sibling)?;
+        check(11, Place::Page(p), last == first || is_later_sibling)?;
     }
     let mut runs_of = vec![0; head.nodes];
     for page in &mut pages {
@@ -176,12 +221,13 @@ fn rebuild_runs(lines: &Lines, head: &Head, nodes: &[Node]) -> Result<Vec<Page>,
             }
         }
     }
+    // In rising order, so that it fails at the lowest node that is in two runs.
     for n in 1..=head.nodes {
-        check(12, n, runs_of[n - 1] < 2)?;
+        check(12, Place::Node(n), runs_of[n - 1] < 2)?;
     }
     for (p, page) in (1..).zip(&pages) {
         let next_page = if p < head.pages { p + 1 } else { 0 };
-        check(13, p, page.next_page == next_page)?;
+        check(13, Place::Page(p), page.next_page == next_page)?;
     }
     Ok(pages)
 }
@@ -204,17 +250,30 @@ fn rebuild_pages(head: &Head, nodes: &mut [Node], pages: &mut [Page]) -> Result<
         }
         pages[nodes[n - 1].page - 1].nodes.push(n);
     }
-    let sum = |page: &Page| -> usize { page.nodes.iter().map(|&n| nodes[n - 1].weight).sum() };
-    for (p, page) in (1..).zip(pages.iter()) {
-        check(14, p, sum(page) == page.weight)?;
+    for page in pages.iter_mut() {
+        page.sum = page.nodes.iter().map(|&n| nodes[n - 1].weight).sum();
     }
     for (p, page) in (1..).zip(pages.iter()) {
-        check(15, p, sum(page) <= head.limit)?;
+        check(14, Place::Page(p), page.sum == page.weight)?;
+    }
+    for (p, page) in (1..).zip(pages.iter()) {
+        check(15, Place::Page(p), page.sum <= head.limit)?;
     }
     for (n, node) in (1..).zip(nodes.iter()) {
         let of_page = &pages[node.page - 1].nodes;
         let next_node = of_page.iter().copied().find(|&other| other > n);
-        check(16, n, node.next_node == next_node.unwrap_or(0))?;
+        check(16, Place::Node(n), node.next_node == next_node.unwrap_or(0))?;
     }
     Ok(())
+}
+
+/// The end of section 10: the short way to list the nodes of a page, if check 16 holds.
+pub fn list_nodes(rebuilt: &Rebuilt, p: usize) -> Vec<usize> {
+    let mut list = vec![];
+    let mut n = rebuilt.pages[p - 1].first_node;
+    while n != 0 {
+        list.push(n);
+        n = rebuilt.nodes[n - 1].next_node;
+    }
+    list
 }

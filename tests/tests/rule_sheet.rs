@@ -10,7 +10,7 @@ use balduqen_tests::model::{
     self, archive_bytes, archive_length, judge, plan_best, read, scratch_length, word, Answer,
     MAX_NODES,
 };
-use balduqen_tests::rule_sheet::{rebuild, Failed, Rebuilt};
+use balduqen_tests::rule_sheet::{list_nodes, rebuild, Failed, Page, Place, Rebuilt};
 use std::collections::BTreeSet;
 
 const SHEET: &str = include_str!("../../docs/RULE-SHEET.txt");
@@ -189,29 +189,41 @@ fn assert_printed(told: &Rebuilt, section: &str) {
     let mut text = "    1\n".to_string();
     draw(told, 1, "    ", &mut text);
     assert!(section.contains(&text), "{text}");
-    let mut text = "    Node  Weight  Label  Parent  Mark  Page  Next node  Children\n".to_string();
+    let mut text = "    Node  Weight  Label  Parent  Next node  Children  Mark  Page\n".to_string();
     for (n, node) in (1..).zip(&told.nodes) {
         text += &format!(
-            "{n:>8}{:>8}{:>7}{:>8}{:>6}{:>6}{:>11}  {}\n",
+            "{n:>8}{:>8}{:>7}{:>8}{:>11}  {:<8}{:>6}{:>6}\n",
             node.weight,
             node.label,
             node.parent,
-            node.mark,
-            node.page,
             node.next_node,
-            list(&node.children)
+            list(&node.children),
+            node.mark,
+            node.page
         );
     }
     assert!(section.contains(&text), "{text}");
-    let mut text = "    Page  First node  Last sibling  Weight  Next page  Nodes\n".to_string();
+    // The two lists are as wide as the longest of them.
+    let width = |lists: fn(&Page) -> &[usize], name: &str| {
+        let widths = told.pages.iter().map(|page| list(lists(page)).len());
+        widths.chain([name.len()]).max().expect("a width")
+    };
+    let run_width = width(|page| &page.run, "Run");
+    let nodes_width = width(|page| &page.nodes, "Nodes");
+    let mut text = format!(
+        "    Page  First node  Last sibling  Weight  Next page  {:<run_width$}  {:<nodes_width$}  Sum\n",
+        "Run", "Nodes"
+    );
     for (p, page) in (1..).zip(&told.pages) {
         text += &format!(
-            "{p:>8}{:>12}{:>14}{:>8}{:>11}  {}\n",
+            "{p:>8}{:>12}{:>14}{:>8}{:>11}  {:<run_width$}  {:<nodes_width$}{:>5}\n",
             page.first_node,
             page.last_sibling,
             page.weight,
             page.next_page,
-            list(&page.nodes)
+            list(&page.run),
+            list(&page.nodes),
+            page.sum
         );
     }
     assert!(section.contains(&text), "{text}");
@@ -254,23 +266,79 @@ fn changed_as_printed(section: &str) -> Vec<Vec<u8>> {
         .collect()
 }
 
+/// The place of a word in an archive of so many pages by its name, as 'parent of node 3'.
+fn place_named(name: &str, pages: usize) -> usize {
+    let (word, record) = name.split_once(" of ").expect("a word and a record");
+    let (kind, number) = record.split_once(' ').expect("a kind and a number");
+    let number: usize = number.parse().expect("a number");
+    let (begin, words) = match kind {
+        "page" => (3, ["first node", "last sibling", "weight", "next page"]),
+        "node" => (3 + 4 * pages, ["weight", "label", "parent", "next node"]),
+        _ => panic!("{name}"),
+    };
+    let place = words.iter().position(|&other| other == word);
+    begin + 4 * (number - 1) + place.expect("a word of the record")
+}
+
+/// The example of two pages with the one word set anew that a line of section 17 prints, for each
+/// of these lines, and where the reader stops, which is what the line has written down.
+fn failures_printed() -> Vec<(Vec<u8>, Failed)> {
+    let archive = archive_of_two_pages();
+    let mut failures = vec![];
+    for line in section(17).lines() {
+        let Some((place, bytes)) = word_printed(line) else {
+            continue;
+        };
+        let mut changed = archive.clone();
+        changed[place..place + 2].copy_from_slice(&bytes);
+        let (name, words) = line[28..].split_once(": ").expect("a name and the words");
+        assert_eq!(2 * place_named(name, 2), place, "{line}");
+        let [new, old] = [&changed, &archive].map(|archive| word(archive, place / 2));
+        assert!(words.starts_with(&format!("{new}, not {old}  ")), "{line}");
+        let failed = rebuild(&changed).expect_err("a failed check");
+        assert!(line.ends_with(&format!("  {failed}")), "{line}");
+        failures.push((changed, failed));
+    }
+    failures
+}
+
+/// What a failure at a node, at a page and of check 16 looks like when written down. The reasons
+/// that the sheet gives are true of the example, and the archives are refused with 13.
+#[test]
+fn examples_of_checks_that_fail() {
+    let failures = failures_printed();
+    let failed: Vec<Failed> = failures.iter().map(|failure| failure.1).collect();
+    let told = [(8, 4), (11, 2), (14, 2), (16, 1)].map(|(c, n)| failed_at(c, n));
+    assert_eq!(failed, told);
+    for (archive, _) in &failures {
+        for reader in [model::read_archive, ffi::read_archive] {
+            assert!(!agree(archive, reader));
+        }
+    }
+    let right = rebuild(&archive_of_two_pages()).expect("a sound archive");
+    assert_eq!(right.pages[1].first_node, 2);
+    assert_ne!(right.nodes[1].parent, right.nodes[3].parent);
+    assert_eq!(right.pages[1].sum, 13);
+    assert_eq!(right.nodes[6].page, 1);
+}
+
 /// The check and the node that the sheet names are those at which the reader stops, and the archive
 /// is refused with 13. With 1 as the parent of that node it is accepted, as another tree.
 #[test]
 fn example_of_a_check_that_fails() {
-    let changed = changed_as_printed(section(17));
-    assert_eq!(changed.len(), 1);
-    let mut archive = changed[0].clone();
-    let Failed { check, place } = rebuild(&archive).expect_err("a failed check");
-    let said = format!("So check {check} fails at node {place}.");
+    let (mut archive, failed) = failures_printed().swap_remove(0);
+    let Place::Node(n) = failed.place else {
+        panic!("{failed}");
+    };
+    let said = format!("So check {} fails at node {n}.", failed.check);
     assert!(section(17).contains(&said), "{said}");
     for reader in [model::read_archive, ffi::read_archive] {
         assert!(!agree(&archive, reader));
     }
 
     let right = rebuild(&archive_of_two_pages()).expect("a sound archive");
-    assert_eq!(right.nodes[place - 1].parent, 2);
-    set_word(&mut archive, 3 + 4 * 2 + 4 * (place - 1) + 2, 1);
+    assert_eq!(right.nodes[n - 1].parent, 2);
+    set_word(&mut archive, 3 + 4 * 2 + 4 * (n - 1) + 2, 1);
     let told = rebuild(&archive).expect("a sound archive");
     assert_ne!(table_of(&told), table_of(&right));
     for reader in [model::read_archive, ffi::read_archive] {
@@ -279,7 +347,8 @@ fn example_of_a_check_that_fails() {
 }
 
 /// With any of the three parents of node 4 all checks hold and the pages have the same nodes, and
-/// the library's reader accepts the archive, each time as another tree.
+/// the library's reader accepts the archive, each time as another tree. So these archives could be
+/// copies that are all sound but differ (section 11).
 #[test]
 fn example_of_a_wrong_word_that_no_check_finds() {
     let mut archives = changed_as_printed(section(18));
@@ -317,9 +386,14 @@ fn kind_of_word(place: usize, pages: usize) -> Kind {
     }
 }
 
-/// With another parent of node n no check fails only if each page has the nodes that it had. If the
-/// node has mark 0 and both parents are on one page, no check but check 8 can fail.
+/// With another parent of node 1, check 7 fails. With another parent of another node n, no check
+/// fails only if each page has the nodes that it had. If that node has mark 0 and both parents are on
+/// one page, no check but check 8 can fail.
 fn assert_other_parent(right: &Rebuilt, n: usize, parent: usize, told: &Result<Rebuilt, Failed>) {
+    if n == 1 {
+        assert_eq!(told, &Err(failed_at(7, 1)));
+        return;
+    }
     let node = &right.nodes[n - 1];
     let is_on_same_page =
         (1..=right.nodes.len()).contains(&parent) && right.nodes[parent - 1].page == node.page;
@@ -330,7 +404,7 @@ fn assert_other_parent(right: &Rebuilt, n: usize, parent: usize, told: &Result<R
             }
         }
         Err(failed) if node.mark == 0 && is_on_same_page => assert_eq!(failed.check, 8),
-        Err(failed) => assert!([7, 8, 11, 12, 14].contains(&failed.check), "{failed:?}"),
+        Err(failed) => assert!([8, 11, 12, 14].contains(&failed.check), "{failed}"),
     }
 }
 
@@ -400,6 +474,79 @@ fn set_word(archive: &mut [u8], place: usize, value: u16) {
     archive[2 * place..2 * place + 2].copy_from_slice(&value.to_be_bytes());
 }
 
+/// The lines of section 5 on what to write down: the checks, and the words for the place.
+fn places_told() -> Vec<(Vec<u32>, &'static str)> {
+    let number = |text: &str| -> u32 { text.parse().expect("a check's number") };
+    let mut told = vec![];
+    for line in section(5).lines() {
+        let Some(row) = line.strip_prefix("    check") else {
+            continue;
+        };
+        let (checks, place) = row.split_once("  ").expect("two columns");
+        let checks = checks.trim_start_matches('s').trim().replace(" and ", ", ");
+        let checks = match checks.split_once(" to ") {
+            Some((first, last)) => (number(first)..=number(last)).collect(),
+            None => checks.split(", ").map(number).collect(),
+        };
+        told.push((checks, place.trim()));
+    }
+    told
+}
+
+/// What section 5 has written down where this check fails at the node or page of that number, which
+/// is zero where there is none.
+fn failed_at(check: u32, number: usize) -> Failed {
+    let told = places_told();
+    let (_, words) = told
+        .iter()
+        .find(|(checks, _)| checks.contains(&check))
+        .expect("a line for each check");
+    let place = match *words {
+        "the number only, with no node or page" => Place::None,
+        "the node" | "the lowest node that is in two runs" => Place::Node(number),
+        "node 1" => Place::Node(1),
+        "the page" => Place::Page(number),
+        "page 1" => Place::Page(1),
+        _ => panic!("{words}"),
+    };
+    Failed { check, place }
+}
+
+/// Section 5 tells the place of each check once, and how three failures are written.
+#[test]
+fn what_to_write_down() {
+    let mut checks: Vec<u32> = places_told().into_iter().flat_map(|told| told.0).collect();
+    checks.sort_unstable();
+    assert_eq!(checks, (1..=16).collect::<Vec<u32>>());
+    let [first, second, third] = [(3, 0), (8, 4), (14, 2)].map(|(c, n)| failed_at(c, n));
+    let said = format!("So you write \"{first}\", or \"{second}\", or \"{third}\".");
+    assert!(section(5).contains(&said), "{said}");
+}
+
+/// Check 12 fails at the lowest node that is in two runs, in whatever order the runs are looked at.
+#[test]
+fn place_of_check_12() {
+    let mut seen = 0;
+    changed_runs(&mut |archive| {
+        let Err(Failed { check: 12, place }) = rebuild(archive) else {
+            return;
+        };
+        let pages = word(archive, 2);
+        let parent = |n: usize| word(archive, 3 + 4 * pages + 4 * (n - 1) + 2);
+        let mut met = BTreeSet::new();
+        let mut in_two_runs = BTreeSet::new();
+        for p in (0..pages).rev() {
+            let (first, last) = (word(archive, 3 + 4 * p), word(archive, 3 + 4 * p + 1));
+            let run = (first..=last).filter(|&n| parent(n) == parent(first));
+            in_two_runs.extend(run.filter(|&n| !met.insert(n)));
+        }
+        let lowest = in_two_runs.first().copied().expect("a node in two runs");
+        assert_eq!(place, Place::Node(lowest), "{}", show(archive));
+        seen += usize::from(in_two_runs.len() > 1);
+    });
+    assert!(seen >= 100, "{seen}");
+}
+
 /// Each check of the sheet fails for some changes to case E that leave the checks before it holding.
 #[test]
 fn each_check_can_fail() {
@@ -408,8 +555,8 @@ fn each_check_can_fail() {
     let node = |n: usize, word: usize| 3 + 4 * 3 + 4 * (n - 1) + word - 1;
     let good = archive_of_e();
     let mut seen = BTreeSet::new();
-    let mut fails = |check: u32, place: usize, archive: &[u8]| {
-        let failed = Err(Failed { check, place });
+    let mut fails = |check: u32, number: usize, archive: &[u8]| {
+        let failed = Err(failed_at(check, number));
         assert_eq!(rebuild(archive), failed, "{}", show(archive));
         assert!(!agree(archive, model::read_archive));
         seen.insert(check);
@@ -457,7 +604,16 @@ fn each_check_can_fail() {
     }
     // Two failures: the lower node or page of one check, and the lower of two checks.
     fails(6, 3, &changed_e(&[(node(3, 1), 0), (node(5, 1), 9)]));
+    fails(8, 2, &changed_e(&[(node(2, 3), 2), (node(3, 3), 2)]));
+    fails(8, 3, &changed_e(&[(node(3, 3), 3), (node(6, 3), 7)]));
+    fails(10, 2, &changed_e(&[(page(2, 1), 0), (page(3, 1), 0)]));
+    fails(11, 2, &changed_e(&[(page(2, 2), 5), (page(3, 2), 6)]));
+    fails(13, 1, &changed_e(&[(page(1, 4), 3), (page(2, 4), 2)]));
     fails(14, 2, &changed_e(&[(page(2, 3), 5), (page(3, 3), 5)]));
+    let heavy = [(2, 4), (4, 4)].map(|(n, weight)| (node(n, 1), weight));
+    let sums = [(2, 6), (3, 6)].map(|(p, sum)| (page(p, 3), sum));
+    fails(15, 2, &changed_e(&[heavy, sums].concat()));
+    fails(16, 2, &changed_e(&[(node(2, 4), 6), (node(4, 4), 0)]));
     fails(8, 6, &changed_e(&[(node(2, 4), 0), (node(6, 3), 2)]));
     fails(14, 3, &changed_e(&[(page(3, 3), 5), (node(1, 4), 2)]));
 
@@ -507,12 +663,16 @@ fn assert_told(told: &Rebuilt, table: &[u8], marks: &[u8], context: &[u8]) {
     }
     let pages = model::pages(&tree, marks);
     assert_eq!(told.pages.len(), pages.len());
+    for p in 1..=pages.len() {
+        assert_eq!(list_nodes(told, p), told.pages[p - 1].nodes);
+    }
     for (told, page) in told.pages.iter().zip(&pages) {
         assert_eq!(
             (told.first_node, told.last_sibling),
             (page.first, page.last)
         );
         assert_eq!(told.weight, page.weight as usize);
+        assert_eq!(told.sum, page.weight as usize);
         assert_eq!(told.nodes, page.nodes);
         let in_run: Vec<usize> = page
             .nodes
