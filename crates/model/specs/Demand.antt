@@ -1,5 +1,6 @@
--- The demands in the words of their document, as the entries promise them beside their equations. Demand 3 speaks of sibling runs told from the
--- tree alone: what the lowest plan there is means, of a planner's answer and marks and of an archive's bytes, and when a tree is refused for weight.
+-- The demands in the words of their document, as the entries promise them beside their equations. Demand 3 speaks of
+-- sibling runs told from the tree alone: what the lowest plan there is means, of a planner's answer and marks and of
+-- an archive's bytes, and when a tree is refused for weight.
 use Prim.Native.Nat.{ℕ, _≤_}
 use mathlib.Core.Path.{_≡_}
 use mathlib.Core.Bool.{true}
@@ -17,10 +18,11 @@ use Rattle.model.specs.declared.Verdict.the-variants.{Feasible}
 
 -- ---- The lowest there is
 
--- A sequence of sibling runs that holds the tree within the page limit has at least P runs and, where it has exactly P, a root page of
--- at least W; and the runs rs are such a sequence, with exactly P runs and root page W.
+-- A sequence of sibling runs that holds the tree within the page limit has at least P runs and, where it has exactly
+-- P, a root page of at least W; and the runs rs are such a sequence, with exactly P runs and root page W.
 pub record Lowest (t : List ℕ) (P W : ℕ) (rs : List Run) : Type 0 where
-  pub least : (qs : List Run) → holds t qs ≡ true → withinLimit t qs ≡ true → (P ≤ runCount qs) × (runCount qs ≡ P → W ≤ rootWeight t qs)
+  pub least : (qs : List Run) → holds t qs ≡ true → withinLimit t qs ≡ true
+      → (P ≤ runCount qs) × (runCount qs ≡ P → W ≤ rootWeight t qs)
   pub held : holds t rs ≡ true
   pub within : withinLimit t rs ≡ true
   pub count : runCount rs ≡ P
@@ -32,7 +34,8 @@ pub record HeldWithin (t : List ℕ) : Type 0 where
   pub held : holds t runs ≡ true
   pub within : withinLimit t runs ≡ true
 
--- Of the answer r to the table t: a tree of sound form is refused with 7 exactly when no sequence of sibling runs holds it within the limit.
+-- Of the answer r to the table t: a tree of sound form is refused with 7 exactly when no sequence of sibling runs
+-- holds it within the limit.
 abbrev pub WeightPromise : List ℕ → Answer → Type 0
 WeightPromise t r = soundForm t ≡ true → (r .number ≡ 7) ↔ (HeldWithin t → ⊥)
 
@@ -44,16 +47,18 @@ pub record PlanLent (t m s : List ℕ) : Type 0 where
   pub marks : length m ≡ nodeCount t
   pub scratch : scratchWords (nodeCount t) (limitOf t) ≤ length s
 
--- What each planner says with its answer r, and the marks and the scratch that it leaves, where it was lent the table t, the marks m and the
--- scratch s. Lent what it is to be lent, it accepts: the marks are a feasible plan, and its verdict has their page count and root weight. On
--- refusal the marks and the scratch are as lent, and 7 is exact.
+-- What each planner says with its answer r, and the marks and the scratch that it leaves, where it was lent the
+-- table t, the marks m and the scratch s. Lent what it is to be lent, it accepts: the marks are a feasible plan, and
+-- its verdict has their page count and root weight. On refusal the marks and the scratch are as lent, and 7 is
+-- exact.
 pub record PlanPromise (t m s : List ℕ) (r : Answer) (marks scratch : List ℕ) : Type 0 where
-  pub accepts : PlanLent t m s → (r ≡ answerOf (Feasible (pageCount t marks) (pageWeight t marks 1))) × (feasiblePlan t marks ≡ true)
+  pub accepts : PlanLent t m s
+      → (r ≡ answerOf (Feasible (pageCount t marks) (pageWeight t marks 1))) × (feasiblePlan t marks ≡ true)
   pub kept : (r .number ≡ 0 → ⊥) → (marks ≡ m) × (scratch ≡ s)
   pub weight : WeightPromise t r
 
--- What the best planner says besides: lent what it is to be lent, page count and root weight of its verdict are the lowest there are, and the
--- runs of the marks that it leaves have just these.
+-- What the best planner says besides: lent what it is to be lent, page count and root weight of its verdict are the
+-- lowest there are, and the runs of the marks that it leaves have just these.
 pub record BestPromise (t m s : List ℕ) (r : Answer) (marks : List ℕ) : Type 0 where
   pub lowest : PlanLent t m s → (P : ℕ) × (W : ℕ) × (r ≡ answerOf (Feasible P W)) × Lowest t P W (runsOf t marks)
 
@@ -71,21 +76,25 @@ runsIn a = listTo (pagesIn a) (λ q. runIn a q ∷ [])
 unfoldable pub rootIn : List ℕ → ℕ
 rootIn a = pageFieldIn a 1 2
 
--- The planner's answer p and the writer's answer r both carry the archive's page count P and the weight W in page record 1. Every sequence of
--- sibling runs that holds the table's tree within the page limit has at least P runs and, where it has exactly P, a root page of at least W. The
--- archive's own runs are such a sequence, with exactly P runs and root page W.
+-- The planner's answer p and the writer's answer r both carry the archive's page count P and the weight W in page
+-- record 1. Every sequence of sibling runs that holds the table's tree within the page limit has at least P runs
+-- and, where it has exactly P, a root page of at least W. The archive's own runs are such a sequence, with exactly P
+-- runs and root page W.
 pub record LowestOnFilm (t a : List ℕ) (p r : Answer) : Type 0 where
   pub planner : p ≡ answerOf (Feasible (pagesIn a) (rootIn a))
   pub writer : r ≡ answerOf (Feasible (pagesIn a) (rootIn a))
   pub lowest : Lowest t (pagesIn a) (rootIn a) (runsIn a)
 
--- What the writer says with its answer r and the archive a that it leaves, where it was lent the table t, the marks m and the output out. Marks
--- that the best planner left for this table, whatever else it was lent, it accepts where the output is as long as the planner's page count
--- asks, and the archive of them is the lowest. On refusal the output is as lent, and 7 is exact.
+-- What the writer says with its answer r and the archive a that it leaves, where it was lent the table t, the marks
+-- m and the output out. Marks that the best planner left for this table, whatever else it was lent, it accepts where
+-- the output is as long as the planner's page count asks, and the archive of them is the lowest. On refusal the
+-- output is as lent, and 7 is exact.
 pub record WritePromise (t m out : List ℕ) (r : Answer) (a : List ℕ) : Type 0 where
-  pub accepts : (lent scratch : List ℕ) (P W : ℕ) → planBest t lent scratch .answer ≡ answerOf (Feasible P W) → planBest t lent scratch .marks ≡ m
+  pub accepts : (lent scratch : List ℕ) (P W : ℕ)
+      → planBest t lent scratch .answer ≡ answerOf (Feasible P W) → planBest t lent scratch .marks ≡ m
       → length out ≡ archiveBytes P (nodeCount t) → r .number ≡ 0
-  pub lowest : (lent scratch : List ℕ) → planBest t lent scratch .answer .number ≡ 0 → planBest t lent scratch .marks ≡ m
+  pub lowest : (lent scratch : List ℕ)
+      → planBest t lent scratch .answer .number ≡ 0 → planBest t lent scratch .marks ≡ m
       → r .number ≡ 0 → LowestOnFilm t a (planBest t lent scratch .answer) r
   pub kept : (r .number ≡ 0 → ⊥) → a ≡ out
   pub weight : WeightPromise t r
@@ -97,13 +106,16 @@ pub record WrittenFrom (t m a : List ℕ) : Type 0 where
   pub accepts : writeArchive t m out .answer .number ≡ 0
   pub leaves : writeArchive t m out .archive ≡ a
 
--- What the reader says with its answer r, and the table t and the marks m that it leaves, where it was lent the archive a and the buffers table
--- and marks. An archive that was written reads back as the very table and marks it was written from, where the buffers are as long as these. What
--- is read is an accepted tree and a feasible plan, and the writer gives this very archive for them, with this answer. 13 means that no table and
--- marks write the archive. On refusal both buffers are as lent.
+-- What the reader says with its answer r, and the table t and the marks m that it leaves, where it was lent the
+-- archive a and the buffers table and marks. An archive that was written reads back as the very table and marks it
+-- was written from, where the buffers are as long as these. What is read is an accepted tree and a feasible plan,
+-- and the writer gives this very archive for them, with this answer. 13 means that no table and marks write the
+-- archive. On refusal both buffers are as lent.
 pub record ReadPromise (a table marks : List ℕ) (r : Answer) (t m : List ℕ) : Type 0 where
-  pub back : (u n : List ℕ) → WrittenFrom u n a → length table ≡ length u → length marks ≡ length n → (r .number ≡ 0) × (t ≡ u) × (m ≡ n)
+  pub back : (u n : List ℕ) → WrittenFrom u n a → length table ≡ length u → length marks ≡ length n
+      → (r .number ≡ 0) × (t ≡ u) × (m ≡ n)
   pub sound : r .number ≡ 0 → (acceptedTree t ≡ true) × (feasiblePlan t m ≡ true)
-  pub again : r .number ≡ 0 → (out : List ℕ) → length out ≡ length a → writeArchive t m out ≡ record { answer = r; archive = a }
+  pub again : r .number ≡ 0 → (out : List ℕ) → length out ≡ length a
+      → writeArchive t m out ≡ record { answer = r; archive = a }
   pub none : (r .number ≡ 13) ↔ ((u n : List ℕ) → WrittenFrom u n a → ⊥)
   pub kept : (r .number ≡ 0 → ⊥) → (t ≡ table) × (m ≡ marks)
