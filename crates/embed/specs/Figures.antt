@@ -17,4 +17,4 @@ figuresWith n p (Given v) = figuresBy n p v
 figuresWith n p Nothing = record { number = n; place = p; pages = 0; root = 0 }
 
 abbrev pub figuresOf : Answer → Figures
-figuresOf a = figuresWith (a .number) (a .place) (a .verdict)
+figuresOf a = figuresWith (a .number) (a .place) (a .beside)

@@ -41,7 +41,7 @@ fn flatten(answer: Answer) -> Figures
 {
     let number = answer.number;
     let place = answer.place;
-    let beside = answer.verdict;
+    let beside = answer.beside;
     match beside {
         Beside::Given(verdict) => with_verdict(number, place, verdict),
         Beside::Nothing => Figures {

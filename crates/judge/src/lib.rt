@@ -45,7 +45,7 @@ fn give(verdict: Verdict) -> Answer
         Verdict::Feasible { pages, root } => Answer {
             number: 0,
             place: 0,
-            verdict: Beside::Given(Verdict::Feasible { pages, root }),
+            beside: Beside::Given(Verdict::Feasible { pages, root }),
         },
         Verdict::Failed(cause) => give_cause(cause),
     }
@@ -59,12 +59,12 @@ fn give_cause(cause: Cause) -> Answer
         Cause::BadMark(v) => Answer {
             number: 10,
             place: v,
-            verdict: Beside::Given(Verdict::Failed(Cause::BadMark(v))),
+            beside: Beside::Given(Verdict::Failed(Cause::BadMark(v))),
         },
         Cause::HeavyPage(p) => Answer {
             number: 11,
             place: p,
-            verdict: Beside::Given(Verdict::Failed(Cause::HeavyPage(p))),
+            beside: Beside::Given(Verdict::Failed(Cause::HeavyPage(p))),
         },
     }
 }

@@ -65,7 +65,7 @@ pub plans : (List ℕ → List ℕ → List ℕ → Planned) → List ℕ → Li
 plans planner t m p r =
     let words : ℕ = scratchWords (nodeCount t) (limitOf t) in
     let out : Planned = planner t (replicate (nodeCount t) 9) (replicate words 7) in
-    answers (out .answer) 0 0 && saysFeasible (out .answer .verdict) p r && sameList (out .marks) m
+    answers (out .answer) 0 0 && saysFeasible (out .answer .beside) p r && sameList (out .marks) m
     && sameList (out .scratch) (replicate words 0)
     && holds t (runsOf t m) && withinLimit t (runsOf t m) && eqb (runCount (runsOf t m)) p && eqb (rootWeight t (runsOf t m)) r
 

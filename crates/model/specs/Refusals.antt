@@ -32,14 +32,14 @@ placeOf (Failed (HeavyPage p)) = p
 
 -- the answer with a verdict: the one way from a verdict to its number and place
 abbrev pub answerOf : Verdict → Answer
-answerOf v = record { number = numberOf v; place = placeOf v; verdict = Given v }
+answerOf v = record { number = numberOf v; place = placeOf v; beside = Given v }
 
--- before a verdict: a refusal, and acceptance where no plan is given or made
+-- with no verdict: every other refusal, and acceptance where no plan is given or made
 abbrev pub refused : ℕ → ℕ → Answer
-refused n p = record { number = n; place = p; verdict = Nothing }
+refused n p = record { number = n; place = p; beside = Nothing }
 
 abbrev pub accepted : Answer
-accepted = record { number = 0; place = 0; verdict = Nothing }
+accepted = record { number = 0; place = 0; beside = Nothing }
 
 -- a check: the answer that it gives at a place, and its place where its condition holds
 pub record Check : Type 0 where

@@ -18,15 +18,16 @@ pub enum Verdict {
     Failed(Cause),
 }
 
-// What stands beside a number and a place: the verdict of a plan that was judged, or nothing, where the answer comes before a verdict.
+// What stands beside a number and a place: the judge's verdict with acceptance and with 10 and 11, wherever a plan is given or made; and nothing
+// with every other refusal, and from the tree reader.
 pub enum Beside {
     Given(Verdict),
     Nothing,
 }
 
-// A number and a place, 0 and 0 for acceptance, with the verdict beside it wherever a plan is given or made.
+// A number and a place, 0 and 0 for acceptance, and what stands beside them.
 pub struct Answer {
     pub number: u32,
     pub place: u32,
-    pub verdict: Beside,
+    pub beside: Beside,
 }

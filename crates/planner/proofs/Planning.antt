@@ -41,27 +41,27 @@ module _ (t m s : List ℕ) (r : Answer) (is : r ≡ firstOf (planChecks t m s) 
   number-is : r .number ≡ firstOf (planChecks t m s) accepted .number
   number-is = ap (λ (a : Answer). a .number) is
 
-  plan-passes : r .number ≡ 0 → passes (planChecks t m s) ≡ true
-  plan-passes e = accepted-pass (planChecks t m s) accepted (plan-never t m s) (sym number-is ∙ e)
+  checks-pass : r .number ≡ 0 → passes (planChecks t m s) ≡ true
+  checks-pass e = accepted-pass (planChecks t m s) accepted (plan-never t m s) (sym number-is ∙ e)
 
-  plan-fails : (r .number ≡ 0 → ⊥) → passes (planChecks t m s) ≡ false
-  plan-fails h = refused-fails (planChecks t m s) accepted refl (λ z. h (number-is ∙ z))
+  checks-fail : (r .number ≡ 0 → ⊥) → passes (planChecks t m s) ≡ false
+  checks-fail h = refused-fails (planChecks t m s) accepted refl (λ z. h (number-is ∙ z))
 
   -- nothing is refused
   pub plan-ready : r .number ≡ 0 → PlanReady t m s
   plan-ready e =
-      let ready = passes-lent t m s (plan-passes e) in
+      let ready = passes-lent t m s (checks-pass e) in
       record { tree = accepted-facts t (ready .tree); marks-long = ready .marks; words = ready .scratch }
 
   module _ (steps : ℕ → Chain → List ℕ) where
     -- a refusal leaves everything as it was
     pub plan-refused : (r .number ≡ 0 → ⊥) → outcome r m s ≡ planned steps t m s
-    plan-refused h = ap (λ (a : Answer). outcome a m s) is ∙ sym (planned-refused steps t m s (plan-fails h))
+    plan-refused h = ap (λ (a : Answer). outcome a m s) is ∙ sym (planned-refused steps t m s (checks-fail h))
 
     -- marks that are laid, a scratch that is cleared, and the judge's answer
     pub plan-made : r .number ≡ 0 → (a : Answer) (m′ s′ : List ℕ) → m′ ≡ steps (limitOf t) (treeOf t) → s′ ≡ replicate (length s) 0
         → a ≡ judgePlan t m′ → outcome a m′ s′ ≡ planned steps t m s
-    plan-made e a m′ s′ p q j = rw (j, p, q) (sym (planned-done steps t m s (plan-passes e)))
+    plan-made e a m′ s′ p q j = rw (j, p, q) (sym (planned-done steps t m s (checks-pass e)))
 
 -- ---- The promises, of what is left
 

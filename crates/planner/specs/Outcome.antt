@@ -31,7 +31,7 @@ steps-judged Level a = level-judged a
 steps-judged Single a = single-judged a
 steps-judged Pair a = pair-judged a
 
--- the tree is accepted, the marks are one a node, and the scratch is long enough
+-- what PlanLent says, with the facts of an accepted tree: the marks are one a node, and the scratch is long enough
 pub record PlanReady (t a s : List ℕ) : Type 0 where
   pub tree : AcceptedFacts t
   pub marks-long : length a ≡ nodeCount t

@@ -27,14 +27,14 @@ pub const MAX_LIMIT: u16 = 1024;
 // A place for each node or page by number, and one for 0.
 pub const SLOTS: usize = MAX_NODES as usize + 1;
 
-// A refusal that comes before a verdict.
+// A refusal with no verdict beside it.
 pub fn refuse(number: u32, place: u32) -> Answer
     ensures { λ r. ⌜ r ≡ refused number place ⌝ }
 {
     Answer {
         number,
         place,
-        verdict: Beside::Nothing,
+        beside: Beside::Nothing,
     }
 }
 
@@ -98,7 +98,7 @@ pub fn accept() -> Answer
     Answer {
         number: 0,
         place: 0,
-        verdict: Beside::Nothing,
+        beside: Beside::Nothing,
     }
 }
 

@@ -79,7 +79,7 @@ module _ {t m s marks scratch : List ℕ} {r : Answer} (p : PlanPromise t m s r 
       let low = b .lowest ready in
       let count : low .0 ≡ pagesIn (archiveOf t marks) = sym (low .3 .count) ∙ length-runsOf t marks ∙ sym (archive-pages t marks) in
       let root : low .1 ≡ rootIn (archiveOf t marks) =
-      ap (λ (x : Answer). rootBeside (x .verdict)) (sym (low .2) ∙ answer) ∙ sym root-back in
+      ap (λ (x : Answer). rootBeside (x .beside)) (sym (low .2) ∙ answer) ∙ sym root-back in
       record {
         planner = answer ∙ film-figures;
         writer = ap answerOf (judged-verdict judged) ∙ film-figures;

@@ -54,7 +54,7 @@ module _ (t m out : List ℕ) where
         → length out ≡ archiveBytes P (nodeCount t) → writeArchive t m out .answer .number ≡ 0
     best-accepted P W e is long =
         let judged : judgePlan t m .number ≡ 0 = judge-zero t m (rw is at (plan-feasible (best-plan t lent scratch) lent-right)) in
-        let count : P ≡ pageCount t m = ap (λ (a : Answer). pagesBeside (a .verdict)) (sym e ∙ best-plan t lent scratch .accepts lent-right .0) ∙ ap (pageCount t) is in
+        let count : P ≡ pageCount t m = ap (λ (a : Answer). pagesBeside (a .beside)) (sym e ∙ best-plan t lent scratch .accepts lent-right .0) ∙ ap (pageCount t) is in
         ap (λ (w : Written). w .answer .number) (sym (write-done t m out judged (long ∙ ap (λ n. archiveBytes n (nodeCount t)) count))) ∙ judged
 
   refused-kept : (writeArchive t m out .answer .number ≡ 0 → ⊥) → writeArchive t m out .archive ≡ out
