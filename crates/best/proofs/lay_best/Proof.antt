@@ -8,15 +8,6 @@ use borrow.Author.Needs.{needs}
 use Rattle.best.proofs.lay_best.Statement.{statement}
 use Rattle.best.proofs.lay_best.Tie as tie
 
-link-before-requires : tie.Need-link-before-requires
-link-before-requires c κs = search needs
-
-limit-of-requires : tie.Need-limit-of-requires
-limit-of-requires c κs = search needs
-
-cast-open-block : tie.Need-cast-open-block
-cast-open-block c = search needs
-
 open-block-requires : tie.Need-open-block-requires
 open-block-requires c κs =
     let b = c .before .before .before .before .before .before in
@@ -37,12 +28,6 @@ lay-nodes-requires c κs =
     let b = x .before .before .before .before .before .before .before .before .before .before .before .before .before .before .before in
     ((b .args .gainful, x .plan-nodes .ensures), b .pre .1)
 
-same-length : tie.Need-same-length
-same-length c = search needs
-
-same-length-2 : tie.Need-same-length-2
-same-length-2 c = search needs
-
 returns : tie.Need-returns
 returns c =
     let y = c .before .before in
@@ -53,13 +38,5 @@ returns c =
 pub lay-best-spec : {M : Type 1} → statement M
 lay-best-spec =
     tie.close
-    (tie.spec
-    link-before-requires
-    limit-of-requires
-    cast-open-block
-    open-block-requires
-    plan-nodes-requires
-    lay-nodes-requires
-    same-length
-    same-length-2
-    returns)
+    (tie.spec (λ c κs. search needs) (λ c κs. search needs) (λ c. search needs) open-block-requires
+    plan-nodes-requires lay-nodes-requires (λ c. search needs) (λ c. search needs) returns)

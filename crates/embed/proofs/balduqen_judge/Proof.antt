@@ -5,12 +5,6 @@ use borrow.Author.Needs.{needs}
 use Rattle.embed.proofs.balduqen_judge.Statement.{statement}
 use Rattle.embed.proofs.balduqen_judge.Tie as tie
 
-judge-plan-requires : tie.Need-judge-plan-requires
-judge-plan-requires c κs = search needs
-
-flatten-requires : tie.Need-flatten-requires
-flatten-requires c κs = search needs
-
 returns : tie.Need-returns
 returns c =
     let p = c .before .judge-plan in
@@ -18,4 +12,4 @@ returns c =
     (same ∙ ap figuresOf (p .ensures .0), record { answer = p .result; figures = same; promise = p .ensures .1 })
 
 pub balduqen-judge-spec : {M : Type 1} → statement M
-balduqen-judge-spec = tie.close (tie.spec judge-plan-requires flatten-requires returns)
+balduqen-judge-spec = tie.close (tie.spec (λ c κs. search needs) (λ c κs. search needs) returns)

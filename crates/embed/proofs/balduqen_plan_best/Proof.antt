@@ -6,18 +6,6 @@ use borrow.Author.Needs.{needs}
 use Rattle.embed.proofs.balduqen_plan_best.Statement.{statement}
 use Rattle.embed.proofs.balduqen_plan_best.Tie as tie
 
-plan-best-requires : tie.Need-plan-best-requires
-plan-best-requires c κs = search needs
-
-flatten-requires : tie.Need-flatten-requires
-flatten-requires c κs = search needs
-
-same-length : tie.Need-same-length
-same-length c = search needs
-
-same-length-2 : tie.Need-same-length-2
-same-length-2 c = search needs
-
 returns : tie.Need-returns
 returns c =
     let p = c .before .before .before .before .before .plan-best in
@@ -31,4 +19,4 @@ returns c =
 
 pub balduqen-plan-best-spec : {M : Type 1} → statement M
 balduqen-plan-best-spec =
-    tie.close (tie.spec plan-best-requires flatten-requires same-length same-length-2 returns)
+    tie.close (tie.spec (λ c κs. search needs) (λ c κs. search needs) (λ c. search needs) (λ c. search needs) returns)

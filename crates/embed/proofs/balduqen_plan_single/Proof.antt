@@ -6,18 +6,6 @@ use borrow.Author.Needs.{needs}
 use Rattle.embed.proofs.balduqen_plan_single.Statement.{statement}
 use Rattle.embed.proofs.balduqen_plan_single.Tie as tie
 
-plan-single-requires : tie.Need-plan-single-requires
-plan-single-requires c κs = search needs
-
-flatten-requires : tie.Need-flatten-requires
-flatten-requires c κs = search needs
-
-same-length : tie.Need-same-length
-same-length c = search needs
-
-same-length-2 : tie.Need-same-length-2
-same-length-2 c = search needs
-
 returns : tie.Need-returns
 returns c =
     let p = c .before .before .before .before .before .plan-single in
@@ -28,4 +16,4 @@ returns c =
 
 pub balduqen-plan-single-spec : {M : Type 1} → statement M
 balduqen-plan-single-spec =
-    tie.close (tie.spec plan-single-requires flatten-requires same-length same-length-2 returns)
+    tie.close (tie.spec (λ c κs. search needs) (λ c κs. search needs) (λ c. search needs) (λ c. search needs) returns)

@@ -6,18 +6,6 @@ use borrow.Author.Needs.{needs}
 use Rattle.embed.proofs.balduqen_read_archive.Statement.{statement}
 use Rattle.embed.proofs.balduqen_read_archive.Tie as tie
 
-read-archive-requires : tie.Need-read-archive-requires
-read-archive-requires c κs = search needs
-
-flatten-requires : tie.Need-flatten-requires
-flatten-requires c κs = search needs
-
-same-length : tie.Need-same-length
-same-length c = search needs
-
-same-length-2 : tie.Need-same-length-2
-same-length-2 c = search needs
-
 returns : tie.Need-returns
 returns c =
     let p = c .before .before .before .before .before .read-archive in
@@ -26,4 +14,4 @@ returns c =
 
 pub balduqen-read-archive-spec : {M : Type 1} → statement M
 balduqen-read-archive-spec =
-    tie.close (tie.spec read-archive-requires flatten-requires same-length same-length-2 returns)
+    tie.close (tie.spec (λ c κs. search needs) (λ c κs. search needs) (λ c. search needs) (λ c. search needs) returns)

@@ -5,12 +5,6 @@ use borrow.Author.Needs.{needs}
 use Rattle.embed.proofs.balduqen_read_tree.Statement.{statement}
 use Rattle.embed.proofs.balduqen_read_tree.Tie as tie
 
-read-tree-requires : tie.Need-read-tree-requires
-read-tree-requires c κs = search needs
-
-flatten-requires : tie.Need-flatten-requires
-flatten-requires c κs = search needs
-
 returns : tie.Need-returns
 returns c =
     let p = c .before .read-tree in
@@ -18,4 +12,4 @@ returns c =
     (same ∙ ap figuresOf (p .ensures .0), record { answer = p .result; figures = same; promise = p .ensures .1 })
 
 pub balduqen-read-tree-spec : {M : Type 1} → statement M
-balduqen-read-tree-spec = tie.close (tie.spec read-tree-requires flatten-requires returns)
+balduqen-read-tree-spec = tie.close (tie.spec (λ c κs. search needs) (λ c κs. search needs) returns)

@@ -6,15 +6,6 @@ use borrow.Author.Needs.{needs}
 use Rattle.embed.proofs.balduqen_write_archive.Statement.{statement}
 use Rattle.embed.proofs.balduqen_write_archive.Tie as tie
 
-write-archive-requires : tie.Need-write-archive-requires
-write-archive-requires c κs = search needs
-
-flatten-requires : tie.Need-flatten-requires
-flatten-requires c κs = search needs
-
-same-length : tie.Need-same-length
-same-length c = search needs
-
 returns : tie.Need-returns
 returns c =
     let p = c .before .before .before .write-archive in
@@ -23,4 +14,4 @@ returns c =
 
 pub balduqen-write-archive-spec : {M : Type 1} → statement M
 balduqen-write-archive-spec =
-    tie.close (tie.spec write-archive-requires flatten-requires same-length returns)
+    tie.close (tie.spec (λ c κs. search needs) (λ c κs. search needs) (λ c. search needs) returns)

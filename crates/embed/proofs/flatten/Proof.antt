@@ -5,12 +5,6 @@ use borrow.Author.Needs.{needs}
 use Rattle.embed.proofs.flatten.Statement.{statement}
 use Rattle.embed.proofs.flatten.Tie as tie
 
-enum-known-beside : tie.Need-enum-known-beside
-enum-known-beside c = search needs
-
-with-verdict-requires : tie.Need-with-verdict-requires
-with-verdict-requires c κs = search needs
-
 enum-told : tie.Need-enum-told
 enum-told c = search needs
 
@@ -21,4 +15,4 @@ returns-2 : tie.Need-returns-2
 returns-2 c = sym (ap (figuresWith _ _) (c .enum-told .given .1))
 
 pub flatten-spec : {M : Type 1} → statement M
-flatten-spec = tie.close (tie.spec enum-known-beside with-verdict-requires enum-told returns returns-2)
+flatten-spec = tie.close (tie.spec (λ c. search needs) (λ c κs. search needs) enum-told returns returns-2)

@@ -5,9 +5,6 @@ use borrow.Author.Needs.{needs}
 use Rattle.embed.proofs.with_verdict.Statement.{statement}
 use Rattle.embed.proofs.with_verdict.Tie as tie
 
-enum-known-verdict : tie.Need-enum-known-verdict
-enum-known-verdict c = search needs
-
 enum-told : tie.Need-enum-told
 enum-told c = search needs
 
@@ -18,4 +15,4 @@ returns-2 : tie.Need-returns-2
 returns-2 c = sym (ap (figuresBy _ _) (c .enum-told .given .1))
 
 pub with-verdict-spec : {M : Type 1} → statement M
-with-verdict-spec = tie.close (tie.spec enum-known-verdict enum-told returns returns-2)
+with-verdict-spec = tie.close (tie.spec (λ c. search needs) enum-told returns returns-2)

@@ -5,23 +5,14 @@ use borrow.Author.Needs.{needs}
 use Rattle.judge.proofs.find_verdict.Statement.{statement}
 use Rattle.judge.proofs.find_verdict.Tie as tie
 
-enum-known-bad : tie.Need-enum-known-bad
-enum-known-bad c = search needs
-
 returns : tie.Need-returns
 returns c = sym (atPlace-at _ _ _ _ (c .before .bad .given .1))
 
 enum-told : tie.Need-enum-told
 enum-told c = search needs
 
-enum-known-heavy : tie.Need-enum-known-heavy
-enum-known-heavy c = search needs
-
 returns-2 : tie.Need-returns-2
 returns-2 c = sym (atPlace-nowhere _ _ _ (c .before .before .before .enum-told .given .1) ∙ atPlace-at _ _ _ _ (c .before .heavy .given .1))
-
-enum-told-2 : tie.Need-enum-told-2
-enum-told-2 c = search needs
 
 returns-3 : tie.Need-returns-3
 returns-3 c = sym (atPlace-nowhere _ _ _ (c .before .before .enum-told .given .1) ∙ atPlace-nowhere _ _ _ (c .enum-told2 .given .1))
@@ -29,4 +20,4 @@ returns-3 c = sym (atPlace-nowhere _ _ _ (c .before .before .enum-told .given .1
 pub find-verdict-spec : {M : Type 1} → statement M
 find-verdict-spec =
     tie.close
-    (tie.spec enum-known-bad returns enum-told enum-known-heavy returns-2 enum-told-2 returns-3)
+    (tie.spec (λ c. search needs) returns enum-told (λ c. search needs) returns-2 (λ c. search needs) returns-3)

@@ -5,15 +5,6 @@ use borrow.Author.Needs.{needs}
 use Rattle.judge.proofs.give.Statement.{statement}
 use Rattle.judge.proofs.give.Tie as tie
 
-enum-known-verdict : tie.Need-enum-known-verdict
-enum-known-verdict c = search needs
-
-enum-known-verdict-2 : tie.Need-enum-known-verdict-2
-enum-known-verdict-2 c = search needs
-
-give-cause-requires : tie.Need-give-cause-requires
-give-cause-requires c κs = search needs
-
 returns : tie.Need-returns
 returns c = sym (ap answerOf (c .before .verdict .given .1))
 
@@ -21,4 +12,4 @@ returns-2 : tie.Need-returns-2
 returns-2 c = c .give-cause .ensures ∙ sym (ap answerOf (c .before .before .verdict2 .given .1))
 
 pub give-spec : {M : Type 1} → statement M
-give-spec = tie.close (tie.spec enum-known-verdict enum-known-verdict-2 give-cause-requires returns returns-2)
+give-spec = tie.close (tie.spec (λ c. search needs) (λ c. search needs) (λ c κs. search needs) returns returns-2)

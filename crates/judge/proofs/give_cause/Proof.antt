@@ -7,12 +7,6 @@ use borrow.Author.Needs.{needs}
 use Rattle.judge.proofs.give_cause.Statement.{statement}
 use Rattle.judge.proofs.give_cause.Tie as tie
 
-enum-known-cause : tie.Need-enum-known-cause
-enum-known-cause c = search needs
-
-enum-known-cause-2 : tie.Need-enum-known-cause-2
-enum-known-cause-2 c = search needs
-
 returns : tie.Need-returns
 returns c = sym (ap (λ (x : Cause). answerOf (Failed x)) (c .before .cause .given .1))
 
@@ -20,4 +14,4 @@ returns-2 : tie.Need-returns-2
 returns-2 c = sym (ap (λ (x : Cause). answerOf (Failed x)) (c .before .cause2 .given .1))
 
 pub give-cause-spec : {M : Type 1} → statement M
-give-cause-spec = tie.close (tie.spec enum-known-cause enum-known-cause-2 returns returns-2)
+give-cause-spec = tie.close (tie.spec (λ c. search needs) (λ c. search needs) returns returns-2)

@@ -16,26 +16,11 @@ use borrow.Author.Needs.{needs}
 use Rattle.judge.proofs.judge_marks.Statement.{statement}
 use Rattle.judge.proofs.judge_marks.Tie as tie
 
-lay-plan-requires : tie.Need-lay-plan-requires
-lay-plan-requires c κs = search needs
-
-limit-of-requires : tie.Need-limit-of-requires
-limit-of-requires c κs = search needs
-
 first-heavy-requires : tie.Need-first-heavy-requires
 first-heavy-requires c κs =
     let l = c .before .before .before in
     let e = l .before .before .before in
     omega (arith, l .lay-plan .ensures .pages-are, pageCount-le (now (e .args .table)) (now (e .args .marks)), e .pre .sound .count-high)
-
-element-copy-out-find-verdict : tie.Need-element-copy-out-find-verdict
-element-copy-out-find-verdict c = search needs
-
-find-verdict-requires : tie.Need-find-verdict-requires
-find-verdict-requires c κs = search needs
-
-give-requires : tie.Need-give-requires
-give-requires c κs = search needs
 
 returns : tie.Need-returns
 unfolding verdictOf
@@ -56,11 +41,5 @@ returns c =
 pub judge-marks-spec : {M : Type 1} → statement M
 judge-marks-spec =
     tie.close
-    (tie.spec
-    lay-plan-requires
-    limit-of-requires
-    first-heavy-requires
-    element-copy-out-find-verdict
-    find-verdict-requires
-    give-requires
-    returns)
+    (tie.spec (λ c κs. search needs) (λ c κs. search needs) first-heavy-requires (λ c. search needs)
+    (λ c κs. search needs) (λ c κs. search needs) returns)

@@ -20,26 +20,11 @@ both t m e = (e, rw e (judge-weight t m))
 read-zero : (c : tie.Else1) → readTree (now (c .before .before .before .before .before .args .table)) .number ≡ 0
 read-zero c = sym (ap (λ (x : Answer). x .number) (c .before .before .read-tree .ensures .0)) ∙ c .if1 .left
 
-read-tree-requires : tie.Need-read-tree-requires
-read-tree-requires c κs = search needs
-
 returns : tie.Need-returns
 returns c =
     let r = c .before .before .read-tree .ensures .0 in
     let a = c .before .before .before .before .before .args in
     both _ (now (a .marks)) (r ∙ judge-refuses (now (a .table)) (now (a .marks)) (λ z. c .if1 .taken (ap (λ (x : Answer). x .number) r ∙ z)))
-
-node-count-requires : tie.Need-node-count-requires
-node-count-requires c κs = search needs
-
-cast-if2 : tie.Need-cast-if2
-cast-if2 c = search needs
-
-cast-refuse : tie.Need-cast-refuse
-cast-refuse c = search needs
-
-refuse-requires : tie.Need-refuse-requires
-refuse-requires c κs = search needs
 
 returns-2 : tie.Need-returns-2
 returns-2 c =
@@ -63,13 +48,5 @@ returns-3 c =
 pub judge-plan-spec : {M : Type 1} → statement M
 judge-plan-spec =
     tie.close
-    (tie.spec
-    read-tree-requires
-    returns
-    node-count-requires
-    cast-if2
-    cast-refuse
-    refuse-requires
-    returns-2
-    judge-marks-requires
-    returns-3)
+    (tie.spec (λ c κs. search needs) returns (λ c κs. search needs) (λ c. search needs) (λ c. search needs)
+    (λ c κs. search needs) returns-2 judge-marks-requires returns-3)

@@ -18,45 +18,12 @@ by-steps t e h = h ∙ sym (ap (λ (p : Planner). stepsOf p (limitOf t) (treeOf 
 enum-told : tie.Need-enum-told
 enum-told c = search needs
 
-lay-best-requires : tie.Need-lay-best-requires
-lay-best-requires c κs = search needs
-
-enum-told-2 : tie.Need-enum-told-2
-enum-told-2 c = search needs
-
-lay-best-requires-2 : tie.Need-lay-best-requires-2
-lay-best-requires-2 c κs = search needs
-
-enum-told-3 : tie.Need-enum-told-3
-enum-told-3 c = search needs
-
-lay-single-requires : tie.Need-lay-single-requires
-lay-single-requires c κs = search needs
-
-enum-told-4 : tie.Need-enum-told-4
-enum-told-4 c = search needs
-
-lay-pair-requires : tie.Need-lay-pair-requires
-lay-pair-requires c κs = search needs
-
-same-length : tie.Need-same-length
-same-length c = search needs
-
-same-length-2 : tie.Need-same-length-2
-same-length-2 c = search needs
-
 returns : tie.Need-returns
 unfolding bestMarks
 returns c =
     let l = c .before .before .before .before in
     let e = l .before .before .before in
     by-steps (now (e .before .before .before .before .before .args .table)) (e .enum-told .given .1) (l .lay-best .ensures)
-
-same-length-3 : tie.Need-same-length-3
-same-length-3 c = search needs
-
-same-length-4 : tie.Need-same-length-4
-same-length-4 c = search needs
 
 returns-2 : tie.Need-returns-2
 unfolding levelMarks
@@ -65,23 +32,11 @@ returns-2 c =
     let e = l .before .before .before in
     by-steps (now (e .before .before .before .before .before .args .table)) (e .enum-told2 .given .1) (l .lay-best2 .ensures)
 
-same-length-5 : tie.Need-same-length-5
-same-length-5 c = search needs
-
-same-length-6 : tie.Need-same-length-6
-same-length-6 c = search needs
-
 returns-3 : tie.Need-returns-3
 returns-3 c =
     let l = c .before .before .before .before in
     let e = l .before .before .before in
     by-steps (now (e .before .before .before .before .before .args .table)) (e .enum-told3 .given .1) (l .lay-single .ensures)
-
-same-length-7 : tie.Need-same-length-7
-same-length-7 c = search needs
-
-same-length-8 : tie.Need-same-length-8
-same-length-8 c = search needs
 
 returns-4 : tie.Need-returns-4
 returns-4 c =
@@ -92,24 +47,7 @@ returns-4 c =
 pub lay-plan-spec : {M : Type 1} → statement M
 lay-plan-spec =
     tie.close
-    (tie.spec
-    enum-told
-    lay-best-requires
-    enum-told-2
-    lay-best-requires-2
-    enum-told-3
-    lay-single-requires
-    enum-told-4
-    lay-pair-requires
-    same-length
-    same-length-2
-    returns
-    same-length-3
-    same-length-4
-    returns-2
-    same-length-5
-    same-length-6
-    returns-3
-    same-length-7
-    same-length-8
-    returns-4)
+    (tie.spec enum-told (λ c κs. search needs) (λ c. search needs) (λ c κs. search needs) (λ c. search needs)
+    (λ c κs. search needs) (λ c. search needs) (λ c κs. search needs) (λ c. search needs) (λ c. search needs) returns
+    (λ c. search needs) (λ c. search needs) returns-2 (λ c. search needs) (λ c. search needs) returns-3
+    (λ c. search needs) (λ c. search needs) returns-4)

@@ -9,15 +9,6 @@ use borrow.Author.Needs.{needs}
 use Rattle.planner.proofs.make_plan.Statement.{statement}
 use Rattle.planner.proofs.make_plan.Tie as tie
 
-check-plan-requires : tie.Need-check-plan-requires
-check-plan-requires c κs = search needs
-
-same-length : tie.Need-same-length
-same-length c = search needs
-
-same-length-2 : tie.Need-same-length-2
-same-length-2 c = search needs
-
 returns : tie.Need-returns
 returns c =
     let k = c .before .before .check-plan in
@@ -31,18 +22,6 @@ lay-plan-requires c κs =
     let k = e .before .before .check-plan in
     let b = e .before .before .before .before .before .before .before .before in
     plan-ready (now (b .args .table)) (now (b .args .marks)) (now (b .args .scratch)) (k .result) (k .ensures) (e .if1 .left)
-
-clear-requires : tie.Need-clear-requires
-clear-requires c κs = search needs
-
-judge-plan-requires : tie.Need-judge-plan-requires
-judge-plan-requires c κs = search needs
-
-same-length-3 : tie.Need-same-length-3
-same-length-3 c = search needs
-
-same-length-4 : tie.Need-same-length-4
-same-length-4 c = search needs
 
 returns-2 : tie.Need-returns-2
 returns-2 c =
@@ -58,14 +37,5 @@ returns-2 c =
 pub make-plan-spec : {M : Type 1} → statement M
 make-plan-spec =
     tie.close
-    (tie.spec
-    check-plan-requires
-    same-length
-    same-length-2
-    returns
-    lay-plan-requires
-    clear-requires
-    judge-plan-requires
-    same-length-3
-    same-length-4
-    returns-2)
+    (tie.spec (λ c κs. search needs) (λ c. search needs) (λ c. search needs) returns lay-plan-requires
+    (λ c κs. search needs) (λ c κs. search needs) (λ c. search needs) (λ c. search needs) returns-2)

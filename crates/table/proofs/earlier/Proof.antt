@@ -5,12 +5,6 @@ use borrow.Author.Needs.{needs}
 use Rattle.table.proofs.earlier.Statement.{statement}
 use Rattle.table.proofs.earlier.Tie as tie
 
-enum-known-place : tie.Need-enum-known-place
-enum-known-place c = search needs
-
-refuse-requires : tie.Need-refuse-requires
-refuse-requires c κs = search needs
-
 enum-told : tie.Need-enum-told
 enum-told c = search needs
 
@@ -21,4 +15,4 @@ returns-2 : tie.Need-returns-2
 returns-2 c = sym (atPlace-nowhere (c .before .before .args .place) _ _ (c .enum-told .given .1))
 
 pub earlier-spec : {M : Type 1} → statement M
-earlier-spec = tie.close (tie.spec enum-known-place refuse-requires enum-told returns returns-2)
+earlier-spec = tie.close (tie.spec (λ c. search needs) (λ c κs. search needs) enum-told returns returns-2)

@@ -15,47 +15,8 @@ use borrow.Author.Needs.{needs}
 use Rattle.table.proofs.read_head.Statement.{statement}
 use Rattle.table.proofs.read_head.Tie as tie
 
-node-count-requires : tie.Need-node-count-requires
-node-count-requires c κs = search needs
-
-table-bytes-requires : tie.Need-table-bytes-requires
-table-bytes-requires c κs = search needs
-
-cast-place-if : tie.Need-cast-place-if
-cast-place-if c = search needs
-
 abbrev beyond : ℕ → ℕ → Place
 beyond most n = when (eqb n 0 || ltb most n) n
-
-place-if-requires : tie.Need-place-if-requires
-place-if-requires c κs = search needs
-
-limit-of-requires : tie.Need-limit-of-requires
-limit-of-requires c κs = search needs
-
-outside-requires : tie.Need-outside-requires
-outside-requires c κs = search needs
-
-outside-requires-2 : tie.Need-outside-requires-2
-outside-requires-2 c κs = search needs
-
-place-if-requires-2 : tie.Need-place-if-requires-2
-place-if-requires-2 c κs = search needs
-
-accept-requires : tie.Need-accept-requires
-accept-requires c κs = search needs
-
-earlier-requires : tie.Need-earlier-requires
-earlier-requires c κs = search needs
-
-earlier-requires-2 : tie.Need-earlier-requires-2
-earlier-requires-2 c κs = search needs
-
-earlier-requires-3 : tie.Need-earlier-requires-3
-earlier-requires-3 c κs = search needs
-
-earlier-requires-4 : tie.Need-earlier-requires-4
-earlier-requires-4 c κs = search needs
 
 returns : tie.Need-returns
 unfolding headChecks shortTable badCount badLimit badLength
@@ -72,18 +33,7 @@ returns c =
 pub read-head-spec : {M : Type 1} → statement M
 read-head-spec =
     tie.close
-    (tie.spec
-    node-count-requires
-    table-bytes-requires
-    cast-place-if
-    place-if-requires
-    limit-of-requires
-    outside-requires
-    outside-requires-2
-    place-if-requires-2
-    accept-requires
-    earlier-requires
-    earlier-requires-2
-    earlier-requires-3
-    earlier-requires-4
-    returns)
+    (tie.spec (λ c κs. search needs) (λ c κs. search needs) (λ c. search needs) (λ c κs. search needs)
+    (λ c κs. search needs) (λ c κs. search needs) (λ c κs. search needs) (λ c κs. search needs)
+    (λ c κs. search needs) (λ c κs. search needs) (λ c κs. search needs) (λ c κs. search needs)
+    (λ c κs. search needs) returns)

@@ -24,23 +24,11 @@ number-is : (c : tie.Else1) → c .before .before .read-head .result .number ≡
 unfolding headAnswer
 number-is c = ap (λ (a : Answer). a .number) (c .before .before .read-head .ensures)
 
-read-head-requires : tie.Need-read-head-requires
-read-head-requires c κs = search needs
-
 returns : tie.Need-returns
 unfolding headAnswer
 returns c =
     let s = c .before .before .before .before in
     both _ (c .before .before .read-head .ensures ∙ head-refuses (now (s .args .table)) (λ e. c .if1 .taken (ap (λ (a : Answer). a .number) (c .before .before .read-head .ensures) ∙ e)))
-
-node-count-requires : tie.Need-node-count-requires
-node-count-requires c κs = search needs
-
-limit-of-requires : tie.Need-limit-of-requires
-limit-of-requires c κs = search needs
-
-first-heavier-requires : tie.Need-first-heavier-requires
-first-heavier-requires c κs = search needs
 
 walk-place-requires : tie.Need-walk-place-requires
 unfolding headAnswer
@@ -50,21 +38,6 @@ walk-place-requires c κs =
       c .before .before .node-count .ensures,
       omega (arith, c .before .before .node-count .ensures, head-count t (sym (number-is e) ∙ e .if1 .left)),
     )
-
-first-weightless-requires : tie.Need-first-weightless-requires
-first-weightless-requires c κs = search needs
-
-accept-requires : tie.Need-accept-requires
-accept-requires c κs = search needs
-
-earlier-requires : tie.Need-earlier-requires
-earlier-requires c κs = search needs
-
-earlier-requires-2 : tie.Need-earlier-requires-2
-earlier-requires-2 c κs = search needs
-
-earlier-requires-3 : tie.Need-earlier-requires-3
-earlier-requires-3 c κs = search needs
 
 returns-2 : tie.Need-returns-2
 unfolding headAnswer nodeChecks noWeight badWalk heavyNode
@@ -85,16 +58,6 @@ returns-2 c =
 pub read-tree-spec : {M : Type 1} → statement M
 read-tree-spec =
     tie.close
-    (tie.spec
-    read-head-requires
-    returns
-    node-count-requires
-    limit-of-requires
-    first-heavier-requires
-    walk-place-requires
-    first-weightless-requires
-    accept-requires
-    earlier-requires
-    earlier-requires-2
-    earlier-requires-3
-    returns-2)
+    (tie.spec (λ c κs. search needs) returns (λ c κs. search needs) (λ c κs. search needs) (λ c κs. search needs)
+    walk-place-requires (λ c κs. search needs) (λ c κs. search needs) (λ c κs. search needs) (λ c κs. search needs)
+    (λ c κs. search needs) returns-2)

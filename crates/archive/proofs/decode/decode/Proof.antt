@@ -7,21 +7,9 @@ use borrow.Author.Needs.{needs}
 use Rattle.archive.proofs.decode.decode.Statement.{statement}
 use Rattle.archive.proofs.decode.decode.Tie as tie
 
-node-count-requires : tie.Need-node-count-requires
-node-count-requires c κs = search needs
-
-load-parents-requires : tie.Need-load-parents-requires
-load-parents-requires c κs = search needs
-
 link-next-requires : tie.Need-link-next-requires
 link-next-requires c κs =
     (omega (arith, c .before .before .node-count .ensures, c .before .before .before .before .before .before .pre .0), λ v low high. c .before .load-parents .ensures v low high .0)
-
-load-lasts-requires : tie.Need-load-lasts-requires
-load-lasts-requires c κs = search needs
-
-fill-tree-requires : tie.Need-fill-tree-requires
-fill-tree-requires c κs = search needs
 
 fill-marks-requires : tie.Need-fill-marks-requires
 fill-marks-requires c κs =
@@ -40,12 +28,6 @@ fill-marks-requires c κs =
       start .pre .2,
     )
 
-same-length : tie.Need-same-length
-same-length c = search needs
-
-same-length-2 : tie.Need-same-length-2
-same-length-2 c = search needs
-
 returns : tie.Need-returns
 returns c =
     let start = c .before .before .before .before .before .before .before .before .before .before .before .before .before .before .before .before .before .before .before in
@@ -62,13 +44,5 @@ returns c =
 pub decode-spec : {M : Type 1} → statement M
 decode-spec =
     tie.close
-    (tie.spec
-    node-count-requires
-    load-parents-requires
-    link-next-requires
-    load-lasts-requires
-    fill-tree-requires
-    fill-marks-requires
-    same-length
-    same-length-2
-    returns)
+    (tie.spec (λ c κs. search needs) (λ c κs. search needs) link-next-requires (λ c κs. search needs)
+    (λ c κs. search needs) fill-marks-requires (λ c. search needs) (λ c. search needs) returns)

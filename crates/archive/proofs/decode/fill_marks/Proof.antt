@@ -34,48 +34,6 @@ loop-holds c =
       marks-start (a .lasts .now) (a .links .now) (a .nodes) (a .plan .now) (replicate slots 0) (λ k fits. getD-replicate slots k 0 0 fits),
     )
 
-cast-i : tie.Need-cast-i Inv-loop μ-loop
-cast-i c = search needs
-
-add-v : tie.Need-add-v Inv-loop μ-loop
-add-v c = search needs
-
-cast-last : tie.Need-cast-last Inv-loop μ-loop
-cast-last c = search needs
-
-mul-last : tie.Need-mul-last Inv-loop μ-loop
-mul-last c = search needs
-
-element-copy-out-last : tie.Need-element-copy-out-last Inv-loop μ-loop
-element-copy-out-last c = search needs
-
-cast-run-end : tie.Need-cast-run-end Inv-loop μ-loop
-cast-run-end c = search needs
-
-mul-run-end : tie.Need-mul-run-end Inv-loop μ-loop
-mul-run-end c = search needs
-
-array-read-run-end : tie.Need-array-read-run-end Inv-loop μ-loop
-array-read-run-end c = search needs
-
-run-end-requires : tie.Need-run-end-requires Inv-loop μ-loop
-run-end-requires c κs = search needs
-
-cast-sibling-of : tie.Need-cast-sibling-of Inv-loop μ-loop
-cast-sibling-of c = search needs
-
-mul-sibling-of : tie.Need-mul-sibling-of Inv-loop μ-loop
-mul-sibling-of c = search needs
-
-element-copy-out-sibling-of : tie.Need-element-copy-out-sibling-of Inv-loop μ-loop
-element-copy-out-sibling-of c = search needs
-
-sibling-of-requires : tie.Need-sibling-of-requires Inv-loop μ-loop
-sibling-of-requires c κs = search needs
-
-mark-for-requires : tie.Need-mark-for-requires Inv-loop μ-loop
-mark-for-requires c κs = search needs
-
 slice-write-plan : tie.Need-slice-write-plan Inv-loop μ-loop
 slice-write-plan c =
     let l = c .before .before .before .before .before .before .loop in
@@ -90,9 +48,6 @@ mul-due c = let few = next-few (c .before) in search needs
 
 array-write-due : tie.Need-array-write-due Inv-loop μ-loop
 array-write-due c = let few = next-few (c .before) in search needs
-
-loop-less : tie.Need-loop-less Inv-loop μ-loop
-loop-less c = search needs
 
 loop-again : tie.Need-loop-again Inv-loop μ-loop
 loop-again c =
@@ -116,29 +71,8 @@ returns c = λ t m g u low high. c .before .loop .inv .3 t m g .0 u low (omega (
 pub fill-marks-spec : {M : Type 1} → statement M
 fill-marks-spec =
     tie.close
-    (tie.spec
-    Inv-loop
-    μ-loop
-    loop-holds
-    cast-i
-    add-v
-    cast-last
-    mul-last
-    element-copy-out-last
-    cast-run-end
-    mul-run-end
-    array-read-run-end
-    run-end-requires
-    cast-sibling-of
-    mul-sibling-of
-    element-copy-out-sibling-of
-    sibling-of-requires
-    mark-for-requires
-    slice-write-plan
-    cast-due
-    mul-due
-    array-write-due
-    loop-less
-    loop-again
-    same-length
-    returns)
+    (tie.spec Inv-loop μ-loop loop-holds (λ c. search needs) (λ c. search needs) (λ c. search needs)
+    (λ c. search needs) (λ c. search needs) (λ c. search needs) (λ c. search needs) (λ c. search needs)
+    (λ c κs. search needs) (λ c. search needs) (λ c. search needs) (λ c. search needs) (λ c κs. search needs)
+    (λ c κs. search needs) slice-write-plan cast-due mul-due array-write-due (λ c. search needs) loop-again
+    same-length returns)

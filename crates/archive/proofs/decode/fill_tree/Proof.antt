@@ -19,18 +19,6 @@ Inv-loop archive links tree₀ nodes limit v₀ tree v =
 abbrev μ-loop : tie.MeasureT-loop
 μ-loop archive links tree₀ nodes limit v₀ tree v = nodes - v
 
-node-count-requires : tie.Need-node-count-requires Inv-loop μ-loop
-node-count-requires c κs = search needs
-
-limit-of-requires : tie.Need-limit-of-requires Inv-loop μ-loop
-limit-of-requires c κs = search needs
-
-put-word-requires : tie.Need-put-word-requires Inv-loop μ-loop
-put-word-requires c κs = search needs
-
-put-word-requires-2 : tie.Need-put-word-requires-2 Inv-loop μ-loop
-put-word-requires-2 c κs = search needs
-
 loop-holds : tie.Need-loop-holds Inv-loop μ-loop
 loop-holds c =
     let start = c .before .before .before .before .before .before .before .before .before .before .before .before in
@@ -42,42 +30,6 @@ loop-holds c =
       tree-begin (a .archive .now) (a .links .now) (a .tree .now) (one .last .0) (two .last .0) _ _ (one .ensures) (two .ensures)
           (c .before .before .before .before .before .before .before .before .before .node-count .ensures) (c .before .before .before .before .before .before .before .before .limit-of .ensures) (omega (arith, start .pre .1)),
     )
-
-add-v : tie.Need-add-v Inv-loop μ-loop
-add-v c = search needs
-
-node-field-requires : tie.Need-node-field-requires Inv-loop μ-loop
-node-field-requires c κs = search needs
-
-node-field-requires-2 : tie.Need-node-field-requires-2 Inv-loop μ-loop
-node-field-requires-2 c κs = search needs
-
-first-in-requires : tie.Need-first-in-requires Inv-loop μ-loop
-first-in-requires c κs = search needs
-
-cast-sibling-of : tie.Need-cast-sibling-of Inv-loop μ-loop
-cast-sibling-of c = search needs
-
-mul-sibling-of : tie.Need-mul-sibling-of Inv-loop μ-loop
-mul-sibling-of c = search needs
-
-element-copy-out-sibling-of : tie.Need-element-copy-out-sibling-of Inv-loop μ-loop
-element-copy-out-sibling-of c = search needs
-
-sibling-of-requires : tie.Need-sibling-of-requires Inv-loop μ-loop
-sibling-of-requires c κs = search needs
-
-mul-put-record : tie.Need-mul-put-record Inv-loop μ-loop
-mul-put-record c = search needs
-
-sub-put-record : tie.Need-sub-put-record Inv-loop μ-loop
-sub-put-record c = search needs
-
-put-record-requires : tie.Need-put-record-requires Inv-loop μ-loop
-put-record-requires c κs = search needs
-
-loop-less : tie.Need-loop-less Inv-loop μ-loop
-loop-less c = search needs
 
 loop-again : tie.Need-loop-again Inv-loop μ-loop
 loop-again c =
@@ -109,26 +61,7 @@ returns c =
 pub fill-tree-spec : {M : Type 1} → statement M
 fill-tree-spec =
     tie.close
-    (tie.spec
-    Inv-loop
-    μ-loop
-    node-count-requires
-    limit-of-requires
-    put-word-requires
-    put-word-requires-2
-    loop-holds
-    add-v
-    node-field-requires
-    node-field-requires-2
-    first-in-requires
-    cast-sibling-of
-    mul-sibling-of
-    element-copy-out-sibling-of
-    sibling-of-requires
-    mul-put-record
-    sub-put-record
-    put-record-requires
-    loop-less
-    loop-again
-    same-length
-    returns)
+    (tie.spec Inv-loop μ-loop (λ c κs. search needs) (λ c κs. search needs) (λ c κs. search needs)
+    (λ c κs. search needs) loop-holds (λ c. search needs) (λ c κs. search needs) (λ c κs. search needs)
+    (λ c κs. search needs) (λ c. search needs) (λ c. search needs) (λ c. search needs) (λ c κs. search needs)
+    (λ c. search needs) (λ c. search needs) (λ c κs. search needs) (λ c. search needs) loop-again same-length returns)

@@ -6,21 +6,9 @@ use borrow.Author.Needs.{needs}
 use Rattle.archive.proofs.decode.first_in.Statement.{statement}
 use Rattle.archive.proofs.decode.first_in.Tie as tie
 
-node-count-requires : tie.Need-node-count-requires
-node-count-requires c κs = search needs
-
 returns : tie.Need-returns
 returns c =
     first-last (c .before .before .before .args .archive .now) (c .before .before .before .args .v) (omega (arith, c .before .node-count .ensures, c .if1 .taken))
-
-add-parent-in : tie.Need-add-parent-in
-add-parent-in c = search needs
-
-parent-in-requires : tie.Need-parent-in-requires
-parent-in-requires c κs = search needs
-
-add-result : tie.Need-add-result
-add-result c = search needs
 
 returns-2 : tie.Need-returns-2
 returns-2 c =
@@ -35,11 +23,5 @@ returns-3 c =
 pub first-in-spec : {M : Type 1} → statement M
 first-in-spec =
     tie.close
-    (tie.spec
-    node-count-requires
-    returns
-    add-parent-in
-    parent-in-requires
-    add-result
-    returns-2
+    (tie.spec (λ c κs. search needs) returns (λ c. search needs) (λ c κs. search needs) (λ c. search needs) returns-2
     returns-3)

@@ -21,26 +21,8 @@ abbrev μ-loop : tie.MeasureT-loop
 first-few : (f : tie.After-fit2 Inv-loop μ-loop) → f .fit2 .result < slots
 first-few f = omega (arith, f .fit2 .ensures, fitted-small (f .before .page-field .result))
 
-pages-in-requires : tie.Need-pages-in-requires Inv-loop μ-loop
-pages-in-requires c κs = search needs
-
-fit-requires : tie.Need-fit-requires Inv-loop μ-loop
-fit-requires c κs = search needs
-
 loop-holds : tie.Need-loop-holds Inv-loop μ-loop
 loop-holds c = (refl, omega arith, λ t m w. last-start w (replicate slots 0) (λ k fits. getD-replicate slots k 0 0 fits))
-
-add-q : tie.Need-add-q Inv-loop μ-loop
-add-q c = search needs
-
-page-field-requires : tie.Need-page-field-requires Inv-loop μ-loop
-page-field-requires c κs = search needs
-
-fit-requires-2 : tie.Need-fit-requires-2 Inv-loop μ-loop
-fit-requires-2 c κs = search needs
-
-page-field-requires-2 : tie.Need-page-field-requires-2 Inv-loop μ-loop
-page-field-requires-2 c κs = search needs
 
 cast-lasts : tie.Need-cast-lasts Inv-loop μ-loop
 cast-lasts c = let few = first-few (c .before) in search needs
@@ -50,9 +32,6 @@ mul-lasts c = let few = first-few (c .before) in search needs
 
 array-write-lasts : tie.Need-array-write-lasts Inv-loop μ-loop
 array-write-lasts c = let few = first-few (c .before) in search needs
-
-loop-less : tie.Need-loop-less Inv-loop μ-loop
-loop-less c = search needs
 
 loop-again : tie.Need-loop-again Inv-loop μ-loop
 loop-again c =
@@ -75,19 +54,6 @@ returns c =
 pub load-lasts-spec : {M : Type 1} → statement M
 load-lasts-spec =
     tie.close
-    (tie.spec
-    Inv-loop
-    μ-loop
-    pages-in-requires
-    fit-requires
-    loop-holds
-    add-q
-    page-field-requires
-    fit-requires-2
-    page-field-requires-2
-    cast-lasts
-    mul-lasts
-    array-write-lasts
-    loop-less
-    loop-again
-    returns)
+    (tie.spec Inv-loop μ-loop (λ c κs. search needs) (λ c κs. search needs) loop-holds (λ c. search needs)
+    (λ c κs. search needs) (λ c κs. search needs) (λ c κs. search needs) cast-lasts mul-lasts array-write-lasts
+    (λ c. search needs) loop-again returns)

@@ -19,27 +19,6 @@ abbrev μ-loop : tie.MeasureT-loop
 loop-holds : tie.Need-loop-holds Inv-loop μ-loop
 loop-holds c = (refl, omega arith, λ u low high. absurd (omega arith))
 
-add-v : tie.Need-add-v Inv-loop μ-loop
-add-v c = search needs
-
-parent-in-requires : tie.Need-parent-in-requires Inv-loop μ-loop
-parent-in-requires c κs = search needs
-
-fit-requires : tie.Need-fit-requires Inv-loop μ-loop
-fit-requires c κs = search needs
-
-cast-parents : tie.Need-cast-parents Inv-loop μ-loop
-cast-parents c = search needs
-
-mul-parents : tie.Need-mul-parents Inv-loop μ-loop
-mul-parents c = search needs
-
-array-write-parents : tie.Need-array-write-parents Inv-loop μ-loop
-array-write-parents c = search needs
-
-loop-less : tie.Need-loop-less Inv-loop μ-loop
-loop-less c = search needs
-
 loop-again : tie.Need-loop-again Inv-loop μ-loop
 loop-again c =
     let l = c .before .before .before .loop in
@@ -57,16 +36,5 @@ returns c = λ u low high. c .before .loop .inv .2 u low (omega (arith, c .loop-
 pub load-parents-spec : {M : Type 1} → statement M
 load-parents-spec =
     tie.close
-    (tie.spec
-    Inv-loop
-    μ-loop
-    loop-holds
-    add-v
-    parent-in-requires
-    fit-requires
-    cast-parents
-    mul-parents
-    array-write-parents
-    loop-less
-    loop-again
-    returns)
+    (tie.spec Inv-loop μ-loop loop-holds (λ c. search needs) (λ c κs. search needs) (λ c κs. search needs)
+    (λ c. search needs) (λ c. search needs) (λ c. search needs) (λ c. search needs) loop-again returns)

@@ -8,27 +8,6 @@ use borrow.Author.Needs.{needs}
 use Rattle.archive.proofs.fields.field_after.Statement.{statement}
 use Rattle.archive.proofs.fields.field_after.Tie as tie
 
-sub-before : tie.Need-sub-before
-sub-before c = search needs
-
-mul-word-at : tie.Need-mul-word-at
-mul-word-at c = search needs
-
-add-word-at : tie.Need-add-word-at
-add-word-at c = search needs
-
-mul-word-at-2 : tie.Need-mul-word-at-2
-mul-word-at-2 c = search needs
-
-add-word-at-2 : tie.Need-add-word-at-2
-add-word-at-2 c = search needs
-
-add-word-at-3 : tie.Need-add-word-at-3
-add-word-at-3 c = search needs
-
-word-at-requires : tie.Need-word-at-requires
-word-at-requires c κs = search needs
-
 returns : tie.Need-returns
 returns c =
     let a = c .before .before .before .before .args in
@@ -38,12 +17,5 @@ returns c =
 pub field-after-spec : {M : Type 1} → statement M
 field-after-spec =
     tie.close
-    (tie.spec
-    sub-before
-    mul-word-at
-    add-word-at
-    mul-word-at-2
-    add-word-at-2
-    add-word-at-3
-    word-at-requires
-    returns)
+    (tie.spec (λ c. search needs) (λ c. search needs) (λ c. search needs) (λ c. search needs) (λ c. search needs)
+    (λ c. search needs) (λ c κs. search needs) returns)

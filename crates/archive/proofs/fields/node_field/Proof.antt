@@ -7,12 +7,6 @@ use borrow.Author.Needs.{needs}
 use Rattle.archive.proofs.fields.node_field.Statement.{statement}
 use Rattle.archive.proofs.fields.node_field.Tie as tie
 
-pages-in-requires : tie.Need-pages-in-requires
-pages-in-requires c κs = search needs
-
-field-after-requires : tie.Need-field-after-requires
-field-after-requires c κs = search needs
-
 returns : tie.Need-returns
 unfolding nodeFieldIn
 returns c =
@@ -20,4 +14,4 @@ returns c =
     c .field-after .ensures ∙ ap (λ p. wordAt (a .archive .now) (3 + 4 * p + 4 * (a .v - 1) + a .f)) (c .before .pages-in .ensures)
 
 pub node-field-spec : {M : Type 1} → statement M
-node-field-spec = tie.close (tie.spec pages-in-requires field-after-requires returns)
+node-field-spec = tie.close (tie.spec (λ c κs. search needs) (λ c κs. search needs) returns)

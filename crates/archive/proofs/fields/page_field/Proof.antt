@@ -4,12 +4,9 @@ use borrow.Author.Needs.{needs}
 use Rattle.archive.proofs.fields.page_field.Statement.{statement}
 use Rattle.archive.proofs.fields.page_field.Tie as tie
 
-field-after-requires : tie.Need-field-after-requires
-field-after-requires c κs = search needs
-
 returns : tie.Need-returns
 unfolding pageFieldIn
 returns c = c .field-after .ensures
 
 pub page-field-spec : {M : Type 1} → statement M
-page-field-spec = tie.close (tie.spec field-after-requires returns)
+page-field-spec = tie.close (tie.spec (λ c κs. search needs) returns)

@@ -4,12 +4,9 @@ use borrow.Author.Needs.{needs}
 use Rattle.archive.proofs.fields.pages_in.Statement.{statement}
 use Rattle.archive.proofs.fields.pages_in.Tie as tie
 
-word-at-requires : tie.Need-word-at-requires
-word-at-requires c κs = search needs
-
 returns : tie.Need-returns
 unfolding pagesIn
 returns c = c .word-at .ensures
 
 pub pages-in-spec : {M : Type 1} → statement M
-pages-in-spec = tie.close (tie.spec word-at-requires returns)
+pages-in-spec = tie.close (tie.spec (λ c κs. search needs) returns)

@@ -4,12 +4,9 @@ use borrow.Author.Needs.{needs}
 use Rattle.archive.proofs.fields.parent_in.Statement.{statement}
 use Rattle.archive.proofs.fields.parent_in.Tie as tie
 
-node-field-requires : tie.Need-node-field-requires
-node-field-requires c κs = search needs
-
 returns : tie.Need-returns
 unfolding parentIn
 returns c = c .node-field .ensures
 
 pub parent-in-spec : {M : Type 1} → statement M
-parent-in-spec = tie.close (tie.spec node-field-requires returns)
+parent-in-spec = tie.close (tie.spec (λ c κs. search needs) returns)

@@ -27,15 +27,6 @@ key-few k = k .before .before .before .pre .1 (k .before .before .loop .v) (omeg
 loop-holds : tie.Need-loop-holds Inv-loop μ-loop
 loop-holds c = (refl, refl, omega arith, seen-start _ _ (replicate slots 0) (λ k fits. getD-replicate slots k 0 0 fits), linked-start _ _ (replicate slots 0))
 
-cast-key : tie.Need-cast-key Inv-loop μ-loop
-cast-key c = search needs
-
-mul-key : tie.Need-mul-key Inv-loop μ-loop
-mul-key c = search needs
-
-element-copy-out-key : tie.Need-element-copy-out-key Inv-loop μ-loop
-element-copy-out-key c = search needs
-
 cast-key-2 : tie.Need-cast-key-2 Inv-loop μ-loop
 cast-key-2 c = let few = key-few c in search needs
 
@@ -45,26 +36,11 @@ mul-next c = let few = key-few c in search needs
 array-read-next : tie.Need-array-read-next Inv-loop μ-loop
 array-read-next c = let few = key-few c in search needs
 
-cast-next : tie.Need-cast-next Inv-loop μ-loop
-cast-next c = search needs
-
-mul-next-2 : tie.Need-mul-next-2 Inv-loop μ-loop
-mul-next-2 c = search needs
-
-array-write-next : tie.Need-array-write-next Inv-loop μ-loop
-array-write-next c = search needs
-
 mul-seen : tie.Need-mul-seen Inv-loop μ-loop
 mul-seen c = let few = key-few c in search needs
 
 array-write-seen : tie.Need-array-write-seen Inv-loop μ-loop
 array-write-seen c = let few = key-few c in search needs
-
-sub-v : tie.Need-sub-v Inv-loop μ-loop
-sub-v c = search needs
-
-loop-less : tie.Need-loop-less Inv-loop μ-loop
-loop-less c = search needs
 
 loop-again : tie.Need-loop-again Inv-loop μ-loop
 loop-again c =
@@ -84,22 +60,6 @@ returns c = λ v low high. c .before .loop .inv .4 v (omega (arith, c .loop-test
 pub link-next-spec : {M : Type 1} → statement M
 link-next-spec =
     tie.close
-    (tie.spec
-    Inv-loop
-    μ-loop
-    loop-holds
-    cast-key
-    mul-key
-    element-copy-out-key
-    cast-key-2
-    mul-next
-    array-read-next
-    cast-next
-    mul-next-2
-    array-write-next
-    mul-seen
-    array-write-seen
-    sub-v
-    loop-less
-    loop-again
-    returns)
+    (tie.spec Inv-loop μ-loop loop-holds (λ c. search needs) (λ c. search needs) (λ c. search needs) cast-key-2
+    mul-next array-read-next (λ c. search needs) (λ c. search needs) (λ c. search needs) mul-seen array-write-seen
+    (λ c. search needs) (λ c. search needs) loop-again returns)

@@ -29,23 +29,11 @@ copied-long w = w .write-archive .kept .1 .1 .0 ∙ fresh (w .before)
 compared : (s : tie.After-same-bytes) → sameList (copied (s .before .before .before .before .before)) (archive (s .before .before .before .before .before)) ≡ s .same-bytes .result
 compared s = sym (part-back (copied (s .before .before .before .before .before)) _ _ (copied-long (s .before .before .before .before .before)) (archive (s .before .before .before .before .before))) ∙ sym (s .same-bytes .ensures)
 
-refuse-requires : tie.Need-refuse-requires
-refuse-requires c κs = search needs
-
 returns : tie.Need-returns
 returns c = copy-refused (c .refuse .ensures) (copy-long _ _ _ (c .before .if1 .taken))
 
-array-borrow-prefix-copy : tie.Need-array-borrow-prefix-copy
-array-borrow-prefix-copy c = search needs
-
 slice-aggregate-write-archive : tie.Need-slice-aggregate-write-archive
 slice-aggregate-write-archive c = sym (fresh c)
-
-write-archive-requires : tie.Need-write-archive-requires
-write-archive-requires c κs = search needs
-
-refuse-requires-2 : tie.Need-refuse-requires-2
-refuse-requires-2 c κs = search needs
 
 returns-2 : tie.Need-returns-2
 returns-2 c =
@@ -58,17 +46,11 @@ array-share-prefix-copy c = let w = c .before .before .before in part-within (co
 slice-aggregate-same-bytes : tie.Need-slice-aggregate-same-bytes
 slice-aggregate-same-bytes c = let w = c .before .before .before .before in part-long (copied w) _ _ (copied-long w)
 
-same-bytes-requires : tie.Need-same-bytes-requires
-same-bytes-requires c κs = search needs
-
 returns-3 : tie.Need-returns-3
 returns-3 c =
     let w = c .before .before .before .before .before .before in
     copy-same (archive w) _ _ _ (copied w) _ (w .write-archive .ensures .0) (λ i. omega (arith, w .before .before .before .before .shared-slice-known2 .given i)) (c .before .before .before .if2 .left)
     (compared (c .before) ∙ c .if3 .taken)
-
-refuse-requires-3 : tie.Need-refuse-requires-3
-refuse-requires-3 c κs = search needs
 
 returns-4 : tie.Need-returns-4
 returns-4 c =
@@ -79,17 +61,6 @@ returns-4 c =
 pub judge-copy-spec : {M : Type 1} → statement M
 judge-copy-spec =
     tie.close
-    (tie.spec
-    refuse-requires
-    returns
-    array-borrow-prefix-copy
-    slice-aggregate-write-archive
-    write-archive-requires
-    refuse-requires-2
-    returns-2
-    array-share-prefix-copy
-    slice-aggregate-same-bytes
-    same-bytes-requires
-    returns-3
-    refuse-requires-3
-    returns-4)
+    (tie.spec (λ c κs. search needs) returns (λ c. search needs) slice-aggregate-write-archive (λ c κs. search needs)
+    (λ c κs. search needs) returns-2 array-share-prefix-copy slice-aggregate-same-bytes (λ c κs. search needs)
+    returns-3 (λ c κs. search needs) returns-4)

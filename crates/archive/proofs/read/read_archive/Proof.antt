@@ -44,49 +44,16 @@ module _ (b : tie.After-table-bytes) where
       let d = b .before .before .before .decode in
       (ap (λ k. take k (d .last .1 .0)) size-is ∙ d .ensures e .0, ap (λ k. take k (d .last .1 .1 .0)) (b .before .before .before .before .before .before .before .node-count .ensures) ∙ d .ensures e .1)
 
-node-count-requires : tie.Need-node-count-requires
-node-count-requires c κs = search needs
-
-cast-count : tie.Need-cast-count
-cast-count c = search needs
-
-refuse-requires : tie.Need-refuse-requires
-refuse-requires c κs = search needs
-
 returns : tie.Need-returns
 returns c =
     read-both (λ i. omega (arith, c .before .before .before .before .before .shared-slice-known .given i))
     (reader-many _ (c .refuse .ensures) (omega (arith, c .before .before .node-count .ensures, c .before .if1 .taken)))
 
-slice-aggregate-decode : tie.Need-slice-aggregate-decode
-slice-aggregate-decode c = search needs
-
-slice-aggregate-decode-2 : tie.Need-slice-aggregate-decode-2
-slice-aggregate-decode-2 c = search needs
-
-decode-requires : tie.Need-decode-requires
-decode-requires c κs = search needs
-
-table-bytes-requires : tie.Need-table-bytes-requires
-table-bytes-requires c κs = search needs
-
-cast-bytes : tie.Need-cast-bytes
-cast-bytes c = search needs
-
-array-share-prefix-tree : tie.Need-array-share-prefix-tree
-array-share-prefix-tree c = search needs
-
 slice-aggregate-judge-copy : tie.Need-slice-aggregate-judge-copy
 slice-aggregate-judge-copy c = tree-long (c .before)
 
-array-share-prefix-plan : tie.Need-array-share-prefix-plan
-array-share-prefix-plan c = search needs
-
 slice-aggregate-judge-copy-2 : tie.Need-slice-aggregate-judge-copy-2
 slice-aggregate-judge-copy-2 c = plan-long (c .before .before)
-
-judge-copy-requires : tie.Need-judge-copy-requires
-judge-copy-requires c κs = search needs
 
 returns-2 : tie.Need-returns-2
 returns-2 c =
@@ -94,21 +61,12 @@ returns-2 c =
     let b = j .before .before .before in
     read-both (known b) (reader-none (archive b) _ _ (tree b) (plan b) (j .judge-copy .result) (j .judge-copy .ensures) (c .if2 .taken) (told b))
 
-refuse-requires-2 : tie.Need-refuse-requires-2
-refuse-requires-2 c κs = search needs
-
 returns-3 : tie.Need-returns-3
 returns-3 c =
     let e = c .before .before in
     let j = e .before .before in
     let b = j .before .before .before in
     read-both (known b) (reader-table _ (c .refuse2 .ensures) (size-is b) (j .judge-copy .ensures .accepts (e .if2 .left) .0) (c .before .if3 .taken))
-
-cast-refuse : tie.Need-cast-refuse
-cast-refuse c = search needs
-
-refuse-requires-3 : tie.Need-refuse-requires-3
-refuse-requires-3 c κs = search needs
 
 returns-4 : tie.Need-returns-4
 returns-4 c =
@@ -118,29 +76,17 @@ returns-4 c =
     read-both (known b)
     (reader-marks _ (c .refuse3 .ensures) (b .before .before .before .before .before .before .before .node-count .ensures) (j .judge-copy .ensures .accepts (e .if2 .left) .0) (c .before .before .if3 .left ∙ size-is b) (c .before .if4 .taken))
 
-array-share-prefix-tree-2 : tie.Need-array-share-prefix-tree-2
-array-share-prefix-tree-2 c = search needs
-
 slice-aggregate-copy-bytes : tie.Need-slice-aggregate-copy-bytes
 slice-aggregate-copy-bytes c = tree-long (c .before .before .before .before .before .before .before .before)
 
 copy-bytes-requires : tie.Need-copy-bytes-requires
 copy-bytes-requires c κs = c .before .before .before .if3 .left ∙ tree-long (c .before .before .before .before .before .before .before .before .before)
 
-array-share-prefix-plan-2 : tie.Need-array-share-prefix-plan-2
-array-share-prefix-plan-2 c = search needs
-
 slice-aggregate-copy-bytes-2 : tie.Need-slice-aggregate-copy-bytes-2
 slice-aggregate-copy-bytes-2 c = plan-long (c .before .before .before .before .before .before .before .before .before .before .before .before .before)
 
 copy-bytes-requires-2 : tie.Need-copy-bytes-requires-2
 copy-bytes-requires-2 c κs = c .before .before .before .before .before .before .before .if4 .left ∙ plan-long (c .before .before .before .before .before .before .before .before .before .before .before .before .before .before)
-
-same-length : tie.Need-same-length
-same-length c = search needs
-
-same-length-2 : tie.Need-same-length-2
-same-length-2 c = search needs
 
 returns-5 : tie.Need-returns-5
 returns-5 c =
@@ -154,33 +100,9 @@ returns-5 c =
 pub read-archive-spec : {M : Type 1} → statement M
 read-archive-spec =
     tie.close
-    (tie.spec
-    node-count-requires
-    cast-count
-    refuse-requires
-    returns
-    slice-aggregate-decode
-    slice-aggregate-decode-2
-    decode-requires
-    table-bytes-requires
-    cast-bytes
-    array-share-prefix-tree
-    slice-aggregate-judge-copy
-    array-share-prefix-plan
-    slice-aggregate-judge-copy-2
-    judge-copy-requires
-    returns-2
-    refuse-requires-2
-    returns-3
-    cast-refuse
-    refuse-requires-3
-    returns-4
-    array-share-prefix-tree-2
-    slice-aggregate-copy-bytes
-    copy-bytes-requires
-    array-share-prefix-plan-2
-    slice-aggregate-copy-bytes-2
-    copy-bytes-requires-2
-    same-length
-    same-length-2
-    returns-5)
+    (tie.spec (λ c κs. search needs) (λ c. search needs) (λ c κs. search needs) returns (λ c. search needs)
+    (λ c. search needs) (λ c κs. search needs) (λ c κs. search needs) (λ c. search needs) (λ c. search needs)
+    slice-aggregate-judge-copy (λ c. search needs) slice-aggregate-judge-copy-2 (λ c κs. search needs) returns-2
+    (λ c κs. search needs) returns-3 (λ c. search needs) (λ c κs. search needs) returns-4 (λ c. search needs)
+    slice-aggregate-copy-bytes copy-bytes-requires (λ c. search needs) slice-aggregate-copy-bytes-2
+    copy-bytes-requires-2 (λ c. search needs) (λ c. search needs) returns-5)

@@ -21,17 +21,8 @@ turned i =
     let l = i .before .before .loop in
     run-turn _ (i .before .before .before .before .before .before .pre .0) (l .last) (l .next) (l .inv .0) (l .inv .1) (l .inv .2) _ (sym (i .before .leads-on .ensures) ∙ i .if1 .taken) (l .inv .3)
 
-next-at-requires : tie.Need-next-at-requires Inv-loop μ-loop
-next-at-requires c κs = search needs
-
 loop-holds : tie.Need-loop-holds Inv-loop μ-loop
 loop-holds c = let start = c .before .before .before in (start .pre .1, start .pre .2, c .next-at .ensures, refl)
-
-leads-on-requires : tie.Need-leads-on-requires Inv-loop μ-loop
-leads-on-requires c κs = search needs
-
-next-at-requires-2 : tie.Need-next-at-requires-2 Inv-loop μ-loop
-next-at-requires-2 c κs = search needs
 
 loop-less : tie.Need-loop-less Inv-loop μ-loop
 loop-less c = let r = turned (c .before) in omega (arith, r .later, r .within)
@@ -49,13 +40,5 @@ returns c =
 pub find-last-spec : {M : Type 1} → statement M
 find-last-spec =
     tie.close
-    (tie.spec
-    Inv-loop
-    μ-loop
-    next-at-requires
-    loop-holds
-    leads-on-requires
-    next-at-requires-2
-    loop-less
-    loop-again
-    returns)
+    (tie.spec Inv-loop μ-loop (λ c κs. search needs) loop-holds (λ c κs. search needs) (λ c κs. search needs)
+    loop-less loop-again returns)

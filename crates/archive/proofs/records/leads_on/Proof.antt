@@ -3,11 +3,8 @@ use borrow.Author.Needs.{needs}
 use Rattle.archive.proofs.records.leads_on.Statement.{statement}
 use Rattle.archive.proofs.records.leads_on.Tie as tie
 
-mark-at-requires : tie.Need-mark-at-requires
-mark-at-requires c κs = search needs
-
 returns : tie.Need-returns
 returns c = cc
 
 pub leads-on-spec : {M : Type 1} → statement M
-leads-on-spec = tie.close (tie.spec mark-at-requires returns)
+leads-on-spec = tie.close (tie.spec (λ c κs. search needs) returns)

@@ -6,9 +6,6 @@ use borrow.Author.Needs.{needs}
 use Rattle.archive.proofs.records.page_after.Statement.{statement}
 use Rattle.archive.proofs.records.page_after.Tie as tie
 
-add-result : tie.Need-add-result
-add-result c = search needs
-
 returns : tie.Need-returns
 unfolding nextPage pick
 returns c = simp (lt-ltb _ _ (c .if1 .taken))
@@ -18,4 +15,4 @@ unfolding nextPage pick
 returns-2 c = simp (le-ltb _ _ (c .if1 .left))
 
 pub page-after-spec : {M : Type 1} → statement M
-page-after-spec = tie.close (tie.spec add-result returns returns-2)
+page-after-spec = tie.close (tie.spec (λ c. search needs) returns returns-2)

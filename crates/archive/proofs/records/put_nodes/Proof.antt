@@ -16,58 +16,10 @@ Inv-loop table parents onward pages out₀ nodes v₀ out v = (v ≤ nodes) × (
 abbrev μ-loop : tie.MeasureT-loop
 μ-loop table parents onward pages out₀ nodes v₀ out v = nodes - v
 
-node-count-requires : tie.Need-node-count-requires Inv-loop μ-loop
-node-count-requires c κs = search needs
-
 loop-holds : tie.Need-loop-holds Inv-loop μ-loop
 loop-holds c =
     let a = c .before .before .before .args in
     (omega arith, refl, nodes-start (a .table .now) (a .parents .now) (a .onward .now) (a .pages) (a .out .now))
-
-add-v : tie.Need-add-v Inv-loop μ-loop
-add-v c = search needs
-
-weight-at-requires : tie.Need-weight-at-requires Inv-loop μ-loop
-weight-at-requires c κs = search needs
-
-label-at-requires : tie.Need-label-at-requires Inv-loop μ-loop
-label-at-requires c κs = search needs
-
-cast-parent : tie.Need-cast-parent Inv-loop μ-loop
-cast-parent c = search needs
-
-mul-parent : tie.Need-mul-parent Inv-loop μ-loop
-mul-parent c = search needs
-
-element-copy-out-parent : tie.Need-element-copy-out-parent Inv-loop μ-loop
-element-copy-out-parent c = search needs
-
-cast-after : tie.Need-cast-after Inv-loop μ-loop
-cast-after c = search needs
-
-mul-after : tie.Need-mul-after Inv-loop μ-loop
-mul-after c = search needs
-
-element-copy-out-after : tie.Need-element-copy-out-after Inv-loop μ-loop
-element-copy-out-after c = search needs
-
-mul-put-record : tie.Need-mul-put-record Inv-loop μ-loop
-mul-put-record c = search needs
-
-mul-put-record-2 : tie.Need-mul-put-record-2 Inv-loop μ-loop
-mul-put-record-2 c = search needs
-
-add-put-record : tie.Need-add-put-record Inv-loop μ-loop
-add-put-record c = search needs
-
-sub-put-record : tie.Need-sub-put-record Inv-loop μ-loop
-sub-put-record c = search needs
-
-put-record-requires : tie.Need-put-record-requires Inv-loop μ-loop
-put-record-requires c κs = search needs
-
-loop-less : tie.Need-loop-less Inv-loop μ-loop
-loop-less c = search needs
 
 loop-again : tie.Need-loop-again Inv-loop μ-loop
 loop-again c =
@@ -98,26 +50,7 @@ returns c =
 pub put-nodes-spec : {M : Type 1} → statement M
 put-nodes-spec =
     tie.close
-    (tie.spec
-    Inv-loop
-    μ-loop
-    node-count-requires
-    loop-holds
-    add-v
-    weight-at-requires
-    label-at-requires
-    cast-parent
-    mul-parent
-    element-copy-out-parent
-    cast-after
-    mul-after
-    element-copy-out-after
-    mul-put-record
-    mul-put-record-2
-    add-put-record
-    sub-put-record
-    put-record-requires
-    loop-less
-    loop-again
-    same-length
-    returns)
+    (tie.spec Inv-loop μ-loop (λ c κs. search needs) loop-holds (λ c. search needs) (λ c κs. search needs)
+    (λ c κs. search needs) (λ c. search needs) (λ c. search needs) (λ c. search needs) (λ c. search needs)
+    (λ c. search needs) (λ c. search needs) (λ c. search needs) (λ c. search needs) (λ c. search needs)
+    (λ c. search needs) (λ c κs. search needs) (λ c. search needs) loop-again same-length returns)

@@ -49,9 +49,6 @@ module _ (i : tie.Then1 Inv-loop μ-loop) where
   page-few : i .before .before .before .loop .page + 1 < slots
   page-few = omega (arith, within, pages-few)
 
-node-count-requires : tie.Need-node-count-requires Inv-loop μ-loop
-node-count-requires c κs = search needs
-
 loop-holds : tie.Need-loop-holds Inv-loop μ-loop
 loop-holds c =
     let start = c .before .before .before .before in
@@ -62,17 +59,8 @@ loop-holds c =
       rw (pages-start (a .table .now) (a .marks .now)) (start .pre .4),
     )
 
-add-v : tie.Need-add-v Inv-loop μ-loop
-add-v c = search needs
-
-mark-at-requires : tie.Need-mark-at-requires Inv-loop μ-loop
-mark-at-requires c κs = search needs
-
 add-page : tie.Need-add-page Inv-loop μ-loop
 add-page c = let few = page-few c in search needs
-
-find-last-requires : tie.Need-find-last-requires Inv-loop μ-loop
-find-last-requires c κs = search needs
 
 cast-weight : tie.Need-cast-weight Inv-loop μ-loop
 cast-weight c = let few = page-few (c .before) in search needs
@@ -99,15 +87,6 @@ page-after-requires c κs = omega (arith, c .before .before .before .before .bef
 mul-put-record : tie.Need-mul-put-record Inv-loop μ-loop
 mul-put-record c = let few = page-few (c .before .before .before .before) in search needs
 
-sub-put-record : tie.Need-sub-put-record Inv-loop μ-loop
-sub-put-record c = search needs
-
-put-record-requires : tie.Need-put-record-requires Inv-loop μ-loop
-put-record-requires c κs = search needs
-
-loop-less : tie.Need-loop-less Inv-loop μ-loop
-loop-less c = search needs
-
 loop-again : tie.Need-loop-again Inv-loop μ-loop
 loop-again c =
     let i = c .before .before .before .before .before .before .before in
@@ -122,9 +101,6 @@ loop-again c =
           (c .before .before .before .before .before .before .find-last .ensures) (start .pre .2 (l .page + 1) (omega arith) (omega (arith, within i, start .pre .1)))
           (c .before .before .before .before .page-after .ensures ∙ ap (nextPage (l .page + 1)) (start .pre .1)),
     )
-
-loop-less-2 : tie.Need-loop-less-2 Inv-loop μ-loop
-loop-less-2 c = search needs
 
 loop-again-2 : tie.Need-loop-again-2 Inv-loop μ-loop
 loop-again-2 c =
@@ -150,26 +126,7 @@ returns c =
 pub put-pages-spec : {M : Type 1} → statement M
 put-pages-spec =
     tie.close
-    (tie.spec
-    Inv-loop
-    μ-loop
-    node-count-requires
-    loop-holds
-    add-v
-    mark-at-requires
-    add-page
-    find-last-requires
-    cast-weight
-    mul-weight
-    element-copy-out-weight
-    cast-weight-2
-    page-after-requires
-    mul-put-record
-    sub-put-record
-    put-record-requires
-    loop-less
-    loop-again
-    loop-less-2
-    loop-again-2
-    same-length
-    returns)
+    (tie.spec Inv-loop μ-loop (λ c κs. search needs) loop-holds (λ c. search needs) (λ c κs. search needs) add-page
+    (λ c κs. search needs) cast-weight mul-weight element-copy-out-weight cast-weight-2 page-after-requires
+    mul-put-record (λ c. search needs) (λ c κs. search needs) (λ c. search needs) loop-again (λ c. search needs)
+    loop-again-2 same-length returns)

@@ -10,12 +10,6 @@ use borrow.Author.Needs.{needs}
 use Rattle.archive.proofs.write.fill_archive.Statement.{statement}
 use Rattle.archive.proofs.write.fill_archive.Tie as tie
 
-node-count-requires : tie.Need-node-count-requires
-node-count-requires c κs = search needs
-
-limit-of-requires : tie.Need-limit-of-requires
-limit-of-requires c κs = search needs
-
 link-next-requires : tie.Need-link-next-requires
 link-next-requires c κs =
     let start = c .before .before .before .before .before .before .before in
@@ -24,9 +18,6 @@ link-next-requires c κs =
       omega (arith, start .pre .0 .tree .sound .count-high),
       λ v low high. page-fits (start .pre .0 .tree) (a .marks .now) (a .t3 .page) (start .pre .1 .page-is) v low (omega arith),
     )
-
-put-head-requires : tie.Need-put-head-requires
-put-head-requires c κs = search needs
 
 put-pages-requires : tie.Need-put-pages-requires
 put-pages-requires c κs =
@@ -58,9 +49,6 @@ put-nodes-requires c κs =
       pages .kept .1 .1 .1 .1 .0 ∙ head .kept .0 ∙ start .pre .2,
     )
 
-same-length : tie.Need-same-length
-same-length c = search needs
-
 returns : tie.Need-returns
 returns c =
     let start = c .before .before .before .before .before .before .before .before .before .before .before .before .before .before .before .before .before .before .before .before .before .before .before .before .before in
@@ -80,12 +68,5 @@ returns c =
 pub fill-archive-spec : {M : Type 1} → statement M
 fill-archive-spec =
     tie.close
-    (tie.spec
-    node-count-requires
-    limit-of-requires
-    link-next-requires
-    put-head-requires
-    put-pages-requires
-    put-nodes-requires
-    same-length
-    returns)
+    (tie.spec (λ c κs. search needs) (λ c κs. search needs) link-next-requires (λ c κs. search needs)
+    put-pages-requires put-nodes-requires (λ c. search needs) returns)

@@ -32,9 +32,6 @@ feasible e = feasible-planned (tree e) (plan e) (judge-feasible (tree e) (plan e
 size-is : (b : tie.After-archive-bytes) → b .archive-bytes .result ≡ archiveBytes (pageCount (tree (b .before .before .before)) (plan (b .before .before .before))) (nodeCount (tree (b .before .before .before)))
 size-is b = b .archive-bytes .ensures ∙ ap₂ archiveBytes (b .before .before .lay-plan .ensures .pages-are) (b .before .node-count .ensures)
 
-judge-plan-requires : tie.Need-judge-plan-requires
-judge-plan-requires c κs = search needs
-
 returns : tie.Need-returns
 returns c =
     let a = c .before .before .before .before .before .before .args in
@@ -45,18 +42,6 @@ returns c =
 
 lay-plan-requires : tie.Need-lay-plan-requires
 lay-plan-requires c κs = feasible c .tree
-
-node-count-requires : tie.Need-node-count-requires
-node-count-requires c κs = search needs
-
-archive-bytes-requires : tie.Need-archive-bytes-requires
-archive-bytes-requires c κs = search needs
-
-cast-if2 : tie.Need-cast-if2
-cast-if2 c = search needs
-
-refuse-requires : tie.Need-refuse-requires
-refuse-requires c κs = search needs
 
 returns-2 : tie.Need-returns-2
 returns-2 c =
@@ -71,9 +56,6 @@ fill-archive-requires c κs =
     let b = c .before .before in
     (feasible (b .before .before .before), b .before .before .lay-plan .ensures, c .before .if2 .left ∙ b .archive-bytes .ensures ∙ ap (archiveBytes _) (b .before .node-count .ensures))
 
-same-length : tie.Need-same-length
-same-length c = search needs
-
 returns-3 : tie.Need-returns-3
 returns-3 c =
     let b = c .before .before .before .before .before in
@@ -84,15 +66,5 @@ returns-3 c =
 pub write-archive-spec : {M : Type 1} → statement M
 write-archive-spec =
     tie.close
-    (tie.spec
-    judge-plan-requires
-    returns
-    lay-plan-requires
-    node-count-requires
-    archive-bytes-requires
-    cast-if2
-    refuse-requires
-    returns-2
-    fill-archive-requires
-    same-length
-    returns-3)
+    (tie.spec (λ c κs. search needs) returns lay-plan-requires (λ c κs. search needs) (λ c κs. search needs)
+    (λ c. search needs) (λ c κs. search needs) returns-2 fill-archive-requires (λ c. search needs) returns-3)

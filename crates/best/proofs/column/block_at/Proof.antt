@@ -7,12 +7,6 @@ use native.Mathlib.Omega.{arith}
 use native.Mathlib.Nat.{mul-le-mul}
 use Rattle.model.specs.Table.{maxNodes, maxLimit}
 
-add-result : tie.Need-add-result
-add-result c = search needs
-
-mul-result : tie.Need-mul-result
-mul-result c = search needs
-
 mul-result-2 : tie.Need-mul-result-2
 mul-result-2 c =
     let k : ℕ = c .args .limit in
@@ -20,8 +14,5 @@ mul-result-2 c =
     let fits : v * (2 * (k + 1)) ≤ maxNodes * (2 * (maxLimit + 1)) = mul-le-mul {n₁ = v} {m₁ = 2 * (k + 1)} {n₂ = maxNodes} {m₂ = 2 * (maxLimit + 1)} (omega arith) (omega arith) in
     search needs
 
-returns : tie.Need-returns
-returns c = search needs
-
 pub block-at-spec : {M : Type 1} → statement M
-block-at-spec = tie.close (tie.spec add-result mul-result mul-result-2 returns)
+block-at-spec = tie.close (tie.spec (λ c. search needs) (λ c. search needs) mul-result-2 (λ c. search needs))

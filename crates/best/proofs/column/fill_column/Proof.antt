@@ -86,12 +86,6 @@ longer c =
     let s = stretch-joins f (l .stretch .inv) (omega arith) _ _ (c .before .join .ensures .0) (c .before .join .ensures .1) in
     (s .0, s .1, f, l .before .before .before .before .before .before .before .before .before .before .pre .0, l .before .before .before .before .before .before .before .before .block-at .ensures)
 
-block-at-requires : tie.Need-block-at-requires Inv-loop μ-loop Inv-stretch μ-stretch
-block-at-requires c κs = search needs
-
-mul-block-at : tie.Need-mul-block-at Inv-loop μ-loop Inv-stretch μ-stretch
-mul-block-at c = search needs
-
 element-copy-out-block-at :
     tie.Need-element-copy-out-block-at Inv-loop μ-loop Inv-stretch μ-stretch
 element-copy-out-block-at c = search needs
@@ -105,12 +99,6 @@ block-at-requires-2 : tie.Need-block-at-requires-2 Inv-loop μ-loop Inv-stretch 
 block-at-requires-2 c κs =
     let f = c .before .before .before .pre .1 in
     (f .limit-high, omega (arith, f .earlier (c .before .before .before .args .child) (f .node-low), f .node-high))
-
-mul-stay : tie.Need-mul-stay Inv-loop μ-loop Inv-stretch μ-stretch
-mul-stay c = search needs
-
-element-copy-out-stay : tie.Need-element-copy-out-stay Inv-loop μ-loop Inv-stretch μ-stretch
-element-copy-out-stay c = search needs
 
 cast-stay : tie.Need-cast-stay Inv-loop μ-loop Inv-stretch μ-stretch
 cast-stay c =
@@ -127,28 +115,10 @@ stretch-holds c =
     let b = c .before .before .before .before .before in
     stretch-start (b .before .before .before .before .pre .1) (b .before .before .block-at .ensures) (b .block-at2 .ensures) (c .before .before .stay .ensures)
 
-mul-join : tie.Need-mul-join Inv-loop μ-loop Inv-stretch μ-stretch
-mul-join c = search needs
-
-element-copy-out-join : tie.Need-element-copy-out-join Inv-loop μ-loop Inv-stretch μ-stretch
-element-copy-out-join c = search needs
-
-mul-join-2 : tie.Need-mul-join-2 Inv-loop μ-loop Inv-stretch μ-stretch
-mul-join-2 c = search needs
-
-element-copy-out-join-2 : tie.Need-element-copy-out-join-2 Inv-loop μ-loop Inv-stretch μ-stretch
-element-copy-out-join-2 c = search needs
-
 join-requires : tie.Need-join-requires Inv-loop μ-loop Inv-stretch μ-stretch
 join-requires c κs =
     let l = c .before .before .before .before in
     joins-fits (ready (l .before)) (l .stretch .inv) (omega arith)
-
-mul-next : tie.Need-mul-next Inv-loop μ-loop Inv-stretch μ-stretch
-mul-next c = search needs
-
-element-copy-out-next : tie.Need-element-copy-out-next Inv-loop μ-loop Inv-stretch μ-stretch
-element-copy-out-next c = search needs
 
 cast-next : tie.Need-cast-next Inv-loop μ-loop Inv-stretch μ-stretch
 cast-next c =
@@ -156,32 +126,11 @@ cast-next c =
     let f = ready (l .before) in
     omega (arith, f .earlier (l .stretch .next) (omega arith), l .stretch .inv .short, f .node-high)
 
-cast-left : tie.Need-cast-left Inv-loop μ-loop Inv-stretch μ-stretch
-cast-left c = search needs
-
-mul-left : tie.Need-mul-left Inv-loop μ-loop Inv-stretch μ-stretch
-mul-left c = search needs
-
 array-read-left : tie.Need-array-read-left Inv-loop μ-loop Inv-stretch μ-stretch
 array-read-left c = omega (arith, longer c .0 .kept .top-high, longer c .2 .limit-high)
 
 loop-holds : tie.Need-loop-holds Inv-loop μ-loop Inv-stretch μ-stretch
 loop-holds c = taking-start (longer c .2) (longer c .0)
-
-cast-loop : tie.Need-cast-loop Inv-loop μ-loop Inv-stretch μ-stretch
-cast-loop c = search needs
-
-sub-gain : tie.Need-sub-gain Inv-loop μ-loop Inv-stretch μ-stretch
-sub-gain c = search needs
-
-cast-left-2 : tie.Need-cast-left-2 Inv-loop μ-loop Inv-stretch μ-stretch
-cast-left-2 c = search needs
-
-mul-left-2 : tie.Need-mul-left-2 Inv-loop μ-loop Inv-stretch μ-stretch
-mul-left-2 c = search needs
-
-array-read-left-2 : tie.Need-array-read-left-2 Inv-loop μ-loop Inv-stretch μ-stretch
-array-read-left-2 c = search needs
 
 loop-less : tie.Need-loop-less Inv-loop μ-loop Inv-stretch μ-stretch
 loop-less c =
@@ -192,21 +141,6 @@ loop-again : tie.Need-loop-again Inv-loop μ-loop Inv-stretch μ-stretch
 loop-again c =
     let n = c .before .before .before .before in
     taking-down (longer n .2) (longer n .0) (c .before .before .before .loop .inv) (c .before .if1 .left) (c .if2 .taken)
-
-sub-left : tie.Need-sub-left Inv-loop μ-loop Inv-stretch μ-stretch
-sub-left c = search needs
-
-cast-sum : tie.Need-cast-sum Inv-loop μ-loop Inv-stretch μ-stretch
-cast-sum c = search needs
-
-sub-sum : tie.Need-sub-sum Inv-loop μ-loop Inv-stretch μ-stretch
-sub-sum c = search needs
-
-add-taken : tie.Need-add-taken Inv-loop μ-loop Inv-stretch μ-stretch
-add-taken c = search needs
-
-loop-less-2 : tie.Need-loop-less-2 Inv-loop μ-loop Inv-stretch μ-stretch
-loop-less-2 c = search needs
 
 loop-again-2 : tie.Need-loop-again-2 Inv-loop μ-loop Inv-stretch μ-stretch
 loop-again-2 c =
@@ -252,22 +186,13 @@ stretch-again c =
     let n = c .before .before .before .before .before .before .before .before .before in
     again (longer n .2) (longer n .0) (c .before .before .before .before .before .before .before .before .loop .inv) (c .before .before .before .before .before .before .before .loop-test .left) (longer n .1) _ _ (longer n .4) (c .before .before .before .before .before .before .block-at3 .ensures) _ (c .before .before .before .before .relax .ensures) (c .if3 .left)
 
-same-length : tie.Need-same-length Inv-loop μ-loop Inv-stretch μ-stretch
-same-length c = search needs
-
 returns : tie.Need-returns Inv-loop μ-loop Inv-stretch μ-stretch
 returns c = whole (c .before .before) (stretch-end (ready (c .before .before)) (c .before .stretch .inv) (c .stretch-test .left))
-
-same-length-2 : tie.Need-same-length-2 Inv-loop μ-loop Inv-stretch μ-stretch
-same-length-2 c = search needs
 
 returns-2 : tie.Need-returns-2 Inv-loop μ-loop Inv-stretch μ-stretch
 returns-2 c =
     let n = c .before .before .before in
     whole (n .before .before .before .before .before .before .before) (over-end (longer n .2) (longer n .0) (c .before .before .loop .inv) (c .if1 .taken) (c .before .loop-test .taken))
-
-same-length-3 : tie.Need-same-length-3 Inv-loop μ-loop Inv-stretch μ-stretch
-same-length-3 c = search needs
 
 returns-3 : tie.Need-returns-3 Inv-loop μ-loop Inv-stretch μ-stretch
 returns-3 c =
@@ -278,57 +203,12 @@ returns-3 c =
 pub fill-column-spec : {M : Type 1} → statement M
 fill-column-spec =
     tie.close
-    (tie.spec
-    Inv-loop
-    μ-loop
-    Inv-stretch
-    μ-stretch
-    block-at-requires
-    mul-block-at
-    element-copy-out-block-at
-    cast-block-at
-    block-at-requires-2
-    mul-stay
-    element-copy-out-stay
-    cast-stay
-    stay-requires
-    stretch-holds
-    mul-join
-    element-copy-out-join
-    mul-join-2
-    element-copy-out-join-2
-    join-requires
-    mul-next
-    element-copy-out-next
-    cast-next
-    cast-left
-    mul-left
-    array-read-left
-    loop-holds
-    cast-loop
-    sub-gain
-    cast-left-2
-    mul-left-2
-    array-read-left-2
-    loop-less
-    loop-again
-    sub-left
-    cast-sum
-    sub-sum
-    add-taken
-    loop-less-2
-    loop-again-2
-    block-at-requires-3
-    add-relax
-    mul-relax
-    relax-requires
-    cast-if3
-    sub-if3
-    stretch-less
-    stretch-again
-    same-length
-    returns
-    same-length-2
-    returns-2
-    same-length-3
-    returns-3)
+    (tie.spec Inv-loop μ-loop Inv-stretch μ-stretch (λ c κs. search needs) (λ c. search needs)
+    element-copy-out-block-at cast-block-at block-at-requires-2 (λ c. search needs) (λ c. search needs) cast-stay
+    stay-requires stretch-holds (λ c. search needs) (λ c. search needs) (λ c. search needs) (λ c. search needs)
+    join-requires (λ c. search needs) (λ c. search needs) cast-next (λ c. search needs) (λ c. search needs)
+    array-read-left loop-holds (λ c. search needs) (λ c. search needs) (λ c. search needs) (λ c. search needs)
+    (λ c. search needs) loop-less loop-again (λ c. search needs) (λ c. search needs) (λ c. search needs)
+    (λ c. search needs) (λ c. search needs) loop-again-2 block-at-requires-3 add-relax mul-relax relax-requires
+    cast-if3 sub-if3 stretch-less stretch-again (λ c. search needs) returns (λ c. search needs) returns-2
+    (λ c. search needs) returns-3)

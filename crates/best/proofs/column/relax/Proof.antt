@@ -21,15 +21,6 @@ abbrev μ-loop : tie.MeasureT-loop
 loop-holds : tie.Need-loop-holds Inv-loop μ-loop
 loop-holds c = (omega arith, omega arith, sweep-none _ _ _ _ _)
 
-add-word : tie.Need-add-word Inv-loop μ-loop
-add-word c = search needs
-
-mul-word : tie.Need-mul-word Inv-loop μ-loop
-mul-word c = search needs
-
-slice-read-word : tie.Need-slice-read-word Inv-loop μ-loop
-slice-read-word c = search needs
-
 add-word-2 : tie.Need-add-word-2 Inv-loop μ-loop
 add-word-2 c =
     let l = c .before .before in
@@ -39,59 +30,8 @@ add-word-2 c =
     let fits = b .pre .4 s (l .loop .inv .0) (c .before .loop-test .taken) in
     omega (arith, same, fits)
 
-add-held : tie.Need-add-held Inv-loop μ-loop
-add-held c = search needs
-
-mul-held : tie.Need-mul-held Inv-loop μ-loop
-mul-held c = search needs
-
-slice-read-held : tie.Need-slice-read-held Inv-loop μ-loop
-slice-read-held c = search needs
-
-add-run : tie.Need-add-run Inv-loop μ-loop
-add-run c = search needs
-
-add-run-2 : tie.Need-add-run-2 Inv-loop μ-loop
-add-run-2 c = search needs
-
-add-run-3 : tie.Need-add-run-3 Inv-loop μ-loop
-add-run-3 c = search needs
-
-mul-run : tie.Need-mul-run Inv-loop μ-loop
-mul-run c = search needs
-
-slice-read-run : tie.Need-slice-read-run Inv-loop μ-loop
-slice-read-run c = search needs
-
-add-words : tie.Need-add-words Inv-loop μ-loop
-add-words c = search needs
-
-mul-words : tie.Need-mul-words Inv-loop μ-loop
-mul-words c = search needs
-
-slice-write-words : tie.Need-slice-write-words Inv-loop μ-loop
-slice-write-words c = search needs
-
-add-words-2 : tie.Need-add-words-2 Inv-loop μ-loop
-add-words-2 c = search needs
-
-add-words-3 : tie.Need-add-words-3 Inv-loop μ-loop
-add-words-3 c = search needs
-
-add-words-4 : tie.Need-add-words-4 Inv-loop μ-loop
-add-words-4 c = search needs
-
-mul-words-2 : tie.Need-mul-words-2 Inv-loop μ-loop
-mul-words-2 c = search needs
-
 slice-write-words-2 : tie.Need-slice-write-words-2 Inv-loop μ-loop
 slice-write-words-2 c = simp length-set (omega (arith, c .before .before .before .before .before .before .loop .inv .2 .long))
-
-add-s : tie.Need-add-s Inv-loop μ-loop
-add-s c = search needs
-
-loop-less : tie.Need-loop-less Inv-loop μ-loop
-loop-less c = search needs
 
 loop-again : tie.Need-loop-again Inv-loop μ-loop
 loop-again c =
@@ -104,41 +44,14 @@ loop-again c =
           (⊎-elim (λ w. inl (w .0 .taken, w .1)) (λ w. inr (w .0 .left, w .1)) (c .if2 .came)),
     )
 
-same-length : tie.Need-same-length Inv-loop μ-loop
-same-length c = search needs
-
 returns : tie.Need-returns Inv-loop μ-loop
 returns c = sweep-end (c .before .loop .inv .2) (c .loop-test .left)
 
 pub relax-spec : {M : Type 1} → statement M
 relax-spec =
     tie.close
-    (tie.spec
-    Inv-loop
-    μ-loop
-    loop-holds
-    add-word
-    mul-word
-    slice-read-word
-    add-word-2
-    add-held
-    mul-held
-    slice-read-held
-    add-run
-    add-run-2
-    add-run-3
-    mul-run
-    slice-read-run
-    add-words
-    mul-words
-    slice-write-words
-    add-words-2
-    add-words-3
-    add-words-4
-    mul-words-2
-    slice-write-words-2
-    add-s
-    loop-less
-    loop-again
-    same-length
-    returns)
+    (tie.spec Inv-loop μ-loop loop-holds (λ c. search needs) (λ c. search needs) (λ c. search needs) add-word-2
+    (λ c. search needs) (λ c. search needs) (λ c. search needs) (λ c. search needs) (λ c. search needs)
+    (λ c. search needs) (λ c. search needs) (λ c. search needs) (λ c. search needs) (λ c. search needs)
+    (λ c. search needs) (λ c. search needs) (λ c. search needs) (λ c. search needs) (λ c. search needs)
+    slice-write-words-2 (λ c. search needs) (λ c. search needs) loop-again (λ c. search needs) returns)

@@ -16,31 +16,10 @@ Inv-loop counts top total limit gain₀ left₀ times₀ sum₀ gain left times 
 abbrev μ-loop : tie.MeasureT-loop
 μ-loop counts top total limit gain₀ left₀ times₀ sum₀ gain left times sum = gain * 65536 + left
 
-cast-left : tie.Need-cast-left Inv-loop μ-loop
-cast-left c = search needs
-
-mul-left : tie.Need-mul-left Inv-loop μ-loop
-mul-left c = search needs
-
-element-copy-out-left : tie.Need-element-copy-out-left Inv-loop μ-loop
-element-copy-out-left c = search needs
-
 loop-holds : tie.Need-loop-holds Inv-loop μ-loop
 loop-holds c =
     let a = c .before .args in
     (omega arith, omega (arith, c .before .pre .2 (a .top)), levelling-start (a .top) (countsOf (a .counts .now)) (a .limit) (a .total))
-
-sub-gain : tie.Need-sub-gain Inv-loop μ-loop
-sub-gain c = search needs
-
-cast-left-2 : tie.Need-cast-left-2 Inv-loop μ-loop
-cast-left-2 c = search needs
-
-mul-left-2 : tie.Need-mul-left-2 Inv-loop μ-loop
-mul-left-2 c = search needs
-
-element-copy-out-left-2 : tie.Need-element-copy-out-left-2 Inv-loop μ-loop
-element-copy-out-left-2 c = search needs
 
 loop-less : tie.Need-loop-less Inv-loop μ-loop
 loop-less c =
@@ -66,20 +45,8 @@ returns c =
     let is = l .inv .2 ∙ levelling-stop (l .gain) (l .left) (l .times) (countsOf (a .counts .now)) (a .limit) (l .sum) (omega arith) (omega arith) (c .if2 .taken) in
     (ap (λ x. x .gain) (sym is), ap (λ x. x .times) (sym is))
 
-sub-left : tie.Need-sub-left Inv-loop μ-loop
-sub-left c = search needs
-
-cast-sum : tie.Need-cast-sum Inv-loop μ-loop
-cast-sum c = search needs
-
-sub-sum : tie.Need-sub-sum Inv-loop μ-loop
-sub-sum c = search needs
-
 add-times : tie.Need-add-times Inv-loop μ-loop
 add-times c = let h = c .before .before .before .loop .inv .1 in search needs
-
-loop-less-2 : tie.Need-loop-less-2 Inv-loop μ-loop
-loop-less-2 c = search needs
 
 loop-again-2 : tie.Need-loop-again-2 Inv-loop μ-loop
 loop-again-2 c =
@@ -102,24 +69,6 @@ returns-2 c =
 pub find-level-spec : {M : Type 1} → statement M
 find-level-spec =
     tie.close
-    (tie.spec
-    Inv-loop
-    μ-loop
-    cast-left
-    mul-left
-    element-copy-out-left
-    loop-holds
-    sub-gain
-    cast-left-2
-    mul-left-2
-    element-copy-out-left-2
-    loop-less
-    loop-again
-    returns
-    sub-left
-    cast-sum
-    sub-sum
-    add-times
-    loop-less-2
-    loop-again-2
-    returns-2)
+    (tie.spec Inv-loop μ-loop (λ c. search needs) (λ c. search needs) (λ c. search needs) loop-holds
+    (λ c. search needs) (λ c. search needs) (λ c. search needs) (λ c. search needs) loop-less loop-again returns
+    (λ c. search needs) (λ c. search needs) (λ c. search needs) add-times (λ c. search needs) loop-again-2 returns-2)

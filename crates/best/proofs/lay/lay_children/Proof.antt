@@ -73,12 +73,6 @@ fits c =
     let b = l .before .before .before .before .before .before .before .before in
     omega (arith, stay-fits (b .pre) (l .loop .inv) (found d) (c .before .if1 .taken), limit-small (b .pre))
 
-limit-of-requires : tie.Need-limit-of-requires Inv-loop μ-loop
-limit-of-requires c κs = search needs
-
-cast-limit : tie.Need-cast-limit Inv-loop μ-loop
-cast-limit c = search needs
-
 start-of-requires : tie.Need-start-of-requires Inv-loop μ-loop
 start-of-requires c κs =
     let b = c .before .before .before .before .before in
@@ -87,12 +81,6 @@ start-of-requires c κs =
       omega (arith, b .pre .high, count-small (b .pre)),
       omega (arith, lim .ensures, b .pre .ready .good (b .args .v) .light),
     )
-
-mul-child : tie.Need-mul-child Inv-loop μ-loop
-mul-child c = search needs
-
-element-copy-out-child : tie.Need-element-copy-out-child Inv-loop μ-loop
-element-copy-out-child c = search needs
 
 cast-child : tie.Need-cast-child Inv-loop μ-loop
 cast-child c =
@@ -113,9 +101,6 @@ block-at-requires c κs =
     let b = l .before .before .before .before .before .before .before .before in
     (omega (arith, l .before .before .before .before .limit-of .ensures, limit-small (b .pre)), high l)
 
-add-len : tie.Need-add-len Inv-loop μ-loop
-add-len c = search needs
-
 add-len-2 : tie.Need-add-len-2 Inv-loop μ-loop
 add-len-2 c = let small = place c in search needs
 
@@ -135,17 +120,11 @@ shared-slice-read-len c =
 element-write-seconds : tie.Need-element-write-seconds Inv-loop μ-loop
 element-write-seconds c = omega (arith, high (c .before .before .before .before))
 
-sub-marks : tie.Need-sub-marks Inv-loop μ-loop
-sub-marks c = search needs
-
 slice-write-marks : tie.Need-slice-write-marks Inv-loop μ-loop
 slice-write-marks c =
     let l = c .before .before .before .before in
     let b = l .before .before .before .before .before .before .before .before in
     omega (arith, walk-high (b .pre) (l .loop .inv), b .pre .long, l .loop .inv .laid .long, c .before .before .before .loop-test .taken)
-
-mul-start : tie.Need-mul-start Inv-loop μ-loop
-mul-start c = search needs
 
 element-copy-out-start : tie.Need-element-copy-out-start Inv-loop μ-loop
 element-copy-out-start c = omega (arith, high (c .before .before .before .before))
@@ -155,9 +134,6 @@ cast-start c = let room = fits c in search needs
 
 add-start : tie.Need-add-start Inv-loop μ-loop
 add-start c = let room = fits c in search needs
-
-mul-child-2 : tie.Need-mul-child-2 Inv-loop μ-loop
-mul-child-2 c = search needs
 
 element-copy-out-child-2 : tie.Need-element-copy-out-child-2 Inv-loop μ-loop
 element-copy-out-child-2 c = omega (arith, high (c .before .before .before .before .before))
@@ -209,36 +185,8 @@ returns c = walk-end (c .before .before .before .before .before .before .before 
 pub lay-children-spec : {M : Type 1} → statement M
 lay-children-spec =
     tie.close
-    (tie.spec
-    Inv-loop
-    μ-loop
-    limit-of-requires
-    cast-limit
-    start-of-requires
-    mul-child
-    element-copy-out-child
-    cast-child
-    loop-holds
-    block-at-requires
-    add-len
-    add-len-2
-    add-len-3
-    mul-len
-    shared-slice-read-len
-    element-write-seconds
-    sub-marks
-    slice-write-marks
-    mul-start
-    element-copy-out-start
-    cast-start
-    add-start
-    mul-child-2
-    element-copy-out-child-2
-    cast-child-2
-    loop-less
-    loop-again
-    lay-run-requires
-    loop-less-2
-    loop-again-2
-    same-length
-    returns)
+    (tie.spec Inv-loop μ-loop (λ c κs. search needs) (λ c. search needs) start-of-requires (λ c. search needs)
+    (λ c. search needs) cast-child loop-holds block-at-requires (λ c. search needs) add-len-2 add-len-3 mul-len
+    shared-slice-read-len element-write-seconds (λ c. search needs) slice-write-marks (λ c. search needs)
+    element-copy-out-start cast-start add-start (λ c. search needs) element-copy-out-child-2 cast-child-2 loop-less
+    loop-again lay-run-requires loop-less-2 loop-again-2 same-length returns)

@@ -13,9 +13,6 @@ Inv-loop table prevs rests gains lasts words marks₀ nodes seconds₀ v₀ mark
 abbrev μ-loop : tie.MeasureT-loop
 μ-loop table prevs rests gains lasts words marks₀ nodes seconds₀ v₀ marks seconds v = nodes - v
 
-node-count-requires : tie.Need-node-count-requires Inv-loop μ-loop
-node-count-requires c κs = search needs
-
 slice-write-marks : tie.Need-slice-write-marks Inv-loop μ-loop
 slice-write-marks c = omega (arith, c .before .before .before .before .pre .1, c .before .before .before .before .pre .0 .1 .ready .accepted .sound .count-low)
 
@@ -24,16 +21,10 @@ loop-holds c =
     let b = c .before .before .before .before in
     laying-start _ _ _ _ _ (b .args .marks .now) (b .pre .1) (b .pre .0 .1 .ready .accepted .sound .count-low)
 
-add-v : tie.Need-add-v Inv-loop μ-loop
-add-v c = search needs
-
 lay-children-requires : tie.Need-lay-children-requires Inv-loop μ-loop
 lay-children-requires c κs =
     let l = c .before .before .before in
     laying-ready (l .loop .inv) (c .before .before .before .before .before .before .before .before .pre .0 .1) (omega (arith, c .before .before .loop-test .taken, l .before .node-count .ensures))
-
-loop-less : tie.Need-loop-less Inv-loop μ-loop
-loop-less c = search needs
 
 loop-again : tie.Need-loop-again Inv-loop μ-loop
 loop-again c =
@@ -52,15 +43,5 @@ returns c = λ g p. laying-end (c .before .loop .inv) p (omega (arith, c .loop-t
 pub lay-nodes-spec : {M : Type 1} → statement M
 lay-nodes-spec =
     tie.close
-    (tie.spec
-    Inv-loop
-    μ-loop
-    node-count-requires
-    slice-write-marks
-    loop-holds
-    add-v
-    lay-children-requires
-    loop-less
-    loop-again
-    same-length
-    returns)
+    (tie.spec Inv-loop μ-loop (λ c κs. search needs) slice-write-marks loop-holds (λ c. search needs)
+    lay-children-requires (λ c. search needs) loop-again same-length returns)

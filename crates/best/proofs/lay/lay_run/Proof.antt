@@ -59,20 +59,11 @@ low i = marking-low (i .before .before .before .before .before .before .before .
 sum-run-requires : tie.Need-sum-run-requires Inv-loop μ-loop
 sum-run-requires c κs = (run-sums (c .before .before .pre), refl)
 
-cast-find-level : tie.Need-cast-find-level Inv-loop μ-loop
-cast-find-level c = search needs
-
 find-level-requires : tie.Need-find-level-requires Inv-loop μ-loop
 find-level-requires c κs =
     let b = c .before .before .before .before in
     let kept = c .before .sum-run .ensures (b .args .limit) (b .pre .good) in
     (kept .top-high, b .pre .limit-high, counts-small (b .pre) kept)
-
-cast-before : tie.Need-cast-before Inv-loop μ-loop
-cast-before c = search needs
-
-mul-before : tie.Need-mul-before Inv-loop μ-loop
-mul-before c = search needs
 
 array-read-before : tie.Need-array-read-before Inv-loop μ-loop
 array-read-before c =
@@ -83,9 +74,6 @@ loop-holds : tie.Need-loop-holds Inv-loop μ-loop
 loop-holds c =
     let d = c .before in
     marking-start (d .before .before .before .before .before .pre) (levelled d)
-
-sub-left : tie.Need-sub-left Inv-loop μ-loop
-sub-left c = search needs
 
 mul-gain : tie.Need-mul-gain Inv-loop μ-loop
 mul-gain c = let h = high (c .before) in search needs
@@ -98,16 +86,10 @@ sub-before c =
     let i = c .before .before .before in
     marking-takes (i .before .before .before .before .before .before .before .before .pre) (i .before .loop .inv) (i .loop-test .taken) (c .if1 .taken)
 
-second-of-requires : tie.Need-second-of-requires Inv-loop μ-loop
-second-of-requires c κs = search needs
-
 element-write-seconds : tie.Need-element-write-seconds Inv-loop μ-loop
 element-write-seconds c =
     let h = high (c .before .before .before .before .before) in
     omega (arith, h .0, h .1)
-
-mark-of-requires : tie.Need-mark-of-requires Inv-loop μ-loop
-mark-of-requires c κs = search needs
 
 sub-marks : tie.Need-sub-marks Inv-loop μ-loop
 sub-marks c = low (c .before .before .before .before .before)
@@ -134,9 +116,6 @@ cast-next c =
     let h = high l in
     search needs
 
-loop-less : tie.Need-loop-less Inv-loop μ-loop
-loop-less c = search needs
-
 loop-again : tie.Need-loop-again Inv-loop μ-loop
 loop-again c =
     let i = c .before .before .before .before .before .before in
@@ -159,29 +138,7 @@ returns c =
 pub lay-run-spec : {M : Type 1} → statement M
 lay-run-spec =
     tie.close
-    (tie.spec
-    Inv-loop
-    μ-loop
-    sum-run-requires
-    cast-find-level
-    find-level-requires
-    cast-before
-    mul-before
-    array-read-before
-    loop-holds
-    sub-left
-    mul-gain
-    element-copy-out-gain
-    sub-before
-    second-of-requires
-    element-write-seconds
-    mark-of-requires
-    sub-marks
-    slice-write-marks
-    mul-next
-    element-copy-out-next
-    cast-next
-    loop-less
-    loop-again
-    same-length
-    returns)
+    (tie.spec Inv-loop μ-loop sum-run-requires (λ c. search needs) find-level-requires (λ c. search needs)
+    (λ c. search needs) array-read-before loop-holds (λ c. search needs) mul-gain element-copy-out-gain sub-before
+    (λ c κs. search needs) element-write-seconds (λ c κs. search needs) sub-marks slice-write-marks mul-next
+    element-copy-out-next cast-next (λ c. search needs) loop-again same-length returns)

@@ -70,18 +70,5 @@ returns c = sum-end (c .before .before .before .pre .0) (c .before .before .loop
 pub sum-run-spec : {M : Type 1} → statement M
 sum-run-spec =
     tie.close
-    (tie.spec
-    Inv-loop
-    μ-loop
-    loop-holds
-    mul-join
-    element-copy-out-join
-    mul-join-2
-    element-copy-out-join-2
-    join-requires
-    mul-next
-    element-copy-out-next
-    cast-next
-    loop-less
-    loop-again
-    returns)
+    (tie.spec Inv-loop μ-loop loop-holds mul-join element-copy-out-join mul-join-2 element-copy-out-join-2
+    join-requires mul-next element-copy-out-next cast-next loop-less loop-again returns)

@@ -13,21 +13,6 @@ Inv-loop table prevs rests gains words₀ v limit start last₀ child₀ words l
 abbrev μ-loop : tie.MeasureT-loop
 μ-loop table prevs rests gains words₀ v limit start last₀ child₀ words last child = nodeCount table - last
 
-limit-of-requires : tie.Need-limit-of-requires Inv-loop μ-loop
-limit-of-requires c κs = search needs
-
-cast-limit : tie.Need-cast-limit Inv-loop μ-loop
-cast-limit c = search needs
-
-weight-at-requires : tie.Need-weight-at-requires Inv-loop μ-loop
-weight-at-requires c κs = search needs
-
-cast-start : tie.Need-cast-start Inv-loop μ-loop
-cast-start c = search needs
-
-first-at-requires : tie.Need-first-at-requires Inv-loop μ-loop
-first-at-requires c κs = search needs
-
 loop-holds : tie.Need-loop-holds Inv-loop μ-loop
 loop-holds c =
     let b = c .before .before .before .before .before in
@@ -49,9 +34,6 @@ fill-column-requires c κs =
     let light : w .weight-at .result ≤ w .before .limit-of .result = omega (arith, limit, w .weight-at .ensures, b .pre .0 .accepted .light (b .args .v) (b .pre .1) (b .pre .2)) in
     (light, rw (limit, w .weight-at .ensures) (filling-column (b .pre .0) (b .args .v) (b .pre .1) (b .pre .2) (l .last) (l .child) (l .words) (l .inv) (c .before .loop-test .taken)))
 
-next-at-requires : tie.Need-next-at-requires Inv-loop μ-loop
-next-at-requires c κs = search needs
-
 loop-less : tie.Need-loop-less Inv-loop μ-loop
 loop-less c =
     let t = c .before .before .before .before .before in
@@ -69,9 +51,6 @@ loop-again c =
     let b = w .before .before .before .before in
     rw (c .next-at .ensures) (filling-turn (b .pre .0) (b .args .v) (b .pre .1) (b .pre .2) (l .last) (l .child) (l .words) (l .inv) (t .loop-test .taken) _ (rw (w .before .limit-of .ensures, w .weight-at .ensures) at (x .ensures)))
 
-same-length : tie.Need-same-length Inv-loop μ-loop
-same-length c = search needs
-
 returns : tie.Need-returns Inv-loop μ-loop
 returns c =
     let l = c .before .loop in
@@ -80,19 +59,6 @@ returns c =
 pub fill-columns-spec : {M : Type 1} → statement M
 fill-columns-spec =
     tie.close
-    (tie.spec
-    Inv-loop
-    μ-loop
-    limit-of-requires
-    cast-limit
-    weight-at-requires
-    cast-start
-    first-at-requires
-    loop-holds
-    cast-fill-column
-    fill-column-requires
-    next-at-requires
-    loop-less
-    loop-again
-    same-length
-    returns)
+    (tie.spec Inv-loop μ-loop (λ c κs. search needs) (λ c. search needs) (λ c κs. search needs) (λ c. search needs)
+    (λ c κs. search needs) loop-holds cast-fill-column fill-column-requires (λ c κs. search needs) loop-less
+    loop-again (λ c. search needs) returns)

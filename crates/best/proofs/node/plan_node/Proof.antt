@@ -21,24 +21,6 @@ light c =
     let b = c .before .before .before .before in
     omega (arith, c .before .limit-of .ensures, c .weight-at .ensures, b .pre .0 .ready .accepted .light (b .args .v) (b .pre .1) (b .pre .2))
 
-limit-of-requires : tie.Need-limit-of-requires
-limit-of-requires c κs = search needs
-
-cast-limit : tie.Need-cast-limit
-cast-limit c = search needs
-
-weight-at-requires : tie.Need-weight-at-requires
-weight-at-requires c κs = search needs
-
-cast-weight : tie.Need-cast-weight
-cast-weight c = search needs
-
-fill-columns-requires : tie.Need-fill-columns-requires
-fill-columns-requires c κs = search needs
-
-cast-block-at : tie.Need-cast-block-at
-cast-block-at c = search needs
-
 block-at-requires : tie.Need-block-at-requires
 block-at-requires c κs =
     let x = c .before .before .fill-columns in
@@ -66,12 +48,6 @@ slice-read-rest c =
     let w = c .before .before .before .before .before .before .before .before in
     omega (arith, room (c .before), light w)
 
-cast-rest : tie.Need-cast-rest
-cast-rest c = search needs
-
-cast-gain-in : tie.Need-cast-gain-in
-cast-gain-in c = search needs
-
 gain-in-requires : tie.Need-gain-in-requires
 gain-in-requires c κs =
     let d = c .before .before in
@@ -93,27 +69,6 @@ cast-gain c =
     let at = gain-fits (b .pre .1) (b .pre .2) (b .pre .0) (x .ensures) _ _ _ _ (w .before .limit-of .ensures) (w .weight-at .ensures) (d .block-at .ensures) refl (c .gain-in .result) (c .gain-in .ensures) in
     omega (arith, at)
 
-mul-rests : tie.Need-mul-rests
-mul-rests c = search needs
-
-element-write-rests : tie.Need-element-write-rests
-element-write-rests c = search needs
-
-mul-gains : tie.Need-mul-gains
-mul-gains c = search needs
-
-element-write-gains : tie.Need-element-write-gains
-element-write-gains c = search needs
-
-mul-lasts : tie.Need-mul-lasts
-mul-lasts c = search needs
-
-element-write-lasts : tie.Need-element-write-lasts
-element-write-lasts c = search needs
-
-same-length : tie.Need-same-length
-same-length c = search needs
-
 returns : tie.Need-returns
 returns c =
     let d = c .before .before .before in
@@ -130,26 +85,7 @@ returns c =
 pub plan-node-spec : {M : Type 1} → statement M
 plan-node-spec =
     tie.close
-    (tie.spec
-    limit-of-requires
-    cast-limit
-    weight-at-requires
-    cast-weight
-    fill-columns-requires
-    cast-block-at
-    block-at-requires
-    add-rest
-    mul-rest
-    slice-read-rest
-    cast-rest
-    cast-gain-in
-    gain-in-requires
-    cast-gain
-    mul-rests
-    element-write-rests
-    mul-gains
-    element-write-gains
-    mul-lasts
-    element-write-lasts
-    same-length
-    returns)
+    (tie.spec (λ c κs. search needs) (λ c. search needs) (λ c κs. search needs) (λ c. search needs)
+    (λ c κs. search needs) (λ c. search needs) block-at-requires add-rest mul-rest slice-read-rest
+    (λ c. search needs) (λ c. search needs) gain-in-requires cast-gain (λ c. search needs) (λ c. search needs)
+    (λ c. search needs) (λ c. search needs) (λ c. search needs) (λ c. search needs) (λ c. search needs) returns)

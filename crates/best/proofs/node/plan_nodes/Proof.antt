@@ -17,31 +17,16 @@ Inv-loop table gainful prevs rests₀ gains₀ lasts₀ words₀ v₀ rests gain
 abbrev μ-loop : tie.MeasureT-loop
 μ-loop table gainful prevs rests₀ gains₀ lasts₀ words₀ v₀ rests gains lasts words v = v
 
-node-count-requires : tie.Need-node-count-requires Inv-loop μ-loop
-node-count-requires c κs = search needs
-
 loop-holds : tie.Need-loop-holds Inv-loop μ-loop
 loop-holds c =
     let b = c .before .before .before in
     (omega (arith, c .node-count .ensures), refl, rw (c .node-count .ensures) (planned-none (b .args .gainful) _ (b .pre .0)), b .pre .1, b .pre .2, b .pre .3)
-
-plan-node-requires : tie.Need-plan-node-requires Inv-loop μ-loop
-plan-node-requires c κs = search needs
-
-sub-v : tie.Need-sub-v Inv-loop μ-loop
-sub-v c = search needs
-
-loop-less : tie.Need-loop-less Inv-loop μ-loop
-loop-less c = search needs
 
 loop-again : tie.Need-loop-again Inv-loop μ-loop
 loop-again c =
     let x = c .before .before .plan-node in
     let l = c .before .before .before .before .before .before .before .before .loop in
     (omega (arith, l .inv .0), x .kept .1 .1 .1 .1 .1 .1 .0 ∙ l .inv .1, x .ensures .0, x .ensures .1, x .ensures .2, x .ensures .3)
-
-same-length : tie.Need-same-length Inv-loop μ-loop
-same-length c = search needs
 
 returns : tie.Need-returns Inv-loop μ-loop
 returns c =
@@ -51,14 +36,5 @@ returns c =
 pub plan-nodes-spec : {M : Type 1} → statement M
 plan-nodes-spec =
     tie.close
-    (tie.spec
-    Inv-loop
-    μ-loop
-    node-count-requires
-    loop-holds
-    plan-node-requires
-    sub-v
-    loop-less
-    loop-again
-    same-length
-    returns)
+    (tie.spec Inv-loop μ-loop (λ c κs. search needs) loop-holds (λ c κs. search needs) (λ c. search needs)
+    (λ c. search needs) loop-again (λ c. search needs) returns)

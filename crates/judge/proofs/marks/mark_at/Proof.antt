@@ -10,12 +10,6 @@ use borrow.Author.Needs.{needs}
 use Rattle.judge.proofs.marks.mark_at.Statement.{statement}
 use Rattle.judge.proofs.marks.mark_at.Tie as tie
 
-sub-before : tie.Need-sub-before
-sub-before c = search needs
-
-shared-slice-read-result : tie.Need-shared-slice-read-result
-shared-slice-read-result c = search needs
-
 returns : tie.Need-returns
 unfolding markAt
 returns c =
@@ -29,4 +23,4 @@ returns-2 c =
     sym (List·getD-eq-default (now (a .marks)) 0 (c .if2 .left)) ∙ ap (λ (k : ℕ). getD (now (a .marks)) k 0) (⊎-elim (λ w. omega arith) (λ w. omega arith) (c .before .before .if1 .came))
 
 pub mark-at-spec : {M : Type 1} → statement M
-mark-at-spec = tie.close (tie.spec sub-before shared-slice-read-result returns returns-2)
+mark-at-spec = tie.close (tie.spec (λ c. search needs) (λ c. search needs) returns returns-2)

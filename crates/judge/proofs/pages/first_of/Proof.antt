@@ -5,9 +5,6 @@ use borrow.Author.Needs.{needs}
 use Rattle.judge.proofs.pages.first_of.Statement.{statement}
 use Rattle.judge.proofs.pages.first_of.Tie as tie
 
-enum-known-found : tie.Need-enum-known-found
-enum-known-found c = search needs
-
 enum-told : tie.Need-enum-told
 enum-told c = search needs
 
@@ -18,4 +15,4 @@ returns-2 : tie.Need-returns-2
 returns-2 c = sym (atPlace-nowhere (c .before .before .args .found) _ _ (c .enum-told .given .1))
 
 pub first-of-spec : {M : Type 1} → statement M
-first-of-spec = tie.close (tie.spec enum-known-found enum-told returns returns-2)
+first-of-spec = tie.close (tie.spec (λ c. search needs) enum-told returns returns-2)

@@ -43,44 +43,8 @@ here c =
 fits : (c : tie.After-choose4 Inv-loop μ-loop) → c .choose4 .result < slots
 fits c = page-fits (c .before .before .before .before .before .before .before .before .before .before .before .before .before .before .pre) (c .before .before .before .before .before .before .before .before .before .before .loop .inv .5) (omega arith) _ (here c)
 
-node-count-requires : tie.Need-node-count-requires Inv-loop μ-loop
-node-count-requires c κs = search needs
-
 loop-holds : tie.Need-loop-holds Inv-loop μ-loop
 loop-holds c = (refl, refl, refl, refl, omega arith, pass-start _ _)
-
-add-v : tie.Need-add-v Inv-loop μ-loop
-add-v c = search needs
-
-cast-i : tie.Need-cast-i Inv-loop μ-loop
-cast-i c = search needs
-
-mark-at-requires : tie.Need-mark-at-requires Inv-loop μ-loop
-mark-at-requires c κs = search needs
-
-mul-u : tie.Need-mul-u Inv-loop μ-loop
-mul-u c = search needs
-
-array-read-u : tie.Need-array-read-u Inv-loop μ-loop
-array-read-u c = search needs
-
-mark-at-requires-2 : tie.Need-mark-at-requires-2 Inv-loop μ-loop
-mark-at-requires-2 c κs = search needs
-
-is-good-requires : tie.Need-is-good-requires Inv-loop μ-loop
-is-good-requires c κs = search needs
-
-cast-place-if : tie.Need-cast-place-if Inv-loop μ-loop
-cast-place-if c = search needs
-
-place-if-requires : tie.Need-place-if-requires Inv-loop μ-loop
-place-if-requires c κs = search needs
-
-first-of-requires : tie.Need-first-of-requires Inv-loop μ-loop
-first-of-requires c κs = search needs
-
-sub-choose : tie.Need-sub-choose Inv-loop μ-loop
-sub-choose c = search needs
 
 cast-choose : tie.Need-cast-choose Inv-loop μ-loop
 cast-choose c = omega (arith, prior (c .before .before .before .before))
@@ -91,80 +55,23 @@ mul-choose c = omega (arith, prior (c .before .before .before .before))
 array-read-choose : tie.Need-array-read-choose Inv-loop μ-loop
 array-read-choose c = omega (arith, prior (c .before .before .before .before))
 
-choose-requires : tie.Need-choose-requires Inv-loop μ-loop
-choose-requires c κs = search needs
-
-mul-parents : tie.Need-mul-parents Inv-loop μ-loop
-mul-parents c = search needs
-
-array-write-parents : tie.Need-array-write-parents Inv-loop μ-loop
-array-write-parents c = search needs
-
 add-choose : tie.Need-add-choose Inv-loop μ-loop
 add-choose c = omega (arith, count-fits (c .before .before .before .before .before .before .before .before .before .before .before .pre) (c .before .before .before .before .before .before .before .loop .inv .5) (omega arith))
-
-choose-requires-2 : tie.Need-choose-requires-2 Inv-loop μ-loop
-choose-requires-2 c κs = search needs
-
-choose-requires-3 : tie.Need-choose-requires-3 Inv-loop μ-loop
-choose-requires-3 c κs = search needs
-
-cast-choose-2 : tie.Need-cast-choose-2 Inv-loop μ-loop
-cast-choose-2 c = search needs
-
-mul-choose-2 : tie.Need-mul-choose-2 Inv-loop μ-loop
-mul-choose-2 c = search needs
 
 array-read-choose-2 : tie.Need-array-read-choose-2 Inv-loop μ-loop
 array-read-choose-2 c = omega (arith, home c)
 
-choose-requires-4 : tie.Need-choose-requires-4 Inv-loop μ-loop
-choose-requires-4 c κs = search needs
-
-mul-page : tie.Need-mul-page Inv-loop μ-loop
-mul-page c = search needs
-
-array-write-page : tie.Need-array-write-page Inv-loop μ-loop
-array-write-page c = search needs
-
-cast-q : tie.Need-cast-q Inv-loop μ-loop
-cast-q c = search needs
-
-mul-weights : tie.Need-mul-weights Inv-loop μ-loop
-mul-weights c = search needs
-
 array-read-weights : tie.Need-array-read-weights Inv-loop μ-loop
 array-read-weights c = omega (arith, fits c)
-
-weight-at-requires : tie.Need-weight-at-requires Inv-loop μ-loop
-weight-at-requires c κs = search needs
-
-cast-weights : tie.Need-cast-weights Inv-loop μ-loop
-cast-weights c = search needs
 
 add-weights : tie.Need-add-weights Inv-loop μ-loop
 add-weights c = omega (arith, sum-fits (c .before .before .before .before .before .before .before .before .before .before .before .before .before .before .before .pre) (c .before .before .before .before .before .before .before .before .before .before .before .loop .inv .5) (omega arith) _ (here (c .before)), c .weight-at .ok)
 
-mul-weights-2 : tie.Need-mul-weights-2 Inv-loop μ-loop
-mul-weights-2 c = search needs
-
 array-write-weights : tie.Need-array-write-weights Inv-loop μ-loop
 array-write-weights c = omega (arith, fits (c .before))
 
-next-at-requires : tie.Need-next-at-requires Inv-loop μ-loop
-next-at-requires c κs = search needs
-
-cast-before : tie.Need-cast-before Inv-loop μ-loop
-cast-before c = search needs
-
-mul-before : tie.Need-mul-before Inv-loop μ-loop
-mul-before c = search needs
-
 array-write-before : tie.Need-array-write-before Inv-loop μ-loop
 array-write-before c = omega (arith, c .next-at .ensures, next-fits (c .before .before .before .before .before .before .before .before .before .before .before .before .before .before .before .before .pre) (c .before .before .before .before .before .before .before .before .before .before .before .before .loop .inv .5) (omega arith))
-
-loop-less : tie.Need-loop-less Inv-loop μ-loop
-loop-less c = search needs
 
 loop-again : tie.Need-loop-again Inv-loop μ-loop
 loop-again c =
@@ -187,49 +94,12 @@ returns c = pass-end _ (c .before .loop .inv .5) (omega arith) (omega arith)
 pub lay-plan-spec : {M : Type 1} → statement M
 lay-plan-spec =
     tie.close
-    (tie.spec
-    Inv-loop
-    μ-loop
-    node-count-requires
-    loop-holds
-    add-v
-    cast-i
-    mark-at-requires
-    mul-u
-    array-read-u
-    mark-at-requires-2
-    is-good-requires
-    cast-place-if
-    place-if-requires
-    first-of-requires
-    sub-choose
-    cast-choose
-    mul-choose
-    array-read-choose
-    choose-requires
-    mul-parents
-    array-write-parents
-    add-choose
-    choose-requires-2
-    choose-requires-3
-    cast-choose-2
-    mul-choose-2
-    array-read-choose-2
-    choose-requires-4
-    mul-page
-    array-write-page
-    cast-q
-    mul-weights
-    array-read-weights
-    weight-at-requires
-    cast-weights
-    add-weights
-    mul-weights-2
-    array-write-weights
-    next-at-requires
-    cast-before
-    mul-before
-    array-write-before
-    loop-less
-    loop-again
+    (tie.spec Inv-loop μ-loop (λ c κs. search needs) loop-holds (λ c. search needs) (λ c. search needs)
+    (λ c κs. search needs) (λ c. search needs) (λ c. search needs) (λ c κs. search needs) (λ c κs. search needs)
+    (λ c. search needs) (λ c κs. search needs) (λ c κs. search needs) (λ c. search needs) cast-choose mul-choose
+    array-read-choose (λ c κs. search needs) (λ c. search needs) (λ c. search needs) add-choose
+    (λ c κs. search needs) (λ c κs. search needs) (λ c. search needs) (λ c. search needs) array-read-choose-2
+    (λ c κs. search needs) (λ c. search needs) (λ c. search needs) (λ c. search needs) (λ c. search needs)
+    array-read-weights (λ c κs. search needs) (λ c. search needs) add-weights (λ c. search needs) array-write-weights
+    (λ c κs. search needs) (λ c. search needs) (λ c. search needs) array-write-before (λ c. search needs) loop-again
     returns)

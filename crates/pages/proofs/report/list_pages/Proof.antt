@@ -18,27 +18,6 @@ Inv-loop archive out₀ pages root limit at₀ p₀ out at p =
 abbrev μ-loop : tie.MeasureT-loop
 μ-loop archive out₀ pages root limit at₀ p₀ out at p = pages - p
 
-pages-in-requires : tie.Need-pages-in-requires Inv-loop μ-loop
-pages-in-requires c κs = search needs
-
-page-field-requires : tie.Need-page-field-requires Inv-loop μ-loop
-page-field-requires c κs = search needs
-
-limit-of-requires : tie.Need-limit-of-requires Inv-loop μ-loop
-limit-of-requires c κs = search needs
-
-cast-head-line : tie.Need-cast-head-line Inv-loop μ-loop
-cast-head-line c = search needs
-
-cast-head-line-2 : tie.Need-cast-head-line-2 Inv-loop μ-loop
-cast-head-line-2 c = search needs
-
-cast-head-line-3 : tie.Need-cast-head-line-3 Inv-loop μ-loop
-cast-head-line-3 c = search needs
-
-head-line-requires : tie.Need-head-line-requires Inv-loop μ-loop
-head-line-requires c κs = search needs
-
 loop-holds : tie.Need-loop-holds Inv-loop μ-loop
 loop-holds c =
     let h = c .before .before in
@@ -51,37 +30,10 @@ loop-holds c =
       listed-start (s .args .archive .now) count (l .before .page-field .ensures) (l .limit-of .ensures) (h .head-line .ensures .0) (h .head-line .ensures .1),
     )
 
-add-p : tie.Need-add-p Inv-loop μ-loop
-add-p c = search needs
-
-page-field-requires-2 : tie.Need-page-field-requires-2 Inv-loop μ-loop
-page-field-requires-2 c κs = search needs
-
-page-field-requires-3 : tie.Need-page-field-requires-3 Inv-loop μ-loop
-page-field-requires-3 c κs = search needs
-
-page-field-requires-4 : tie.Need-page-field-requires-4 Inv-loop μ-loop
-page-field-requires-4 c κs = search needs
-
-cast-page-line : tie.Need-cast-page-line Inv-loop μ-loop
-cast-page-line c = search needs
-
-cast-page-line-2 : tie.Need-cast-page-line-2 Inv-loop μ-loop
-cast-page-line-2 c = search needs
-
-cast-page-line-3 : tie.Need-cast-page-line-3 Inv-loop μ-loop
-cast-page-line-3 c = search needs
-
-cast-page-line-4 : tie.Need-cast-page-line-4 Inv-loop μ-loop
-cast-page-line-4 c = search needs
-
 page-line-requires : tie.Need-page-line-requires Inv-loop μ-loop
 page-line-requires c κs =
     let g = c .before .before .before .before .before .loop in
     omega (arith, g .inv .3 .room, g .inv .3 .long, g .inv .2, g .inv .1, c .before .before .before .before .loop-test .taken)
-
-loop-less : tie.Need-loop-less Inv-loop μ-loop
-loop-less c = search needs
 
 loop-again : tie.Need-loop-again Inv-loop μ-loop
 loop-again c =
@@ -113,27 +65,7 @@ returns c =
 pub list-pages-spec : {M : Type 1} → statement M
 list-pages-spec =
     tie.close
-    (tie.spec
-    Inv-loop
-    μ-loop
-    pages-in-requires
-    page-field-requires
-    limit-of-requires
-    cast-head-line
-    cast-head-line-2
-    cast-head-line-3
-    head-line-requires
-    loop-holds
-    add-p
-    page-field-requires-2
-    page-field-requires-3
-    page-field-requires-4
-    cast-page-line
-    cast-page-line-2
-    cast-page-line-3
-    cast-page-line-4
-    page-line-requires
-    loop-less
-    loop-again
-    same-length
-    returns)
+    (tie.spec Inv-loop μ-loop (λ c κs. search needs) (λ c κs. search needs) (λ c κs. search needs)
+    (λ c. search needs) (λ c. search needs) (λ c. search needs) (λ c κs. search needs) loop-holds (λ c. search needs)
+    (λ c κs. search needs) (λ c κs. search needs) (λ c κs. search needs) (λ c. search needs) (λ c. search needs)
+    (λ c. search needs) (λ c. search needs) page-line-requires (λ c. search needs) loop-again same-length returns)

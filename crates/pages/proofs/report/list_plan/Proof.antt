@@ -24,23 +24,11 @@ fresh b = fresh-part longestArchive _ (size-most (b .before .before .before .bef
 lay-plan-requires : tie.Need-lay-plan-requires
 lay-plan-requires c κs = c .before .before .before .pre .0 .tree
 
-node-count-requires : tie.Need-node-count-requires
-node-count-requires c κs = search needs
-
-archive-bytes-requires : tie.Need-archive-bytes-requires
-archive-bytes-requires c κs = search needs
-
-cast-size : tie.Need-cast-size
-cast-size c = search needs
-
 array-borrow-prefix-archive : tie.Need-array-borrow-prefix-archive
 array-borrow-prefix-archive c = size-most (c .before .before .before .before .before .before .pre .0) (size-is c)
 
 slice-aggregate-write-archive : tie.Need-slice-aggregate-write-archive
 slice-aggregate-write-archive c = sym (fresh (c .before))
-
-write-archive-requires : tie.Need-write-archive-requires
-write-archive-requires c κs = search needs
 
 array-share-prefix-archive : tie.Need-array-share-prefix-archive
 array-share-prefix-archive c =
@@ -58,9 +46,6 @@ list-pages-requires c κs =
     let b = c .before .before .before .before .before in
     (part-pages (b .before .before .before .before .before .before .pre .0) (size-is b) _ (w .last .1 .1 .0) _ (w .result) (fresh b) (w .kept .1 .1 .0) (w .ensures .0), b .before .before .before .before .before .before .pre .1)
 
-same-length : tie.Need-same-length
-same-length c = search needs
-
 returns : tie.Need-returns
 returns c =
     let w = c .before .before .before .before .before .before .write-archive in
@@ -71,16 +56,6 @@ returns c =
 pub list-plan-spec : {M : Type 1} → statement M
 list-plan-spec =
     tie.close
-    (tie.spec
-    lay-plan-requires
-    node-count-requires
-    archive-bytes-requires
-    cast-size
-    array-borrow-prefix-archive
-    slice-aggregate-write-archive
-    write-archive-requires
-    array-share-prefix-archive
-    slice-aggregate-list-pages
-    list-pages-requires
-    same-length
-    returns)
+    (tie.spec lay-plan-requires (λ c κs. search needs) (λ c κs. search needs) (λ c. search needs)
+    array-borrow-prefix-archive slice-aggregate-write-archive (λ c κs. search needs) array-share-prefix-archive
+    slice-aggregate-list-pages list-pages-requires (λ c. search needs) returns)

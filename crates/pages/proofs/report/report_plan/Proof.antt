@@ -7,21 +7,6 @@ use borrow.Author.Needs.{needs}
 use Rattle.pages.proofs.report.report_plan.Statement.{statement}
 use Rattle.pages.proofs.report.report_plan.Tie as tie
 
-plan-best-requires : tie.Need-plan-best-requires
-plan-best-requires c κs = search needs
-
-refusal-line-requires : tie.Need-refusal-line-requires
-refusal-line-requires c κs = search needs
-
-same-length : tie.Need-same-length
-same-length c = search needs
-
-same-length-2 : tie.Need-same-length-2
-same-length-2 c = search needs
-
-same-length-3 : tie.Need-same-length-3
-same-length-3 c = search needs
-
 returns : tie.Need-returns
 returns c =
     let f = c .before .before in
@@ -39,15 +24,6 @@ list-plan-requires c κs =
     let s = n .before .before .before .before .before .before .before .before .before .before .before .before .before in
     (made-planned bestMarks _ _ _ (a .result) _ _ (a .ensures .0) (a .ensures .1 .0) (n .if1 .left), s .pre)
 
-same-length-4 : tie.Need-same-length-4
-same-length-4 c = search needs
-
-same-length-5 : tie.Need-same-length-5
-same-length-5 c = search needs
-
-same-length-6 : tie.Need-same-length-6
-same-length-6 c = search needs
-
 returns-2 : tie.Need-returns-2
 returns-2 c =
     let f = c .before .before in
@@ -59,15 +35,6 @@ returns-2 c =
 pub report-plan-spec : {M : Type 1} → statement M
 report-plan-spec =
     tie.close
-    (tie.spec
-    plan-best-requires
-    refusal-line-requires
-    same-length
-    same-length-2
-    same-length-3
-    returns
-    list-plan-requires
-    same-length-4
-    same-length-5
-    same-length-6
+    (tie.spec (λ c κs. search needs) (λ c κs. search needs) (λ c. search needs) (λ c. search needs)
+    (λ c. search needs) returns list-plan-requires (λ c. search needs) (λ c. search needs) (λ c. search needs)
     returns-2)

@@ -6,33 +6,6 @@ use borrow.Author.Needs.{needs}
 use Rattle.pages.proofs.text.head_line.Statement.{statement}
 use Rattle.pages.proofs.text.head_line.Tie as tie
 
-slice-aggregate-put-item : tie.Need-slice-aggregate-put-item
-slice-aggregate-put-item c = search needs
-
-put-item-requires : tie.Need-put-item-requires
-put-item-requires c κs = search needs
-
-slice-aggregate-put-item-2 : tie.Need-slice-aggregate-put-item-2
-slice-aggregate-put-item-2 c = search needs
-
-put-item-requires-2 : tie.Need-put-item-requires-2
-put-item-requires-2 c κs = search needs
-
-slice-aggregate-put-item-3 : tie.Need-slice-aggregate-put-item-3
-slice-aggregate-put-item-3 c = search needs
-
-put-item-requires-3 : tie.Need-put-item-requires-3
-put-item-requires-3 c κs = search needs
-
-slice-aggregate-put-text : tie.Need-slice-aggregate-put-text
-slice-aggregate-put-text c = search needs
-
-put-text-requires : tie.Need-put-text-requires
-put-text-requires c κs = search needs
-
-same-length : tie.Need-same-length
-same-length c = search needs
-
 returns : tie.Need-returns
 unfolding headLine
 returns c =
@@ -47,14 +20,5 @@ returns c =
 pub head-line-spec : {M : Type 1} → statement M
 head-line-spec =
     tie.close
-    (tie.spec
-    slice-aggregate-put-item
-    put-item-requires
-    slice-aggregate-put-item-2
-    put-item-requires-2
-    slice-aggregate-put-item-3
-    put-item-requires-3
-    slice-aggregate-put-text
-    put-text-requires
-    same-length
-    returns)
+    (tie.spec (λ c. search needs) (λ c κs. search needs) (λ c. search needs) (λ c κs. search needs)
+    (λ c. search needs) (λ c κs. search needs) (λ c. search needs) (λ c κs. search needs) (λ c. search needs) returns)

@@ -5,18 +5,6 @@ use borrow.Author.Needs.{needs}
 use Rattle.pages.proofs.text.put_item.Statement.{statement}
 use Rattle.pages.proofs.text.put_item.Tie as tie
 
-decimal-requires : tie.Need-decimal-requires
-decimal-requires c κs = search needs
-
-put-text-requires : tie.Need-put-text-requires
-put-text-requires c κs = search needs
-
-array-share-prefix-digits : tie.Need-array-share-prefix-digits
-array-share-prefix-digits c = search needs
-
-slice-aggregate-put-text : tie.Need-slice-aggregate-put-text
-slice-aggregate-put-text c = search needs
-
 put-text-requires-2 : tie.Need-put-text-requires-2
 put-text-requires-2 c κs =
     let t = c .before .before .before .before in
@@ -25,9 +13,6 @@ put-text-requires-2 c κs =
     let e = d .decimal .ensures in
     let k = number-long (s .args .n) (d .decimal .result) (d .decimal .last .1 .0) (s .fits .n .fits) (e .1 .0) (e .1 .1) (e .0 .1) in
     omega (arith, s .pre, t .put-text .ensures .place, t .put-text .kept .0, e .0 .1)
-
-same-length : tie.Need-same-length
-same-length c = search needs
 
 returns : tie.Need-returns
 returns c =
@@ -44,11 +29,5 @@ returns c =
 pub put-item-spec : {M : Type 1} → statement M
 put-item-spec =
     tie.close
-    (tie.spec
-    decimal-requires
-    put-text-requires
-    array-share-prefix-digits
-    slice-aggregate-put-text
-    put-text-requires-2
-    same-length
-    returns)
+    (tie.spec (λ c κs. search needs) (λ c κs. search needs) (λ c. search needs) (λ c. search needs)
+    put-text-requires-2 (λ c. search needs) returns)

@@ -30,9 +30,6 @@ words-small c =
     words-fit (c .before .node-count .result) (c .limit-of .result)
     (omega (arith, c .before .node-count .ensures, a .sound .count-high)) (omega (arith, c .limit-of .ensures, a .sound .limit-high))
 
-read-tree-requires : tie.Need-read-tree-requires
-read-tree-requires c κs = search needs
-
 returns : tie.Need-returns
 returns c =
     let x = c .before .before .read-tree in
@@ -40,50 +37,11 @@ returns c =
     x .ensures .0 ∙ tree-refuses (now (b .args .table)) (now (b .args .marks)) (now (b .args .scratch))
     (λ e. c .if1 .taken (ap (λ (a : Answer). a .number) (x .ensures .0) ∙ e))
 
-node-count-requires : tie.Need-node-count-requires
-node-count-requires c κs = search needs
-
-cast-words : tie.Need-cast-words
-cast-words c = search needs
-
-mul-words : tie.Need-mul-words
-mul-words c = search needs
-
-limit-of-requires : tie.Need-limit-of-requires
-limit-of-requires c κs = search needs
-
-cast-words-2 : tie.Need-cast-words-2
-cast-words-2 c = search needs
-
-add-words : tie.Need-add-words
-add-words c = search needs
-
 mul-words-2 : tie.Need-mul-words-2
 mul-words-2 c = record { fits = omega (arith, words-small c) }
 
 cast-place-if : tie.Need-cast-place-if
 cast-place-if c = record { fits = omega (arith, words-small c) }
-
-place-if-requires : tie.Need-place-if-requires
-place-if-requires c κs = search needs
-
-cast-place-if-2 : tie.Need-cast-place-if-2
-cast-place-if-2 c = search needs
-
-cast-place-if-3 : tie.Need-cast-place-if-3
-cast-place-if-3 c = search needs
-
-place-if-requires-2 : tie.Need-place-if-requires-2
-place-if-requires-2 c κs = search needs
-
-accept-requires : tie.Need-accept-requires
-accept-requires c κs = search needs
-
-earlier-requires : tie.Need-earlier-requires
-earlier-requires c κs = search needs
-
-earlier-requires-2 : tie.Need-earlier-requires-2
-earlier-requires-2 c κs = search needs
 
 returns-2 : tie.Need-returns-2
 unfolding lentChecks badMarks shortScratch
@@ -108,22 +66,7 @@ returns-2 c =
 pub check-plan-spec : {M : Type 1} → statement M
 check-plan-spec =
     tie.close
-    (tie.spec
-    read-tree-requires
-    returns
-    node-count-requires
-    cast-words
-    mul-words
-    limit-of-requires
-    cast-words-2
-    add-words
-    mul-words-2
-    cast-place-if
-    place-if-requires
-    cast-place-if-2
-    cast-place-if-3
-    place-if-requires-2
-    accept-requires
-    earlier-requires
-    earlier-requires-2
-    returns-2)
+    (tie.spec (λ c κs. search needs) returns (λ c κs. search needs) (λ c. search needs) (λ c. search needs)
+    (λ c κs. search needs) (λ c. search needs) (λ c. search needs) mul-words-2 cast-place-if (λ c κs. search needs)
+    (λ c. search needs) (λ c. search needs) (λ c κs. search needs) (λ c κs. search needs) (λ c κs. search needs)
+    (λ c κs. search needs) returns-2)

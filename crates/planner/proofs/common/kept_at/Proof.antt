@@ -7,15 +7,6 @@ use borrow.Author.Needs.{needs}
 use Rattle.planner.proofs.common.kept_at.Statement.{statement}
 use Rattle.planner.proofs.common.kept_at.Tie as tie
 
-sub-result : tie.Need-sub-result
-sub-result c = search needs
-
-mul-result : tie.Need-mul-result
-mul-result c = search needs
-
-shared-slice-read-result : tie.Need-shared-slice-read-result
-shared-slice-read-result c = search needs
-
 returns : tie.Need-returns
 returns c = sym (ap (kept (now (c .before .args .scratch))) (c .if1 .taken) ∙ kept-none _)
 
@@ -24,4 +15,4 @@ returns-2 c = let n : c .before .before .args .v ≡ 0 → ⊥ = c .before .if1 
 
 pub kept-at-spec : {M : Type 1} → statement M
 kept-at-spec =
-    tie.close (tie.spec sub-result mul-result shared-slice-read-result returns returns-2)
+    tie.close (tie.spec (λ c. search needs) (λ c. search needs) (λ c. search needs) returns returns-2)

@@ -13,49 +13,16 @@ use borrow.Author.Needs.{needs}
 use Rattle.planner.proofs.pair.lay_below.Statement.{statement}
 use Rattle.planner.proofs.pair.lay_below.Tie as tie
 
-sides-at-requires : tie.Need-sides-at-requires
-sides-at-requires c κs = search needs
-
-cuts-left-requires : tie.Need-cuts-left-requires
-cuts-left-requires c κs = search needs
-
-mark-of-requires : tie.Need-mark-of-requires
-mark-of-requires c κs = search needs
-
-cuts-right-requires : tie.Need-cuts-right-requires
-cuts-right-requires c κs = search needs
-
-sub-uncut-after : tie.Need-sub-uncut-after
-sub-uncut-after c = search needs
-
-slice-read-uncut-after : tie.Need-slice-read-uncut-after
-slice-read-uncut-after c = search needs
-
-uncut-after-requires : tie.Need-uncut-after-requires
-uncut-after-requires c κs = search needs
-
-mark-of-requires-2 : tie.Need-mark-of-requires-2
-mark-of-requires-2 c κs = search needs
-
-first-at-requires : tie.Need-first-at-requires
-first-at-requires c κs = search needs
-
 put-mark-requires : tie.Need-put-mark-requires
 put-mark-requires c κs =
     let b = c .before .before .before .before .before .before .before .before .before .before .before .before in
     omega (arith, first-node (b .pre .0) (c .first-at .result) (c .first-at .ensures), b .pre .1)
-
-next-at-requires : tie.Need-next-at-requires
-next-at-requires c κs = search needs
 
 put-mark-requires-2 : tie.Need-put-mark-requires-2
 put-mark-requires-2 c κs =
     let p1 = c .before .before .before .before in
     let b = p1 .before .before .before .before .before .before .before .before .before .before .before .before .before in
     omega (arith, next-node (b .pre .0) (c .next-at .result) (c .next-at .ensures), p1 .put-mark .kept .0, b .pre .1)
-
-same-length : tie.Need-same-length
-same-length c = search needs
 
 returns : tie.Need-returns
 returns c =
@@ -83,18 +50,6 @@ returns c =
 pub lay-below-spec : {M : Type 1} → statement M
 lay-below-spec =
     tie.close
-    (tie.spec
-    sides-at-requires
-    cuts-left-requires
-    mark-of-requires
-    cuts-right-requires
-    sub-uncut-after
-    slice-read-uncut-after
-    uncut-after-requires
-    mark-of-requires-2
-    first-at-requires
-    put-mark-requires
-    next-at-requires
-    put-mark-requires-2
-    same-length
-    returns)
+    (tie.spec (λ c κs. search needs) (λ c κs. search needs) (λ c κs. search needs) (λ c κs. search needs)
+    (λ c. search needs) (λ c. search needs) (λ c κs. search needs) (λ c κs. search needs) (λ c κs. search needs)
+    put-mark-requires (λ c κs. search needs) put-mark-requires-2 (λ c. search needs) returns)

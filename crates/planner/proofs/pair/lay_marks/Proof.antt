@@ -21,25 +21,16 @@ slice-write-marks c =
     let b = c .before .before .before in
     omega (arith, b .pre .1, b .pre .0 .tree .sound .count-low)
 
-node-count-requires : tie.Need-node-count-requires Inv-loop μ-loop
-node-count-requires c κs = search needs
-
 loop-holds : tie.Need-loop-holds Inv-loop μ-loop
 loop-holds c =
     let b = c .before .before .before .before in
     (omega arith, c .node-count .ensures, given-start (now (b .args .table)) (now (b .args .marks)) (b .pre .1) (b .pre .0 .tree .sound .count-low))
-
-add-v : tie.Need-add-v Inv-loop μ-loop
-add-v c = search needs
 
 lay-below-requires : tie.Need-lay-below-requires Inv-loop μ-loop
 lay-below-requires c κs =
     let l = c .before .before .loop in
     let b = c .before .before .before .before .before .before .before in
     (rests-after (l .v + 1) (b .pre .0) (omega arith) (omega (arith, c .before .loop-test .taken, l .inv .1)), l .inv .2 .long)
-
-loop-less : tie.Need-loop-less Inv-loop μ-loop
-loop-less c = search needs
 
 loop-again : tie.Need-loop-again Inv-loop μ-loop
 loop-again c =
@@ -63,15 +54,5 @@ returns c =
 pub lay-marks-spec : {M : Type 1} → statement M
 lay-marks-spec =
     tie.close
-    (tie.spec
-    Inv-loop
-    μ-loop
-    slice-write-marks
-    node-count-requires
-    loop-holds
-    add-v
-    lay-below-requires
-    loop-less
-    loop-again
-    same-length
-    returns)
+    (tie.spec Inv-loop μ-loop slice-write-marks (λ c κs. search needs) loop-holds (λ c. search needs)
+    lay-below-requires (λ c. search needs) loop-again same-length returns)

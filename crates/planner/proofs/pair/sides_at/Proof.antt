@@ -5,27 +5,9 @@ use borrow.Author.Needs.{needs}
 use Rattle.planner.proofs.pair.sides_at.Statement.{statement}
 use Rattle.planner.proofs.pair.sides_at.Tie as tie
 
-limit-of-requires : tie.Need-limit-of-requires
-limit-of-requires c κs = search needs
-
-cast-t5 : tie.Need-cast-t5
-cast-t5 c = search needs
-
-weight-at-requires : tie.Need-weight-at-requires
-weight-at-requires c κs = search needs
-
-cast-t7 : tie.Need-cast-t7
-cast-t7 c = search needs
-
-first-at-requires : tie.Need-first-at-requires
-first-at-requires c κs = search needs
-
 kept-at-requires : tie.Need-kept-at-requires
 kept-at-requires c κs =
     first-word (c .before .before .before .before .before .pre) (c .first-at .result) (c .first-at .ensures)
-
-next-at-requires : tie.Need-next-at-requires
-next-at-requires c κs = search needs
 
 kept-at-requires-2 : tie.Need-kept-at-requires-2
 kept-at-requires-2 c κs =
@@ -51,13 +33,5 @@ returns c =
 pub sides-at-spec : {M : Type 1} → statement M
 sides-at-spec =
     tie.close
-    (tie.spec
-    limit-of-requires
-    cast-t5
-    weight-at-requires
-    cast-t7
-    first-at-requires
-    kept-at-requires
-    next-at-requires
-    kept-at-requires-2
-    returns)
+    (tie.spec (λ c κs. search needs) (λ c. search needs) (λ c κs. search needs) (λ c. search needs)
+    (λ c κs. search needs) kept-at-requires (λ c κs. search needs) kept-at-requires-2 returns)

@@ -26,21 +26,6 @@ weighed c =
       weighs-fit (b .pre) (s .sides-at .ensures) _ _ _ _ (x1 .cuts-left .ensures) (x2 .cuts-right .ensures) (u1 .unless-cut .ensures) (u2 .unless-cut2 .ensures),
     )
 
-sides-at-requires : tie.Need-sides-at-requires
-sides-at-requires c κs = search needs
-
-cuts-left-requires : tie.Need-cuts-left-requires
-cuts-left-requires c κs = search needs
-
-unless-cut-requires : tie.Need-unless-cut-requires
-unless-cut-requires c κs = search needs
-
-cuts-right-requires : tie.Need-cuts-right-requires
-cuts-right-requires c κs = search needs
-
-unless-cut-requires-2 : tie.Need-unless-cut-requires-2
-unless-cut-requires-2 c κs = search needs
-
 add-result : tie.Need-add-result
 add-result c = record { fits = omega (arith, weighed c .1) }
 
@@ -53,12 +38,5 @@ returns c = weighed c .0
 pub weigh-node-spec : {M : Type 1} → statement M
 weigh-node-spec =
     tie.close
-    (tie.spec
-    sides-at-requires
-    cuts-left-requires
-    unless-cut-requires
-    cuts-right-requires
-    unless-cut-requires-2
-    add-result
-    add-result-2
-    returns)
+    (tie.spec (λ c κs. search needs) (λ c κs. search needs) (λ c κs. search needs) (λ c κs. search needs)
+    (λ c κs. search needs) add-result add-result-2 returns)

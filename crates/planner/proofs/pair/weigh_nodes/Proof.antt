@@ -16,9 +16,6 @@ Inv-loop table scratch₀ v₀ scratch v = (length scratch ≡ length scratch₀
 abbrev μ-loop : tie.MeasureT-loop
 μ-loop table scratch₀ v₀ scratch v = v
 
-node-count-requires : tie.Need-node-count-requires Inv-loop μ-loop
-node-count-requires c κs = search needs
-
 loop-holds : tie.Need-loop-holds Inv-loop μ-loop
 loop-holds c =
     let b = c .before .before .before in
@@ -29,33 +26,15 @@ weigh-node-requires c κs =
     let l = c .before .before .loop in
     record { above = l .inv .2; low = omega arith; high = l .inv .1 }
 
-cast-scratch : tie.Need-cast-scratch Inv-loop μ-loop
-cast-scratch c = search needs
-
-sub-scratch : tie.Need-sub-scratch Inv-loop μ-loop
-sub-scratch c = search needs
-
-mul-scratch : tie.Need-mul-scratch Inv-loop μ-loop
-mul-scratch c = search needs
-
 slice-write-scratch : tie.Need-slice-write-scratch Inv-loop μ-loop
 slice-write-scratch c =
     let l = c .before .before .before .loop in
     omega (arith, l .inv .1, l .inv .2 .long)
 
-sub-v : tie.Need-sub-v Inv-loop μ-loop
-sub-v c = search needs
-
-loop-less : tie.Need-loop-less Inv-loop μ-loop
-loop-less c = search needs
-
 loop-again : tie.Need-loop-again Inv-loop μ-loop
 loop-again c =
     let l = c .before .before .before .loop in
     (simp length-set (l .inv .0), omega (arith, l .inv .1), rests-step (record { above = l .inv .2; low = omega arith; high = l .inv .1 }) (c .weigh-node .result) (c .weigh-node .ensures))
-
-same-length : tie.Need-same-length Inv-loop μ-loop
-same-length c = search needs
 
 returns : tie.Need-returns Inv-loop μ-loop
 returns c = rw (c .loop-test .left) at (c .before .loop .inv .2)
@@ -63,18 +42,6 @@ returns c = rw (c .loop-test .left) at (c .before .loop .inv .2)
 pub weigh-nodes-spec : {M : Type 1} → statement M
 weigh-nodes-spec =
     tie.close
-    (tie.spec
-    Inv-loop
-    μ-loop
-    node-count-requires
-    loop-holds
-    weigh-node-requires
-    cast-scratch
-    sub-scratch
-    mul-scratch
-    slice-write-scratch
-    sub-v
-    loop-less
-    loop-again
-    same-length
-    returns)
+    (tie.spec Inv-loop μ-loop (λ c κs. search needs) loop-holds weigh-node-requires (λ c. search needs)
+    (λ c. search needs) (λ c. search needs) slice-write-scratch (λ c. search needs) (λ c. search needs) loop-again
+    (λ c. search needs) returns)

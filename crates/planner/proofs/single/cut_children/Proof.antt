@@ -11,9 +11,6 @@ Inv-loop table marks₀ scratch₀ v room first sum₀ marks scratch sum = Cut t
 abbrev μ-loop : tie.MeasureT-loop
 μ-loop table marks₀ scratch₀ v room first sum₀ marks scratch sum = sum
 
-first-at-requires : tie.Need-first-at-requires Inv-loop μ-loop
-first-at-requires c κs = search needs
-
 sum-rests-requires : tie.Need-sum-rests-requires Inv-loop μ-loop
 sum-rests-requires c κs =
     let b = c .before .before .before .before .before in
@@ -46,15 +43,6 @@ sub-sum c =
     let b = l .before .before .before .before .before .before .before in
     cut-takes (b .pre) (b .args .room) (l .loop .inv) (c .before .before .before .before .loop-test .taken) (f .result) (h .result) (c .kept-at .result) (f .ensures) (h .ensures) (c .kept-at .ensures) .1
 
-cast-scratch : tie.Need-cast-scratch Inv-loop μ-loop
-cast-scratch c = search needs
-
-sub-scratch : tie.Need-sub-scratch Inv-loop μ-loop
-sub-scratch c = search needs
-
-mul-scratch : tie.Need-mul-scratch Inv-loop μ-loop
-mul-scratch c = search needs
-
 slice-write-scratch : tie.Need-slice-write-scratch Inv-loop μ-loop
 slice-write-scratch c =
     let l = c .before .before .before .before .before in
@@ -62,12 +50,6 @@ slice-write-scratch c =
     let h = c .before .before .find-heaviest in
     let b = l .before .before .before .before .before .before .before in
     omega (arith, h .ensures .low, h .ensures .high, l .loop .inv .long, b .pre .long)
-
-cast-marks : tie.Need-cast-marks Inv-loop μ-loop
-cast-marks c = search needs
-
-sub-marks : tie.Need-sub-marks Inv-loop μ-loop
-sub-marks c = search needs
 
 slice-write-marks : tie.Need-slice-write-marks Inv-loop μ-loop
 slice-write-marks c =
@@ -94,12 +76,6 @@ loop-again c =
     let b = l .before .before .before .before .before .before .before in
     cut-turn (b .pre) (b .args .room) (l .loop .inv) (c .before .before .before .before .loop-test .taken) (f .result) (h .result) (c .kept-at .result) (f .ensures) (h .ensures) (c .kept-at .ensures)
 
-same-length : tie.Need-same-length Inv-loop μ-loop
-same-length c = search needs
-
-same-length-2 : tie.Need-same-length-2 Inv-loop μ-loop
-same-length-2 c = search needs
-
 returns : tie.Need-returns Inv-loop μ-loop
 returns c =
     let b = c .before .before .before .before .before .before .before .before in
@@ -108,24 +84,7 @@ returns c =
 pub cut-children-spec : {M : Type 1} → statement M
 cut-children-spec =
     tie.close
-    (tie.spec
-    Inv-loop
-    μ-loop
-    first-at-requires
-    sum-rests-requires
-    loop-holds
-    find-heaviest-requires
-    kept-at-requires
-    sub-sum
-    cast-scratch
-    sub-scratch
-    mul-scratch
-    slice-write-scratch
-    cast-marks
-    sub-marks
-    slice-write-marks
-    loop-less
-    loop-again
-    same-length
-    same-length-2
-    returns)
+    (tie.spec Inv-loop μ-loop (λ c κs. search needs) sum-rests-requires loop-holds find-heaviest-requires
+    kept-at-requires sub-sum (λ c. search needs) (λ c. search needs) (λ c. search needs) slice-write-scratch
+    (λ c. search needs) (λ c. search needs) slice-write-marks loop-less loop-again (λ c. search needs)
+    (λ c. search needs) returns)

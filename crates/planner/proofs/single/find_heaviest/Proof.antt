@@ -15,22 +15,10 @@ Inv-loop table scratch v best₀ u₀ best u = Scan table scratch v best u
 abbrev μ-loop : tie.MeasureT-loop
 μ-loop table scratch v best₀ u₀ best u = size (chainAt table u)
 
-next-at-requires : tie.Need-next-at-requires Inv-loop μ-loop
-next-at-requires c κs = search needs
-
 loop-holds : tie.Need-loop-holds Inv-loop μ-loop
 loop-holds c =
     let b = c .before .before .before in
     scan-start (b .pre .0 .sound) (now (b .args .scratch)) (b .args .v) (c .next-at .result) (b .pre .1) (b .pre .0 .high) (c .next-at .ensures)
-
-kept-at-requires : tie.Need-kept-at-requires Inv-loop μ-loop
-kept-at-requires c κs = search needs
-
-kept-at-requires-2 : tie.Need-kept-at-requires-2 Inv-loop μ-loop
-kept-at-requires-2 c κs = search needs
-
-next-at-requires-2 : tie.Need-next-at-requires-2 Inv-loop μ-loop
-next-at-requires-2 c κs = search needs
 
 loop-less : tie.Need-loop-less Inv-loop μ-loop
 loop-less c =
@@ -55,14 +43,5 @@ returns c =
 pub find-heaviest-spec : {M : Type 1} → statement M
 find-heaviest-spec =
     tie.close
-    (tie.spec
-    Inv-loop
-    μ-loop
-    next-at-requires
-    loop-holds
-    kept-at-requires
-    kept-at-requires-2
-    next-at-requires-2
-    loop-less
-    loop-again
-    returns)
+    (tie.spec Inv-loop μ-loop (λ c κs. search needs) loop-holds (λ c κs. search needs) (λ c κs. search needs)
+    (λ c κs. search needs) loop-less loop-again returns)

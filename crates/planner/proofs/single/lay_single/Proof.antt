@@ -18,9 +18,6 @@ Inv-loop table marks₀ scratch₀ v₀ marks scratch v =
 abbrev μ-loop : tie.MeasureT-loop
 μ-loop table marks₀ scratch₀ v₀ marks scratch v = v
 
-node-count-requires : tie.Need-node-count-requires Inv-loop μ-loop
-node-count-requires c κs = search needs
-
 loop-holds : tie.Need-loop-holds Inv-loop μ-loop
 loop-holds c = (refl, refl, search needs, rw (c .node-count .ensures) start)
 
@@ -38,12 +35,6 @@ settle-requires c κs =
       fresh = down-kids (b .pre .tree .sound) low (l .inv .2) (l .inv .3);
     }
 
-sub-v : tie.Need-sub-v Inv-loop μ-loop
-sub-v c = search needs
-
-loop-less : tie.Need-loop-less Inv-loop μ-loop
-loop-less c = search needs
-
 loop-again : tie.Need-loop-again Inv-loop μ-loop
 loop-again c =
     let x = c .before .before .before .before .settle in
@@ -60,12 +51,6 @@ slice-write-marks c =
     let b = c .before .before .before .before .before .before in
     omega (arith, c .before .loop .inv .0, b .pre .marks-long, b .pre .tree .sound .count-low)
 
-same-length : tie.Need-same-length Inv-loop μ-loop
-same-length c = search needs
-
-same-length-2 : tie.Need-same-length-2 Inv-loop μ-loop
-same-length-2 c = search needs
-
 returns : tie.Need-returns Inv-loop μ-loop
 returns c =
     let l = c .before .loop in
@@ -75,16 +60,5 @@ returns c =
 pub lay-single-spec : {M : Type 1} → statement M
 lay-single-spec =
     tie.close
-    (tie.spec
-    Inv-loop
-    μ-loop
-    node-count-requires
-    loop-holds
-    settle-requires
-    sub-v
-    loop-less
-    loop-again
-    slice-write-marks
-    same-length
-    same-length-2
-    returns)
+    (tie.spec Inv-loop μ-loop (λ c κs. search needs) loop-holds settle-requires (λ c. search needs)
+    (λ c. search needs) loop-again slice-write-marks (λ c. search needs) (λ c. search needs) returns)

@@ -19,20 +19,11 @@ Inv-loop table scratch v sum₀ u₀ sum u =
 abbrev μ-loop : tie.MeasureT-loop
 μ-loop table scratch v sum₀ u₀ sum u = size (chainAt table u)
 
-loop-holds : tie.Need-loop-holds Inv-loop μ-loop
-loop-holds c = search needs
-
-kept-at-requires : tie.Need-kept-at-requires Inv-loop μ-loop
-kept-at-requires c κs = search needs
-
 add-sum : tie.Need-add-sum Inv-loop μ-loop
 add-sum c =
     let l = c .before .before .loop in
     let b = c .before .before .before .before .before in
     omega (arith, b .pre .1, sum-fits (b .pre .0 .sound) (now (b .args .scratch)) (l .u) (l .sum) _ (c .kept-at .result) (omega arith) (l .inv .0) (c .kept-at .ensures) (l .inv .1))
-
-next-at-requires : tie.Need-next-at-requires Inv-loop μ-loop
-next-at-requires c κs = search needs
 
 loop-less : tie.Need-loop-less Inv-loop μ-loop
 loop-less c =
@@ -59,13 +50,5 @@ returns c =
 pub sum-rests-spec : {M : Type 1} → statement M
 sum-rests-spec =
     tie.close
-    (tie.spec
-    Inv-loop
-    μ-loop
-    loop-holds
-    kept-at-requires
-    add-sum
-    next-at-requires
-    loop-less
-    loop-again
-    returns)
+    (tie.spec Inv-loop μ-loop (λ c. search needs) (λ c κs. search needs) add-sum (λ c κs. search needs) loop-less
+    loop-again returns)

@@ -18,66 +18,18 @@ Inv-loop table nodes pending₀ height₀ met₀ pending height met =
 abbrev μ-loop : tie.MeasureT-loop
 μ-loop table nodes pending₀ height₀ met₀ pending height met = 2 * (nodes - met) + height
 
-array-write-pending : tie.Need-array-write-pending Inv-loop μ-loop
-array-write-pending c = search needs
-
 loop-holds : tie.Need-loop-holds Inv-loop μ-loop
 loop-holds c = (refl, omega arith, omega arith, walk-start _ _ _ refl)
-
-sub-height : tie.Need-sub-height Inv-loop μ-loop
-sub-height c = search needs
-
-mul-v : tie.Need-mul-v Inv-loop μ-loop
-mul-v c = search needs
-
-array-read-v : tie.Need-array-read-v Inv-loop μ-loop
-array-read-v c = search needs
-
-cast-t15 : tie.Need-cast-t15 Inv-loop μ-loop
-cast-t15 c = search needs
 
 returns : tie.Need-returns Inv-loop μ-loop
 returns c =
     let l = c .before .before .before .loop in
     sym (l .inv .3 ∙ turn-fails _ _ _ _ _ (c .before .before .loop-test .taken) (c .before .if1 .taken) (λ e h. omega arith))
 
-add-if3 : tie.Need-add-if3 Inv-loop μ-loop
-add-if3 c = search needs
-
-cast-t17 : tie.Need-cast-t17 Inv-loop μ-loop
-cast-t17 c = search needs
-
 returns-2 : tie.Need-returns-2 Inv-loop μ-loop
 returns-2 c =
     let l = c .before .before .before .before .loop in
     sym (l .inv .3 ∙ turn-fails _ _ _ _ _ (c .before .before .before .loop-test .taken) (c .before .before .if1 .taken) (λ e h. c .if3 .taken e))
-
-next-at-requires : tie.Need-next-at-requires Inv-loop μ-loop
-next-at-requires c κs = search needs
-
-mul-pending : tie.Need-mul-pending Inv-loop μ-loop
-mul-pending c = search needs
-
-array-write-pending-2 : tie.Need-array-write-pending-2 Inv-loop μ-loop
-array-write-pending-2 c = search needs
-
-first-at-requires : tie.Need-first-at-requires Inv-loop μ-loop
-first-at-requires c κs = search needs
-
-add-pending : tie.Need-add-pending Inv-loop μ-loop
-add-pending c = search needs
-
-mul-pending-2 : tie.Need-mul-pending-2 Inv-loop μ-loop
-mul-pending-2 c = search needs
-
-array-write-pending-3 : tie.Need-array-write-pending-3 Inv-loop μ-loop
-array-write-pending-3 c = search needs
-
-add-height : tie.Need-add-height Inv-loop μ-loop
-add-height c = search needs
-
-loop-less : tie.Need-loop-less Inv-loop μ-loop
-loop-less c = search needs
 
 loop-again : tie.Need-loop-again Inv-loop μ-loop
 loop-again c =
@@ -89,16 +41,10 @@ loop-again c =
           ∙ turn-met _ _ _ _ _ (omega arith) _ _ _ refl (c .before .next-at .ensures) (c .first-at .ensures) (omega arith) (omega arith) (omega arith),
     )
 
-loop-less-2 : tie.Need-loop-less-2 Inv-loop μ-loop
-loop-less-2 c = search needs
-
 loop-again-2 : tie.Need-loop-again-2 Inv-loop μ-loop
 loop-again-2 c =
     let l = c .before .before .loop in
     (l .inv .0, omega arith, l .inv .2, l .inv .3 ∙ turn-end _ _ _ _ _ (c .before .loop-test .taken) (c .if1 .left))
-
-cast-t26 : tie.Need-cast-t26 Inv-loop μ-loop
-cast-t26 c = search needs
 
 returns-3 : tie.Need-returns-3 Inv-loop μ-loop
 returns-3 c = sym (c .before .before .loop .inv .3 ∙ walk-whole _ _ _ _ _ (omega arith) (c .if4 .taken))
@@ -109,31 +55,8 @@ returns-4 c = sym (c .before .before .loop .inv .3 ∙ walk-short _ _ _ _ _ (ome
 pub walk-from-root-spec : {M : Type 1} → statement M
 walk-from-root-spec =
     tie.close
-    (tie.spec
-    Inv-loop
-    μ-loop
-    array-write-pending
-    loop-holds
-    sub-height
-    mul-v
-    array-read-v
-    cast-t15
-    returns
-    add-if3
-    cast-t17
-    returns-2
-    next-at-requires
-    mul-pending
-    array-write-pending-2
-    first-at-requires
-    add-pending
-    mul-pending-2
-    array-write-pending-3
-    add-height
-    loop-less
-    loop-again
-    loop-less-2
-    loop-again-2
-    cast-t26
-    returns-3
-    returns-4)
+    (tie.spec Inv-loop μ-loop (λ c. search needs) loop-holds (λ c. search needs) (λ c. search needs)
+    (λ c. search needs) (λ c. search needs) returns (λ c. search needs) (λ c. search needs) returns-2
+    (λ c κs. search needs) (λ c. search needs) (λ c. search needs) (λ c κs. search needs) (λ c. search needs)
+    (λ c. search needs) (λ c. search needs) (λ c. search needs) (λ c. search needs) loop-again (λ c. search needs)
+    loop-again-2 (λ c. search needs) returns-3 returns-4)

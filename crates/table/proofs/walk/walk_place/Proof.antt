@@ -11,12 +11,6 @@ use borrow.Author.Needs.{needs}
 use Rattle.table.proofs.walk.walk_place.Statement.{statement}
 use Rattle.table.proofs.walk.walk_place.Tie as tie
 
-next-at-requires : tie.Need-next-at-requires
-next-at-requires c κs = search needs
-
-walk-from-root-requires : tie.Need-walk-from-root-requires
-walk-from-root-requires c κs = search needs
-
 returns : tie.Need-returns
 unfolding walkPlace
 returns c =
@@ -33,4 +27,4 @@ returns-2 c =
     sym (pick-false (eqb (nextAt t 1) 0) _ _ (ne-eqb _ 0 (λ e. c .if1 .left (c .before .next-at .ensures ∙ e))))
 
 pub walk-place-spec : {M : Type 1} → statement M
-walk-place-spec = tie.close (tie.spec next-at-requires walk-from-root-requires returns returns-2)
+walk-place-spec = tie.close (tie.spec (λ c κs. search needs) (λ c κs. search needs) returns returns-2)

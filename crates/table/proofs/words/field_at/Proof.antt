@@ -9,21 +9,6 @@ use borrow.Author.Needs.{needs}
 use Rattle.table.proofs.words.field_at.Statement.{statement}
 use Rattle.table.proofs.words.field_at.Tie as tie
 
-sub-before : tie.Need-sub-before
-sub-before c = search needs
-
-mul-word-at : tie.Need-mul-word-at
-mul-word-at c = search needs
-
-add-word-at : tie.Need-add-word-at
-add-word-at c = search needs
-
-add-word-at-2 : tie.Need-add-word-at-2
-add-word-at-2 c = search needs
-
-word-at-requires : tie.Need-word-at-requires
-word-at-requires c κs = search needs
-
 returns : tie.Need-returns
 unfolding fieldAt
 returns c =
@@ -32,4 +17,6 @@ returns c =
 
 pub field-at-spec : {M : Type 1} → statement M
 field-at-spec =
-    tie.close (tie.spec sub-before mul-word-at add-word-at add-word-at-2 word-at-requires returns)
+    tie.close
+    (tie.spec (λ c. search needs) (λ c. search needs) (λ c. search needs) (λ c. search needs) (λ c κs. search needs)
+    returns)
