@@ -11,18 +11,18 @@ use Rattle.model.specs.Basics.{countTo}
 use Rattle.model.specs.Table.{nodeCount, limitOf, weightAt, labelAt, nextAt}
 use Rattle.model.specs.Plan.{begins, continues, markAt, hasMark, runLast, pageOf, pageCount, pageWeight}
 use Rattle.model.specs.Archive.{nextPage, nextOnPage, archiveBytes}
-use Rattle.theory.specs.Sound.{SoundFacts, AcceptedFacts, both-true}
-use Rattle.theory.specs.JudgePages.{pageOf-le}
-use Rattle.theory.specs.Links.{next-later, next-le}
-use Rattle.theory.specs.Siblings.{and-true}
-use Rattle.theory.specs.RunMarks.{runLast-on, runLast-stop}
+use Rattle.theory.specs.TableFacts.{SoundFacts, AcceptedFacts, both-true}
+use Rattle.theory.specs.PlanPass.{pageOf-le}
+use Rattle.theory.specs.TableLinks.{next-later, next-le}
+use Rattle.theory.specs.SiblingsByParent.{and-true}
+use Rattle.theory.specs.RunsByMarks.{runLast-on, runLast-stop}
 use Rattle.theory.specs.Ranges.{countTo-yes, countTo-no}
 use Rattle.theory.specs.Chosen.{countTo-mono}
 use native.Mathlib.Numerals.{add-one}
 use Rattle.judge.specs.Rows.{Row}
 use Rattle.archive.specs.Put.{putWord, length-putWord, putRecord, length-putRecord, Starts, starts-none, starts-word, starts-record}
 use Rattle.archive.specs.Onward.{nextWith, Linked, Fit, nextWith-cong}
-use Rattle.archive.specs.Sheets.{headWords, pagesUpto, length-pagesUpto, pages-no, pages-yes, NodesPut, nodes-turn}
+use Rattle.archive.specs.Records.{headWords, pagesUpto, length-pagesUpto, pages-no, pages-yes, NodesPut, nodes-turn}
 
 -- ---- Along a run
 

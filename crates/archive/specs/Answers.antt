@@ -13,12 +13,12 @@ use Rattle.model.specs.Plan.{verdictOf}
 use Rattle.model.specs.Archive.{archiveOf, tableIn, marksIn}
 use Rattle.model.specs.Refusals.{feasiblePlan, refused, answerOf, Written, writeArchive, isArchive, Restored, readArchive}
 use Rattle.theory.specs.Ranges.{bool-cases}
-use Rattle.theory.specs.Siblings.{and-false-left, and-false-right}
-use Rattle.theory.specs.Judged.{pageCount-le}
+use Rattle.theory.specs.SiblingsByParent.{and-false-left, and-false-right}
+use Rattle.theory.specs.JudgeAnswers.{pageCount-le}
 use Rattle.theory.specs.ArchiveWords.{length-archive, archive-nodes}
 use Rattle.theory.specs.ArchiveBack.{feasible-planned, sameList-true, write-read, read-write}
 use Rattle.theory.specs.ArchiveAnswers.{writer-done, writer-refused}
-use Rattle.theory.specs.ArchivePromise.{write-promise, read-promise}
+use Rattle.theory.specs.PromiseArchive.{write-promise, read-promise}
 use Rattle.model.specs.Demand.{WritePromise, ReadPromise}
 use Rattle.model.specs.declared.Answer.{Answer}
 use Rattle.archive.specs.Size.{archiveNodes, longestArchive}

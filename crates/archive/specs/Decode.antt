@@ -17,7 +17,7 @@ use Rattle.model.specs.Plan.{parentAt, pageCount, runLast}
 use Rattle.model.specs.Archive.{archiveOf, pagesIn, pageFieldIn, nodeFieldIn, parentIn, firstIn, nextIn, tableIn, marksIn}
 use Rattle.model.specs.Refusals.{isArchive}
 use Rattle.theory.specs.Ranges.{Upto, pick-true, pick-false, listTo-zero, listTo-suc, listTo-cong}
-use Rattle.theory.specs.Links.{parentAt-less}
+use Rattle.theory.specs.TableLinks.{parentAt-less}
 use Rattle.theory.specs.ArchiveWords.{Page, length-fours, archive-nodes, archive-pages, archive-page, archive-parent}
 use Rattle.theory.specs.ArchiveBack.{Planned, feasible-planned, read-write, archive-next}
 use Rattle.archive.specs.Put.{putRecord, Starts, starts-record}

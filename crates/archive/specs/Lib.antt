@@ -2,7 +2,7 @@
 pub mod Size
 pub mod Put
 pub mod Onward
-pub mod Sheets
+pub mod Records
 pub mod Answers
 pub mod Decode
 pub mod Ends

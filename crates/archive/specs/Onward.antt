@@ -11,7 +11,7 @@ use lib.Dec.{eqb, ltb}
 use borrow.Author.Tests.{eqb-true, eqb-false, eq-eqb, ne-eqb, lt-ltb, le-ltb}
 use Rattle.model.specs.Basics.{atPlace, firstTo}
 use Rattle.theory.specs.Ranges.{Upto, atPlace-at, atPlace-nowhere, place-cases, firstTo-none, firstTo-first, firstTo-cong, firstTo-at}
-use Rattle.theory.specs.Siblings.{and-true, and-false-left, and-false-right, order-cases}
+use Rattle.theory.specs.SiblingsByParent.{and-true, and-false-left, and-false-right, order-cases}
 use Rattle.model.specs.Table.{slots}
 use Rattle.judge.specs.Rows.{Row}
 use Rattle.model.specs.declared.Place.{Place}

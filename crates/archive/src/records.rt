@@ -14,11 +14,11 @@ ghost use lib.ListN.{length};
 ghost use Rattle.model.specs.Table.{nodeCount, slots};
 ghost use Rattle.model.specs.Plan.{hasMark, continues, runLast, pageCount, pageWeight};
 ghost use Rattle.model.specs.Archive.{nextPage, archiveBytes};
-ghost use Rattle.theory.specs.Sound.{SoundFacts};
+ghost use Rattle.theory.specs.TableFacts.{SoundFacts};
 ghost use Rattle.theory.specs.ArchiveBack.{Planned};
 ghost use Rattle.judge.specs.Rows.{Row};
 ghost use Rattle.archive.specs.Put.{Starts};
-ghost use Rattle.archive.specs.Sheets.{headWords, pagesUpto, NodesPut};
+ghost use Rattle.archive.specs.Records.{headWords, pagesUpto, NodesPut};
 
 // Whether a link leads on along a run.
 fn leads_on(marks: &[u8], next: u16) -> bool

@@ -14,9 +14,9 @@ use Rattle.model.specs.Basics.{pick}
 use Rattle.model.specs.Table.{maxNodes, maxLimit}
 use Rattle.model.specs.Steps.{Child, runOf}
 use Rattle.theory.specs.ReduceCount.{figuresOf}
-use Rattle.theory.specs.Cells.{Cell, page, noWord, lower, tryRun, stayCell, cellAt, onward}
-use Rattle.theory.specs.CellsFront.{childIn, frontOf, front-none, front-cons, front-good, front-length, cellIn, Swept}
-use Rattle.theory.specs.CellsRun.{
+use Rattle.best.specs.Cells.{Cell, page, noWord, lower, tryRun, stayCell, cellAt, onward}
+use Rattle.best.specs.CellsFront.{childIn, frontOf, front-none, front-cons, front-good, front-length, cellIn, Swept}
+use Rattle.best.specs.CellsRun.{
   Kept,
   kept-none,
   kept-count,

@@ -9,8 +9,8 @@ use lib.ListN.{length, getD, set}
 use lib.Dec.{ltb, leb}
 use borrow.Author.Tests.{lt-ltb, le-ltb, le-leb, lt-leb}
 use Rattle.model.specs.Basics.{pick}
-use Rattle.theory.specs.Cells.{Cell, noWord, lower, stayCell}
-use Rattle.theory.specs.CellsFront.{cellIn, Sweeping, sweep-turn}
+use Rattle.best.specs.Cells.{Cell, noWord, lower, stayCell}
+use Rattle.best.specs.CellsFront.{cellIn, Sweeping, sweep-turn}
 
 -- x is p where the test holds, and q where not
 abbrev pub Chosen : Type 0 → Type 0 → ℕ → ℕ → ℕ → Type 0

@@ -13,15 +13,15 @@ use Rattle.model.specs.Basics.{pick}
 use Rattle.model.specs.Table.{slots, nodeCount, limitOf, weightAt, firstAt, treeOf}
 use Rattle.model.specs.Plan.{begins}
 use Rattle.model.specs.Steps.{Child, entryAt, secondStart, gainOf, childOf, childrenOf, choicesOf, layMarks, rootChoice}
-use Rattle.theory.specs.Links.{parentAt-less}
-use Rattle.theory.specs.ChainAt.{chainAt}
-use Rattle.theory.specs.Cells.{cellAt}
-use Rattle.theory.specs.CellsFront.{frontOf, childIn}
-use Rattle.theory.specs.CellsRun.{zeros, back}
-use Rattle.theory.specs.CellsNode.{figureAt, frontAt, front-same, Kin, kin-back}
-use Rattle.theory.specs.CellsPlan.{Planned}
-use Rattle.theory.specs.CellsMarks.{choicesBack, choices-back-same, back-along, LaidBelow, laid-marks}
-use Rattle.theory.specs.CellsChosen.{chosenIn}
+use Rattle.theory.specs.TableLinks.{parentAt-less}
+use Rattle.theory.specs.TableChain.{chainAt}
+use Rattle.best.specs.Cells.{cellAt}
+use Rattle.best.specs.CellsFront.{frontOf, childIn}
+use Rattle.best.specs.CellsRun.{zeros, back}
+use Rattle.best.specs.CellsNode.{figureAt, frontAt, front-same, Kin, kin-back}
+use Rattle.best.specs.CellsPlan.{Planned}
+use Rattle.best.specs.CellsMarks.{choicesBack, choices-back-same, back-along, LaidBelow, laid-marks}
+use Rattle.best.specs.CellsChosen.{chosenIn}
 use Rattle.best.specs.Lay.{Gainful, startOf, NodeReady, NodeDone}
 
 -- ---- A node with a gain has a second plan

@@ -15,12 +15,12 @@ use Rattle.model.specs.Table.{maxNodes, maxLimit, slots}
 use Rattle.model.specs.Plan.{begins}
 use Rattle.model.specs.Steps.{Choice, runChoices}
 use Rattle.theory.specs.ReduceCount.{countGain}
-use Rattle.theory.specs.ReduceLevel.{Level, levelHere, levelFrom, cutAt}
-use Rattle.theory.specs.Cells.{pulled}
-use Rattle.theory.specs.CellsFront.{frontOf, childIn, front-cons, front-length}
-use Rattle.theory.specs.CellsRun.{members, Kept, countsOf, kept-count, back, back-le}
-use Rattle.theory.specs.CellsLay.{takes, lastMark, backRun, back-run, run-level, count-back}
-use Rattle.theory.specs.CellsChosen.{LaidRun}
+use Rattle.best.specs.ReduceLevel.{Level, levelHere, levelFrom, cutAt}
+use Rattle.best.specs.Cells.{pulled}
+use Rattle.best.specs.CellsFront.{frontOf, childIn, front-cons, front-length}
+use Rattle.best.specs.CellsRun.{members, Kept, countsOf, kept-count, back, back-le}
+use Rattle.best.specs.CellsLay.{takes, lastMark, backRun, back-run, run-level, count-back}
+use Rattle.best.specs.CellsChosen.{LaidRun}
 use Rattle.best.specs.Lay.{runBack, Gainful, SumReady, RunReady, RunDone}
 use Rattle.best.proofs.LayRuns.{front-low, front-real, laid-none, laid-one, laid-then, gainful-set}
 

@@ -14,12 +14,12 @@ use Rattle.model.specs.Basics.{pick}
 use Rattle.model.specs.Table.{maxNodes, maxLimit, slots, nodeCount, limitOf, weightAt}
 use Rattle.model.specs.Plan.{parentAt}
 use Rattle.model.specs.Steps.{Child, Choice, entryAt, secondStart}
-use Rattle.theory.specs.Cells.{pulled, rebuilt, Sane, Agrees, stayChoice, cellAt, cell-entry}
-use Rattle.theory.specs.CellsFront.{frontOf, front-none, front-cons, front-length, front-good}
-use Rattle.theory.specs.CellsRun.{back, back-le, blockAt, block-apart}
-use Rattle.theory.specs.CellsNode.{Kin, kin-high, kin-back, back-shift, Before}
-use Rattle.theory.specs.CellsMarks.{choicesBack, choices-back-none, choices-back-cons}
-use Rattle.theory.specs.CellsChosen.{chosenIn, choicesFor, LaidRun}
+use Rattle.best.specs.Cells.{pulled, rebuilt, Sane, Agrees, stayChoice, cellAt, cell-entry}
+use Rattle.best.specs.CellsFront.{frontOf, front-none, front-cons, front-length, front-good}
+use Rattle.best.specs.CellsRun.{back, back-le, blockAt, block-apart}
+use Rattle.best.specs.CellsNode.{Kin, kin-high, kin-back, back-shift, Before}
+use Rattle.best.specs.CellsMarks.{choicesBack, choices-back-none, choices-back-cons}
+use Rattle.best.specs.CellsChosen.{chosenIn, choicesFor, LaidRun}
 use Rattle.best.specs.Lay.{runBack, Gainful, RunReady, RunDone, startOf, NodeReady, NodeDone}
 use Rattle.best.proofs.LayRuns.{front-back, front-real, back-add, Real, laid-none, laid-one, laid-then, gainful-set}
 

@@ -11,10 +11,10 @@ use lib.Seq.{getD-set-same, getD-set-other}
 use lib.Dec.{eqb}
 use borrow.Author.Tests.{eqb-true, eqb-false}
 use Rattle.model.specs.Steps.{Choice}
-use Rattle.theory.specs.CellsFront.{frontOf, Earlier, front-none, front-cons}
-use Rattle.theory.specs.CellsRun.{back}
-use Rattle.theory.specs.CellsNode.{back-shift}
-use Rattle.theory.specs.CellsChosen.{chosenIn, choicesFor, choices-for-same, choices-for-more, LaidRun}
+use Rattle.best.specs.CellsFront.{frontOf, Earlier, front-none, front-cons}
+use Rattle.best.specs.CellsRun.{back}
+use Rattle.best.specs.CellsNode.{back-shift}
+use Rattle.best.specs.CellsChosen.{chosenIn, choicesFor, choices-for-same, choices-for-more, LaidRun}
 use Rattle.best.specs.Lay.{Gainful}
 
 -- ---- Siblings before a node

@@ -6,9 +6,9 @@ use mathlib.Core.List.{List, [], _∷_}
 use native.Mathlib.Omega.{arith}
 use lib.ListN.{length, getD, set, drop, replicate, length-set, length-replicate}
 use Rattle.model.specs.Table.{maxNodes, maxLimit}
-use Rattle.theory.specs.Cells.{pulled, pulled-one}
-use Rattle.theory.specs.CellsFront.{frontOf, EachGood, childIn, front-cons, front-length}
-use Rattle.theory.specs.CellsRun.{Kept, kept-none, kept-more, kept-count, kept-gained, kept-total, back, back-le}
+use Rattle.best.specs.Cells.{pulled, pulled-one}
+use Rattle.best.specs.CellsFront.{frontOf, EachGood, childIn, front-cons, front-length}
+use Rattle.best.specs.CellsRun.{Kept, kept-none, kept-more, kept-count, kept-gained, kept-total, back, back-le}
 use Rattle.best.specs.declared.run.Sums.{Sums}
 use Rattle.best.specs.Run.{gainSlots, joined}
 use Rattle.best.specs.Lay.{SumReady}

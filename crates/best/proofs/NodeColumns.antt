@@ -13,11 +13,11 @@ use Rattle.model.specs.Basics.{pick}
 use Rattle.model.specs.Table.{nodeCount, limitOf, weightAt, firstAt, nextAt}
 use Rattle.model.specs.Plan.{parentAt}
 use Rattle.theory.specs.Ranges.{pick-false}
-use Rattle.theory.specs.Links.{prevAt-less}
-use Rattle.theory.specs.Cells.{Cell, cellAt}
-use Rattle.theory.specs.CellsFront.{frontOf, front-none, cellIn, Swept, Sweeping, sweep-turn}
-use Rattle.theory.specs.CellsRun.{back, back-le, blockAt, block-apart, Fillable}
-use Rattle.theory.specs.CellsNode.{
+use Rattle.theory.specs.TableLinks.{prevAt-less}
+use Rattle.best.specs.Cells.{Cell, cellAt}
+use Rattle.best.specs.CellsFront.{frontOf, front-none, cellIn, Swept, Sweeping, sweep-turn}
+use Rattle.best.specs.CellsRun.{back, back-le, blockAt, block-apart, Fillable}
+use Rattle.best.specs.CellsNode.{
   Kin,
   NextChild,
   KidsFrom,

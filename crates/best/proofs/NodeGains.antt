@@ -11,10 +11,10 @@ use borrow.Author.Tests.{ltb-true, ltb-false, le-leb, lt-leb}
 use Rattle.model.specs.Basics.{pick}
 use Rattle.model.specs.Table.{slots, nodeCount, limitOf, weightAt}
 use Rattle.model.specs.Steps.{secondStart}
-use Rattle.theory.specs.Cells.{page, GoodChild}
-use Rattle.theory.specs.CellsRun.{blockAt, block-apart}
-use Rattle.theory.specs.CellsNode.{kin-high, Filled, figureAt, figure-good}
-use Rattle.theory.specs.CellsPlan.{Planned, gainFrom, node-figures, planned-step}
+use Rattle.best.specs.Cells.{page, GoodChild}
+use Rattle.best.specs.CellsRun.{blockAt, block-apart}
+use Rattle.best.specs.CellsNode.{kin-high, Filled, figureAt, figure-good}
+use Rattle.best.specs.CellsPlan.{Planned, gainFrom, node-figures, planned-step}
 
 -- there is no second plan
 pub gain-none : (g : Bool) (K w W x : ℕ) → (not g || ltb K (w + (K - W) + 1)) ≡ true → 0 ≡ gainFrom g K w W x

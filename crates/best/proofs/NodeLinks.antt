@@ -11,11 +11,11 @@ use lib.Dec.{eqb}
 use borrow.Author.Tests.{eqb-true, eqb-false}
 use Rattle.model.specs.Table.{slots, nodeCount, nextAt}
 use Rattle.model.specs.Plan.{prevAt}
-use Rattle.theory.specs.Sound.{AcceptedFacts}
-use Rattle.theory.specs.Links.{prevAt-less, prevAt-next, next-prev, next-later, next-le}
-use Rattle.theory.specs.CellsFront.{Earlier}
-use Rattle.theory.specs.CellsNode.{Linked}
-use Rattle.theory.specs.CellsRun.{zeros}
+use Rattle.theory.specs.TableFacts.{AcceptedFacts}
+use Rattle.theory.specs.TableLinks.{prevAt-less, prevAt-next, next-prev, next-later, next-le}
+use Rattle.best.specs.CellsFront.{Earlier}
+use Rattle.best.specs.CellsNode.{Linked}
+use Rattle.best.specs.CellsRun.{zeros}
 
 -- the links from the nodes 1 to v are kept
 pub record Linking (t : List ℕ) (v : ℕ) (prevs : List ℕ) : Type 0 where

@@ -8,11 +8,11 @@ use native.Mathlib.Nat.{mul-le-mul}
 use lib.ListN.{length, replicate}
 use Rattle.model.specs.Table.{slots, nodeCount, limitOf}
 use Rattle.model.specs.Refusals.{scratchWords}
-use Rattle.theory.specs.Sound.{AcceptedFacts}
-use Rattle.theory.specs.Cells.{cellAt}
-use Rattle.theory.specs.CellsFront.{Swept}
-use Rattle.theory.specs.CellsRun.{zeros, blockAt}
-use Rattle.theory.specs.CellsNode.{Linked, Ready}
+use Rattle.theory.specs.TableFacts.{AcceptedFacts}
+use Rattle.best.specs.Cells.{cellAt}
+use Rattle.best.specs.CellsFront.{Swept}
+use Rattle.best.specs.CellsRun.{zeros, blockAt}
+use Rattle.best.specs.CellsNode.{Linked, Ready}
 
 -- a block for each node, and one for none
 pub scratch-fits : (N K : ℕ) → 1 ≤ N → blockAt K (N + 1) ≤ scratchWords N K

@@ -10,12 +10,12 @@ use Rattle.model.specs.Basics.{pick}
 use Rattle.model.specs.Table.{maxNodes, maxLimit, slots, nodeCount, limitOf, weightAt}
 use Rattle.model.specs.Plan.{begins, parentAt}
 use Rattle.model.specs.Steps.{Child, Choice, runOf, runChoices, entryAt, secondStart}
-use Rattle.theory.specs.Cells.{pulled}
-use Rattle.theory.specs.CellsFront.{frontOf, Earlier, EachGood}
-use Rattle.theory.specs.CellsRun.{back}
-use Rattle.theory.specs.CellsNode.{Kin, Ready, ColumnsBack}
-use Rattle.theory.specs.CellsMarks.{choicesBack}
-use Rattle.theory.specs.CellsChosen.{chosenIn, LaidRun}
+use Rattle.best.specs.Cells.{pulled}
+use Rattle.best.specs.CellsFront.{frontOf, Earlier, EachGood}
+use Rattle.best.specs.CellsRun.{back}
+use Rattle.best.specs.CellsNode.{Kin, Ready, ColumnsBack}
+use Rattle.best.specs.CellsMarks.{choicesBack}
+use Rattle.best.specs.CellsChosen.{chosenIn, LaidRun}
 
 -- ---- A run
 

@@ -9,9 +9,9 @@ ghost use mathlib.Core.Path.{_≡_};
 ghost use Prim.Native.Nat.{ℕ, _+_, _*_, _≤_, _<_};
 ghost use lib.ListN.{length, getD};
 ghost use Rattle.model.specs.Table.{maxNodes, maxLimit};
-ghost use Rattle.theory.specs.Cells.{cellAt, lower, stayCell};
-ghost use Rattle.theory.specs.CellsFront.{cellIn, frontOf, Swept};
-ghost use Rattle.theory.specs.CellsRun.{blockAt, Fillable};
+ghost use Rattle.best.specs.Cells.{cellAt, lower, stayCell};
+ghost use Rattle.best.specs.CellsFront.{cellIn, frontOf, Swept};
+ghost use Rattle.best.specs.CellsRun.{blockAt, Fillable};
 
 // What one page counts in a word.
 pub const PAGE: u32 = 65536;

@@ -16,12 +16,12 @@ ghost use lib.ListN.{length, getD, replicate};
 ghost use Rattle.model.specs.Basics.{pick};
 ghost use Rattle.model.specs.Table.{maxNodes, maxLimit, nodeCount, limitOf, weightAt, treeOf};
 ghost use Rattle.model.specs.Steps.{layMarks, rootChoice};
-ghost use Rattle.theory.specs.Cells.{pulled};
-ghost use Rattle.theory.specs.CellsFront.{frontOf, EachGood};
-ghost use Rattle.theory.specs.CellsLay.{takes, lastMark};
-ghost use Rattle.theory.specs.CellsPlan.{Planned};
-ghost use Rattle.theory.specs.CellsRun.{countsOf, Kept};
-ghost use Rattle.theory.specs.ReduceLevel.{levelFrom};
+ghost use Rattle.best.specs.Cells.{pulled};
+ghost use Rattle.best.specs.CellsFront.{frontOf, EachGood};
+ghost use Rattle.best.specs.CellsLay.{takes, lastMark};
+ghost use Rattle.best.specs.CellsPlan.{Planned};
+ghost use Rattle.best.specs.CellsRun.{countsOf, Kept};
+ghost use Rattle.best.specs.ReduceLevel.{levelFrom};
 ghost use Rattle.best.specs.Run.{gainSlots};
 ghost use Rattle.best.specs.Lay.{SumReady, RunReady, RunDone, startOf, NodeReady, NodeDone};
 

@@ -16,7 +16,7 @@ ghost use lib.ListN.{length};
 ghost use Rattle.model.specs.Table.{nodeCount, limitOf, treeOf};
 ghost use Rattle.model.specs.Steps.{layMarks, rootChoice};
 ghost use Rattle.model.specs.Refusals.{scratchWords};
-ghost use Rattle.theory.specs.Sound.{AcceptedFacts};
+ghost use Rattle.theory.specs.TableFacts.{AcceptedFacts};
 
 // The marks of an accepted tree; with every gain 0 they are level's.
 pub fn lay_best(table: &[u8], gainful: bool, marks: &mut [u8], scratch: &mut [u32])

@@ -14,11 +14,11 @@ ghost use Prim.Native.Nat.{_+_, _-_, _*_, _%_, _≤_};
 ghost use lib.ListN.{length, getD};
 ghost use Rattle.model.specs.Table.{maxLimit, slots, nodeCount};
 ghost use Rattle.model.specs.Steps.{secondStart};
-ghost use Rattle.theory.specs.Sound.{AcceptedFacts};
-ghost use Rattle.theory.specs.Cells.{page, cellAt};
-ghost use Rattle.theory.specs.CellsFront.{Swept};
-ghost use Rattle.theory.specs.CellsNode.{Linked, Ready, Filled};
-ghost use Rattle.theory.specs.CellsPlan.{Planned, gainFrom};
+ghost use Rattle.theory.specs.TableFacts.{AcceptedFacts};
+ghost use Rattle.best.specs.Cells.{page, cellAt};
+ghost use Rattle.best.specs.CellsFront.{Swept};
+ghost use Rattle.best.specs.CellsNode.{Linked, Ready, Filled};
+ghost use Rattle.best.specs.CellsPlan.{Planned, gainFrom};
 
 // The sibling before each node, or 0.
 pub fn link_before(table: &[u8]) -> [u16; SLOTS]

@@ -18,7 +18,7 @@ ghost use Rattle.model.specs.Basics.{atPlace};
 ghost use Rattle.model.specs.Plan.{verdictOf};
 ghost use Rattle.model.specs.Refusals.{answerOf, judgePlan};
 ghost use Rattle.model.specs.Demand.{WeightPromise};
-ghost use Rattle.theory.specs.Sound.{AcceptedFacts};
+ghost use Rattle.theory.specs.TableFacts.{AcceptedFacts};
 
 // The verdict: a bad mark first, then a heavy page, else page count and root weight.
 fn find_verdict(bad: Place, heavy: Place, pages: u16, root: u32) -> Verdict

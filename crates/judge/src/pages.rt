@@ -13,7 +13,7 @@ ghost use lib.Dec.{ltb};
 ghost use lib.ListN.{getD};
 ghost use Rattle.model.specs.Basics.{pick, atPlace, firstTo};
 ghost use Rattle.model.specs.Table.{slots};
-ghost use Rattle.theory.specs.Sound.{AcceptedFacts};
+ghost use Rattle.theory.specs.TableFacts.{AcceptedFacts};
 ghost use Rattle.judge.specs.Rows.{Laid};
 
 // What the pass finds: by node its parent and its page, by page its weight, the number of pages, and the first bad mark.

@@ -10,7 +10,7 @@ use Rattle.model.specs.Plan.{pageCount}
 use Rattle.model.specs.Archive.{archiveOf, archiveBytes, pagesIn}
 use Rattle.model.specs.Refusals.{Written, writeArchive}
 use Rattle.model.specs.declared.Answer.{Answer}
-use Rattle.theory.specs.Judged.{pageCount-le}
+use Rattle.theory.specs.JudgeAnswers.{pageCount-le}
 use Rattle.theory.specs.ArchiveWords.{archive-pages}
 use Rattle.theory.specs.ArchiveBack.{Planned, planned-feasible}
 use Rattle.theory.specs.ArchiveAnswers.{judge-zero, write-done}

@@ -16,8 +16,8 @@ use Rattle.model.specs.Refusals.{Planned as Left, planned}
 use Rattle.model.specs.Demand.{PlanPromise}
 use Rattle.model.specs.declared.Answer.{Answer}
 use Rattle.theory.specs.Ranges.{Upto, pick-true, pick-false, listTo-zero, listTo-suc, listTo-cong, append-nil}
-use Rattle.theory.specs.Pages.{pages-low}
-use Rattle.theory.specs.Promise.{passes-lent, plan-passes}
+use Rattle.theory.specs.PlanPages.{pages-low}
+use Rattle.theory.specs.PromisePlanner.{passes-lent, plan-passes}
 use Rattle.theory.specs.ArchiveWords.{Page, page-first, getD-runsOf, archive-pages, archive-limit, archive-page}
 use Rattle.theory.specs.ArchiveBack.{Planned, feasible-planned}
 use Rattle.planner.specs.Outcome.{outcome}

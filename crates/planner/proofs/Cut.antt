@@ -8,12 +8,12 @@ use mathlib.Core.List.{List}
 use lib.ListN.{length, set, length-set}
 use Rattle.model.specs.Table.{nodeCount, limitOf, firstAt}
 use Rattle.model.specs.Steps.{restSum, takeEarliest, reduce}
-use Rattle.theory.specs.Links.{first-le}
-use Rattle.theory.specs.Shape.{size}
-use Rattle.theory.specs.Numbered.{numbered-size, numbered-le}
+use Rattle.theory.specs.TableLinks.{first-le}
+use Rattle.theory.specs.PlanShape.{size}
+use Rattle.theory.specs.TableNumbered.{numbered-size, numbered-le}
 use Rattle.theory.specs.Reduce.{Turns}
 use Rattle.theory.specs.ReduceCount.{reduce-stop, reduce-turn}
-use Rattle.theory.specs.ChainAt.{chainAt, chain-none, NodeAt, node-at}
+use Rattle.theory.specs.TableChain.{chainAt, chain-none, NodeAt, node-at}
 use Rattle.planner.specs.Nodes.{kept, Outside, outside-none, outside-then, outside-store}
 use Rattle.planner.specs.Single.{restAt, largestAt, EarliestAt, LaidAt, members-rest, members-largest, largest-some, earliest-rest, earliest-range, cut-members, cut-rest, cut-laid}
 use Rattle.planner.specs.Settled.{kidsOf}

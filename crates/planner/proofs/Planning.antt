@@ -11,11 +11,11 @@ use Rattle.model.specs.Table.{maxNodes, maxLimit, Chain, limitOf, treeOf}
 use Rattle.model.specs.Refusals.{scratchWords, treeChecks, planChecks, passes, acceptedTree, accepted, firstOf, readTree, judgePlan, Planned, planned, planBest}
 use Rattle.model.specs.Demand.{PlanPromise, BestPromise}
 use Rattle.model.specs.declared.Answer.{Answer}
-use Rattle.theory.specs.Sound.{AcceptedFacts, accepted-facts}
+use Rattle.theory.specs.TableFacts.{AcceptedFacts, accepted-facts}
 use Rattle.theory.specs.Checks.{lentChecks, plan-never, accepted-pass, refused-fails, firstOf-pass, firstOf-stop}
-use Rattle.theory.specs.Feasible.{Judged}
-use Rattle.theory.specs.Judged.{tree-accepted}
-use Rattle.theory.specs.Promise.{passes-lent, planned-done, planned-refused, plan-promise, best-promise}
+use Rattle.theory.specs.PlanFeasible.{Judged}
+use Rattle.theory.specs.JudgeAnswers.{tree-accepted}
+use Rattle.theory.specs.PromisePlanner.{passes-lent, planned-done, planned-refused, plan-promise, best-promise}
 use Rattle.planner.specs.Outcome.{outcome, PlanReady}
 
 -- ---- The refusals

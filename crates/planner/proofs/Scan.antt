@@ -6,10 +6,10 @@ use mathlib.Core.Path.{_≡_, refl, ap}
 use mathlib.Core.Logic.{_⊎_, inl, inr}
 use mathlib.Core.List.{List}
 use Rattle.model.specs.Table.{nodeCount, nextAt}
-use Rattle.theory.specs.Sound.{SoundFacts}
-use Rattle.theory.specs.Shape.{size}
-use Rattle.theory.specs.Links.{next-le}
-use Rattle.theory.specs.ChainAt.{chainAt, chain-none, node-at, next-smaller}
+use Rattle.theory.specs.TableFacts.{SoundFacts}
+use Rattle.theory.specs.PlanShape.{size}
+use Rattle.theory.specs.TableLinks.{next-le}
+use Rattle.theory.specs.TableChain.{chainAt, chain-none, node-at, next-smaller}
 use Rattle.planner.specs.Nodes.{kept}
 use Rattle.planner.specs.Single.{restAt, largestAt, EarliestAt}
 use Rattle.planner.specs.Cutting.{Heaviest}

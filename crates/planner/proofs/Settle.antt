@@ -7,10 +7,10 @@ use mathlib.Core.List.{List}
 use lib.ListN.{length, set}
 use Rattle.model.specs.Table.{maxLimit, nodeCount, limitOf, weightAt, firstAt, Chain, end, node}
 use Rattle.model.specs.Steps.{restSum, whole, cutDown, remainders, reduce}
-use Rattle.theory.specs.Shape.{size, EachWithin}
-use Rattle.theory.specs.Numbered.{numbered-size, numbered-le}
+use Rattle.theory.specs.PlanShape.{size, EachWithin}
+use Rattle.theory.specs.TableNumbered.{numbered-size, numbered-le}
 use Rattle.theory.specs.SingleShape.{cutDown-reduced}
-use Rattle.theory.specs.ChainAt.{NodeAt, node-at, link-within}
+use Rattle.theory.specs.TableChain.{NodeAt, node-at, link-within}
 use Rattle.planner.specs.Nodes.{kept-same, outside-then, outside-more, outside-store, same-store}
 use Rattle.planner.specs.Single.{members-rest, laid-same}
 use Rattle.planner.specs.Settled.{Settled, kidsOf, cutKids, Down, step}

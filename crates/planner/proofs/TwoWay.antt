@@ -11,11 +11,11 @@ use Rattle.model.specs.Basics.{pick}
 use Rattle.model.specs.Table.{maxLimit, nodeCount, limitOf, firstAt, nextAt, weightAt, labelAt}
 use Rattle.model.specs.Steps.{remainder}
 use Rattle.theory.specs.Ranges.{pick-both}
-use Rattle.theory.specs.Sound.{SoundFacts}
-use Rattle.theory.specs.Numbered.{Between, numbered-le}
-use Rattle.theory.specs.Links.{first-step, first-le, next-later, next-le, first-one, next-one, first-not-next}
+use Rattle.theory.specs.TableFacts.{SoundFacts}
+use Rattle.theory.specs.TableNumbered.{Between, numbered-le}
+use Rattle.theory.specs.TableLinks.{first-step, first-le, next-later, next-le, first-one, next-one, first-not-next}
 use Rattle.theory.specs.PairShape.{unlessCut, remainder-node, remainder-fits}
-use Rattle.theory.specs.ChainAt.{chainAt, chain-none, NodeAt, node-at, link-within}
+use Rattle.theory.specs.TableChain.{chainAt, chain-none, NodeAt, node-at, link-within}
 use Rattle.planner.specs.Nodes.{kept, kept-none, kept-same, kept-other}
 use Rattle.planner.specs.Sides.{leftCut, rightCut, sides-left, sides-right}
 use Rattle.planner.specs.declared.pair.Sides.{Sides}

@@ -6,9 +6,9 @@ use mathlib.Core.List.{List}
 use lib.ListN.{length}
 use Rattle.model.specs.Table.{maxNodes, maxLimit, nodeCount, limitOf, firstAt}
 use Rattle.model.specs.Steps.{Member, restSum, reduce}
-use Rattle.theory.specs.Sound.{SoundFacts, AcceptedFacts}
-use Rattle.theory.specs.Shape.{size}
-use Rattle.theory.specs.ChainAt.{chainAt}
+use Rattle.theory.specs.TableFacts.{SoundFacts, AcceptedFacts}
+use Rattle.theory.specs.PlanShape.{size}
+use Rattle.theory.specs.TableChain.{chainAt}
 use Rattle.planner.specs.Nodes.{Outside}
 use Rattle.planner.specs.Single.{members, LaidAt, EarliestAt, largestAt, restAt}
 use Rattle.planner.specs.Settled.{Fresh, kidsOf}

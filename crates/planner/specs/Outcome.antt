@@ -8,9 +8,9 @@ use Rattle.model.specs.Table.{nodeCount, limitOf, Chain, treeOf}
 use Rattle.model.specs.Steps.{bestMarks, levelMarks, singleMarks, pairMarks}
 use Rattle.model.specs.Refusals.{Planned, scratchWords}
 use Rattle.model.specs.declared.Answer.{Answer}
-use Rattle.theory.specs.Sound.{AcceptedFacts}
-use Rattle.theory.specs.Feasible.{Judged}
-use Rattle.theory.specs.Lowest.{best-judged, level-judged, single-judged, pair-judged}
+use Rattle.theory.specs.TableFacts.{AcceptedFacts}
+use Rattle.theory.specs.PlanFeasible.{Judged}
+use Rattle.theory.specs.BestLowest.{best-judged, level-judged, single-judged, pair-judged}
 use Rattle.planner.specs.declared.Planner.{Planner}
 use Rattle.planner.specs.declared.Planner.the-variants.{Best, Level, Single, Pair}
 

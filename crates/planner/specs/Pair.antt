@@ -14,9 +14,9 @@ use Rattle.model.specs.Basics.{pick}
 use Rattle.model.specs.Table.{maxLimit, nodeCount, limitOf, firstAt, nextAt, weightAt, Chain, treeOf}
 use Rattle.model.specs.Steps.{sides, remainder, takenAt, layPair, pairMarks}
 use Rattle.theory.specs.Ranges.{append-nil}
-use Rattle.theory.specs.Sound.{SoundFacts, AcceptedFacts}
-use Rattle.theory.specs.Numbered.{Numbered, none, some, numbered-le, Between, sound-tree}
-use Rattle.theory.specs.ChainAt.{chainAt, chain-is}
+use Rattle.theory.specs.TableFacts.{SoundFacts, AcceptedFacts}
+use Rattle.theory.specs.TableNumbered.{Numbered, none, some, numbered-le, Between, sound-tree}
+use Rattle.theory.specs.TableChain.{chainAt, chain-is}
 use Rattle.planner.specs.Nodes.{kept, kept-suc}
 use Rattle.planner.specs.declared.pair.Sides.{Sides}
 

@@ -14,10 +14,10 @@ use Rattle.model.specs.Basics.{pick}
 use Rattle.model.specs.Table.{nodeCount, limitOf, firstAt, nextAt, weightAt, labelAt, Chain, end, node, treeOf}
 use Rattle.model.specs.Steps.{Member, restSum, whole, cutDown, remainders, laySingle, singleMarks}
 use Rattle.theory.specs.Ranges.{append-nil}
-use Rattle.theory.specs.Sound.{SoundFacts}
-use Rattle.theory.specs.Shape.{size}
-use Rattle.theory.specs.Numbered.{Numbered, none, some, numbered-le, numbered-size, sound-tree, sound-root}
-use Rattle.theory.specs.ChainAt.{chainAt, chain-is, node-at}
+use Rattle.theory.specs.TableFacts.{SoundFacts}
+use Rattle.theory.specs.PlanShape.{size}
+use Rattle.theory.specs.TableNumbered.{Numbered, none, some, numbered-le, numbered-size, sound-tree, sound-root}
+use Rattle.theory.specs.TableChain.{chainAt, chain-is, node-at}
 use Rattle.planner.specs.Nodes.{kept, kept-same, Outside, outside-none, outside-then, outside-more, Same, outside-same, same-store}
 use Rattle.planner.specs.Single.{members, LaidAt, members-same, laid-same, laid-marks}
 

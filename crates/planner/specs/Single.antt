@@ -12,7 +12,7 @@ use borrow.Author.Tests.{eq-eqb, ne-eqb}
 use Rattle.model.specs.Basics.{pick}
 use Rattle.model.specs.Table.{firstAt, nextAt, weightAt, Chain, end, node}
 use Rattle.model.specs.Steps.{Member, restSum, largestGain, takeEarliest, cutDown, remainders, laySingle}
-use Rattle.theory.specs.Numbered.{Numbered, none, some, numbered-le}
+use Rattle.theory.specs.TableNumbered.{Numbered, none, some, numbered-le}
 use Rattle.planner.specs.Nodes.{kept, kept-suc, kept-same, kept-other, Same, same-less, same-store}
 
 -- a child whose remainder the scratch keeps, taken where its mark is 1

@@ -9,7 +9,7 @@ ghost use mathlib.Core.Path.{_≡_};
 ghost use Prim.Native.Nat.{_≤_};
 ghost use Rattle.model.specs.Table.{limitOf, treeOf};
 ghost use Rattle.model.specs.Steps.{singleMarks};
-ghost use Rattle.theory.specs.ChainAt.{chainAt};
+ghost use Rattle.theory.specs.TableChain.{chainAt};
 ghost use Rattle.planner.specs.Single.{restAt};
 ghost use Rattle.planner.specs.Settled.{Settled};
 ghost use Rattle.planner.specs.Cutting.{Scanned, Heaviest, CutReady, CutDone, SettleReady, LayReady, mostSum};

@@ -19,9 +19,9 @@ use Rattle.model.specs.declared.Beside.{Beside}
 use Rattle.model.specs.declared.Beside.the-variants.{Given, Nothing}
 use Rattle.model.specs.declared.Answer.{Answer}
 use Rattle.theory.specs.Ranges.{length-listTo, getD-listTo}
-use Rattle.theory.specs.Pages.{pages-low}
-use Rattle.theory.specs.Feasible.{Judged, feasible-judged, judged-verdict}
-use Rattle.theory.specs.MarkedRuns.{length-runsOf}
+use Rattle.theory.specs.PlanPages.{pages-low}
+use Rattle.theory.specs.PlanFeasible.{Judged, feasible-judged, judged-verdict}
+use Rattle.theory.specs.RunsMarked.{length-runsOf}
 use Rattle.theory.specs.ArchiveWords.{page-first, getD-runsOf, archive-pages, archive-page}
 
 -- ---- The page records of a table and marks

@@ -15,8 +15,8 @@ use Rattle.model.specs.Runs.{Run, rootRun, runsOf}
 use Rattle.model.specs.Archive.{nextPage, pageRecords, nextOnPage, nodeRecord, archiveOf, archiveBytes, pagesIn, pageFieldIn, nodeFieldIn, parentIn}
 use Rattle.theory.specs.Ranges.{upto-suc, listTo-zero, listTo-suc}
 use Rattle.theory.specs.Chosen.{Ranked, ranked, getD-chosen}
-use Rattle.theory.specs.MarkedRuns.{runAt, length-runsOf}
-use Rattle.theory.specs.Encode.{Holds, length-bytesOf, wordAt-bytesOf, holds-all}
+use Rattle.theory.specs.RunsMarked.{runAt, length-runsOf}
+use Rattle.theory.specs.TableEncoded.{Holds, length-bytesOf, wordAt-bytesOf, holds-all}
 
 -- ---- Records of four words
 

@@ -11,13 +11,13 @@ use Rattle.model.specs.Basics.{pick}
 use Rattle.model.specs.Table.{Chain, end, node}
 use Rattle.model.specs.Plan.{stays, begins, continues}
 use Rattle.model.specs.Steps.{Child, Choice, entryAt, childOf, childrenFrom, childrenOf, choicesOf, layMarks, rootChoice}
-use Rattle.theory.specs.Shape.{weighed, EachWithin}
-use Rattle.theory.specs.Greedy.{Offers, best, second}
-use Rattle.theory.specs.Level.{Fair, RunSoFar, noRun, aRun, Level, empty, stay, begin, go, run-within}
-use Rattle.theory.specs.Entries.{Reaches}
-use Rattle.theory.specs.Nodes.{bestEntry, secondEntry, node-rest, node-best, SecondPlan, node-second, children-fair}
-use Rattle.theory.specs.Laid.{FeasibleShape}
-use Rattle.theory.specs.NodeMarks.{Weighs, node-page, weighs-end, weighs-stays, weighs-begins, weighs-continues}
+use Rattle.theory.specs.PlanShape.{weighed, EachWithin}
+use Rattle.theory.specs.BestGreedy.{Offers, best, second}
+use Rattle.theory.specs.BestLevel.{Fair, RunSoFar, noRun, aRun, Level, empty, stay, begin, go, run-within}
+use Rattle.theory.specs.BestEntries.{Reaches}
+use Rattle.theory.specs.BestNodes.{bestEntry, secondEntry, node-rest, node-best, SecondPlan, node-second, children-fair}
+use Rattle.theory.specs.PlanLaid.{FeasibleShape}
+use Rattle.theory.specs.PlanWeighs.{Weighs, node-page, weighs-end, weighs-stays, weighs-begins, weighs-continues}
 
 -- the pages that begin in a chain and below it where each node follows its best plan: the counts of their best entries
 unfoldable pub pagesBelow : Bool → ℕ → Chain → ℕ

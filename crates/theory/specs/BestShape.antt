@@ -9,12 +9,12 @@ use native.Mathlib.Omega.{arith}
 use lib.ListN.{length, getD, length-append}
 use Rattle.model.specs.Table.{Chain, end, node}
 use Rattle.model.specs.Steps.{entryAt, childrenOf, bestMarks, levelMarks}
-use Rattle.theory.specs.Shape.{allowed, allowedMark, joined, weighed, AllWithin, EachWithin, Positive}
-use Rattle.theory.specs.Nodes.{bestEntry, NoBetter, node-least, children-fair}
+use Rattle.theory.specs.PlanShape.{allowed, allowedMark, joined, weighed, AllWithin, EachWithin, Positive}
+use Rattle.theory.specs.BestNodes.{bestEntry, NoBetter, node-least, children-fair}
 use Rattle.theory.specs.BestLaid.{pagesBelow, pagesOf, Figured, laid-feasible}
-use Rattle.theory.specs.NodeMarks.{all-within-left}
-use Rattle.theory.specs.RealPlans.{Matching, match-children}
-use Rattle.theory.specs.Reach.{Reaching, positive-reaching}
+use Rattle.theory.specs.PlanWeighs.{all-within-left}
+use Rattle.theory.specs.BestRealPlans.{Matching, match-children}
+use Rattle.theory.specs.BestReaching.{Reaching, positive-reaching}
 
 module _ (K w l : ℕ) (kids : Chain) (each : EachWithin K (node w l kids end)) where
   -- best's plan is feasible; its page count and the weight of its root page are the entries'

@@ -1,69 +1,59 @@
--- Laws about the definitions of document 01, each file after those that it rests on.
--- Numbers 1 to n, and lists of them
+-- Laws about the definitions of document 01, by group, each file after those that it rests on.
+-- Numbers 1 to n, and lists
 pub mod Ranges
 pub mod Sums
 pub mod Chosen
--- Checks, and tables of sound form: facts, numbering, links, siblings, bytes
-pub mod Sound
+pub mod Lists
+-- Lists of checks
+pub mod TableFacts
 pub mod Checks
-pub mod Shape
-pub mod Numbered
-pub mod Links
-pub mod ChainAt
-pub mod Chains
-pub mod Siblings
-pub mod Encode
--- Plans by number: pages and the judge's answer
-pub mod JudgePages
-pub mod Pages
-pub mod Judged
--- Plans by shape, and that both say the same
-pub mod Marks
-pub mod Bridge
-pub mod NodeMarks
-pub mod Laid
-pub mod Feasible
+-- Tables of sound form: facts, numbering, links, siblings, bytes
+pub mod PlanShape
+pub mod TableNumbered
+pub mod TableLinks
+pub mod TableChain
+pub mod SiblingChains
+pub mod SiblingsByParent
+pub mod TableEncoded
+-- Plans: pages by number, the judge's answer, plans by shape, and that both say the same
+pub mod PlanPass
+pub mod PlanPages
+pub mod JudgeAnswers
+pub mod PlanMarks
+pub mod PlanBridge
+pub mod PlanWeighs
+pub mod PlanLaid
+pub mod PlanFeasible
 -- Sequences of sibling runs, the runs of a plan and the plan of runs
-pub mod Listed
-pub mod RunLists
-pub mod SameRuns
-pub mod MarkedRuns
-pub mod RunMarks
+pub mod RunsFacts
+pub mod RunsSame
+pub mod RunsMarked
+pub mod RunsByMarks
 pub mod RunsOfPlan
-pub mod PlanOfRuns
-pub mod Held
-pub mod Weight
--- The archive
+pub mod RunsToPlan
+pub mod RunsHeld
+-- The archive: its words, writing and reading back, the answers of its entries
 pub mod ArchiveWords
 pub mod ArchiveBack
 pub mod ArchiveAnswers
--- Gains taken off; single and pair
+-- Gains taken off: all planners; single and pair
 pub mod Reduce
 pub mod ReduceCount
-pub mod ReduceLevel
 pub mod SingleShape
 pub mod PairShape
--- Level and best
-pub mod Greedy
-pub mod Level
-pub mod Candidates
-pub mod Entries
-pub mod Nodes
+-- Best and level: the optimality of best
+pub mod BestGreedy
+pub mod BestLevel
+pub mod BestCandidates
+pub mod BestEntries
+pub mod BestNodes
 pub mod BestLaid
-pub mod Reach
-pub mod RealPlans
+pub mod BestReaching
+pub mod BestRealPlans
 pub mod BestShape
--- The best planner's columns
-pub mod Cells
-pub mod CellsFront
-pub mod CellsRun
-pub mod CellsNode
-pub mod CellsPlan
-pub mod CellsLay
-pub mod CellsMarks
-pub mod CellsChosen
--- Demand 3
-pub mod Lowest
-pub mod Promise
+pub mod BestLowest
+-- What the entries promise: the demands
+pub mod PromiseWeight
+pub mod PromisePlanner
 pub mod ArchiveLowest
-pub mod ArchivePromise
+pub mod PromiseArchive

@@ -11,9 +11,9 @@ use Rattle.model.specs.Basics.{pick}
 use Rattle.model.specs.Table.{Chain, end, node}
 use Rattle.model.specs.Plan.{stays, continues}
 use Rattle.model.specs.Steps.{Member, restSum, whole, cutDown, sides, remainder, takenAt, layPair, pairMarks}
-use Rattle.theory.specs.Shape.{EachWithin}
+use Rattle.theory.specs.PlanShape.{EachWithin}
 use Rattle.theory.specs.Reduce.{Each, whole-Whole, cutOff, Cuts, Reduced, reduce-whole}
-use Rattle.theory.specs.Laid.{Laid, laid-end, laid-stays, laid-begins, laid-continues, FeasibleShape, feasible-tree}
+use Rattle.theory.specs.PlanLaid.{Laid, laid-end, laid-stays, laid-begins, laid-continues, FeasibleShape, feasible-tree}
 
 -- what is left of a side that weighs r
 abbrev pub unlessCut : Bool → ℕ → ℕ

@@ -16,13 +16,13 @@ use Rattle.model.specs.Runs.{Run, isMember, rootRun, countOf, holds, runWith, h
 use Rattle.model.specs.declared.Place.the-variants.{At, Nowhere}
 use Rattle.theory.specs.Ranges.{sumTo-cong, countTo-zero, countTo-yes, countTo-none, firstTo-none, firstTo-nowhere}
 use Rattle.theory.specs.Chosen.{countTo-mono, countTo-some, ranked, countTo-same, countTo-only}
-use Rattle.theory.specs.Sound.{SoundFacts, both-true}
-use Rattle.theory.specs.Links.{prevAt-less, prevAt-next, parentAt-less, parent-low}
-use Rattle.theory.specs.Pages.{pageOf-begins, pageOf-continues, pageOf-stays, good-node, good-continues, good-after, root-begins}
-use Rattle.theory.specs.Chains.{here, reach-trans, reach-one, same-true}
-use Rattle.theory.specs.Listed.{Mem, every-all, all-every, From, chosen-from, chosen-mem, countOf-chosen}
-use Rattle.theory.specs.RunLists.{run-path, none-runWith, HoldFacts, facts-holds, runWith-at, runWith-zero, home-run, home-up}
-use Rattle.theory.specs.MarkedRuns.{Goes, Headed, headed, runAt, runsOf-chosen, neither-inRun, ends-runLast, runAt-facts, goes-member, member-goes, goes-inRun, goes-one}
+use Rattle.theory.specs.TableFacts.{SoundFacts, both-true}
+use Rattle.theory.specs.TableLinks.{prevAt-less, prevAt-next, parentAt-less, parent-low}
+use Rattle.theory.specs.PlanPages.{pageOf-begins, pageOf-continues, pageOf-stays, good-node, good-continues, good-after, root-begins}
+use Rattle.theory.specs.SiblingChains.{here, reach-trans, reach-one, same-true}
+use Rattle.theory.specs.Lists.{Mem, every-all, all-every, From, chosen-from, chosen-mem, countOf-chosen}
+use Rattle.theory.specs.RunsFacts.{run-path, none-runWith, HoldFacts, facts-holds, runWith-at, runWith-zero, home-run, home-up}
+use Rattle.theory.specs.RunsMarked.{Goes, Headed, headed, runAt, runsOf-chosen, neither-inRun, ends-runLast, runAt-facts, goes-member, member-goes, goes-inRun, goes-one}
 
 -- the node that begins the page of v
 pub record OnPage (t m : List ℕ) (v : ℕ) : Type 0 where

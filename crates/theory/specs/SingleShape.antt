@@ -11,9 +11,9 @@ use native.Mathlib.Nat.{zero-add}
 use Rattle.model.specs.Basics.{pick}
 use Rattle.model.specs.Table.{Chain, end, node}
 use Rattle.model.specs.Steps.{Member, restSum, whole, cutDown, remainders, laySingle, singleMarks}
-use Rattle.theory.specs.Shape.{EachWithin}
+use Rattle.theory.specs.PlanShape.{EachWithin}
 use Rattle.theory.specs.Reduce.{Each, Whole, whole-Whole, cutOff, Cuts, Reduced, reduce-whole}
-use Rattle.theory.specs.Laid.{Laid, laid-end, laid-stays, laid-begins, FeasibleShape, feasible-tree}
+use Rattle.theory.specs.PlanLaid.{Laid, laid-end, laid-stays, laid-begins, FeasibleShape, feasible-tree}
 
 pub remainders-whole : (K : ℕ) (c : Chain) → Each Whole (remainders K c)
 unfolding Each remainders

@@ -10,7 +10,7 @@ use Rattle.model.specs.declared.Place.{Place}
 use Rattle.model.specs.declared.Cause.the-variants.{BadMark, HeavyPage}
 use Rattle.model.specs.declared.Verdict.{Verdict}
 use Rattle.model.specs.declared.Verdict.the-variants.{Feasible, Failed}
-use Rattle.theory.specs.Judged.{pageCount-le}
+use Rattle.theory.specs.JudgeAnswers.{pageCount-le}
 use Rattle.judge.proofs.Turns.{heavy-is}
 use borrow.Author.Needs.{needs}
 use Rattle.judge.proofs.judge_marks.Statement.{statement}

@@ -7,8 +7,8 @@ use denote.Ref.{now}
 use Rattle.model.specs.Refusals.{refused, readTree, judgePlan}
 use Rattle.model.specs.Demand.{WeightPromise}
 use Rattle.model.specs.declared.Answer.{Answer}
-use Rattle.theory.specs.Judged.{tree-facts, judge-refuses, judge-length, judge-goes-on}
-use Rattle.theory.specs.Weight.{judge-weight}
+use Rattle.theory.specs.JudgeAnswers.{tree-facts, judge-refuses, judge-length, judge-goes-on}
+use Rattle.theory.specs.PromiseWeight.{judge-weight}
 use borrow.Author.Needs.{needs}
 use Rattle.judge.proofs.judge_plan.Statement.{statement}
 use Rattle.judge.proofs.judge_plan.Tie as tie

@@ -11,7 +11,7 @@ use Rattle.model.specs.Refusals.{noWeight, badWalk, heavyNode, readTree}
 use Rattle.model.specs.Demand.{WeightPromise}
 use Rattle.model.specs.declared.Answer.{Answer}
 use Rattle.theory.specs.Checks.{nodeChecks, headAnswer, head-refuses, head-goes-on, head-count, firstOf-cons, firstOf-none}
-use Rattle.theory.specs.Weight.{read-weight}
+use Rattle.theory.specs.PromiseWeight.{read-weight}
 use borrow.Author.Needs.{needs}
 use Rattle.table.proofs.read_tree.Statement.{statement}
 use Rattle.table.proofs.read_tree.Tie as tie

@@ -4,7 +4,7 @@ use Prim.Native.Nat.{_+_, _-_, _*_, _≤_}
 use native.Mathlib.Omega.{arith}
 use lib.ListN.{length}
 use Rattle.model.specs.Table.{nodeCount}
-use Rattle.archive.specs.Sheets.{NodesPut, nodes-start}
+use Rattle.archive.specs.Records.{NodesPut, nodes-start}
 use Rattle.archive.proofs.Turns.{record-length, nodes-next}
 use borrow.Author.Needs.{needs}
 use Rattle.archive.proofs.records.put_nodes.Statement.{statement}

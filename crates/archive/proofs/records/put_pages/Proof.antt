@@ -10,9 +10,9 @@ use Rattle.model.specs.Basics.{countTo}
 use Rattle.model.specs.Plan.{begins, markAt, hasMark, pageCount}
 use Rattle.theory.specs.Ranges.{countTo-zero}
 use Rattle.theory.specs.ArchiveBack.{planned-light}
-use Rattle.theory.specs.Judged.{pageCount-le}
+use Rattle.theory.specs.JudgeAnswers.{pageCount-le}
 use Rattle.archive.specs.Put.{Starts}
-use Rattle.archive.specs.Sheets.{pagesUpto, pages-start}
+use Rattle.archive.specs.Records.{pagesUpto, pages-start}
 use Rattle.archive.proofs.Turns.{record-length, page-no, page-yes, page-within, pages-pass, pages-next}
 use borrow.Author.Needs.{needs}
 use Rattle.archive.proofs.records.put_pages.Statement.{statement}

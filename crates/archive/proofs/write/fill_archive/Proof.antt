@@ -3,8 +3,8 @@ use mathlib.Core.Path.{ap, _∙_}
 use native.Mathlib.Omega.{arith}
 use Rattle.model.specs.Archive.{archiveBytes}
 use Rattle.model.specs.Table.{nodeCount}
-use Rattle.theory.specs.Judged.{pageCount-le}
-use Rattle.archive.specs.Sheets.{pagesUpto, all-put}
+use Rattle.theory.specs.JudgeAnswers.{pageCount-le}
+use Rattle.archive.specs.Records.{pagesUpto, all-put}
 use Rattle.archive.proofs.Turns.{page-fits, head-start, onward-is, all-pages-length}
 use borrow.Author.Needs.{needs}
 use Rattle.archive.proofs.write.fill_archive.Statement.{statement}

@@ -30,10 +30,10 @@ use Rattle.best.proofs.ColumnRuns.{
   stops-end,
   stretch-again as again,
 }
-use Rattle.theory.specs.CellsRun.{blockAt, Fillable}
+use Rattle.best.specs.CellsRun.{blockAt, Fillable}
 use mathlib.Core.List.{List}
-use Rattle.theory.specs.Cells.{Cell}
-use Rattle.theory.specs.CellsFront.{Swept}
+use Rattle.best.specs.Cells.{Cell}
+use Rattle.best.specs.CellsFront.{Swept}
 
 abbrev Inv-loop : tie.InvT-loop
 Inv-loop words rests gains prevs child start limit here first counts sums next sum₀ taken₀ gain₀ left₀ sum taken gain left =

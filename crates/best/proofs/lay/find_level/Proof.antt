@@ -5,9 +5,9 @@ use Rattle.best.proofs.lay.find_level.Tie as tie
 use Prim.Native.Nat.{_+_, _-_, _*_, _≤_, _<_}
 use mathlib.Core.Path.{_≡_, sym, _∙_, ap}
 use native.Mathlib.Omega.{arith}
-use Rattle.theory.specs.CellsRun.{countsOf}
-use Rattle.theory.specs.ReduceLevel.{levelFrom}
-use Rattle.theory.specs.CellsLay.{levelling, levelling-start, levelling-down, levelling-stop, levelling-take, levelling-none}
+use Rattle.best.specs.CellsRun.{countsOf}
+use Rattle.best.specs.ReduceLevel.{levelFrom}
+use Rattle.best.specs.CellsLay.{levelling, levelling-start, levelling-down, levelling-stop, levelling-take, levelling-none}
 
 abbrev Inv-loop : tie.InvT-loop
 Inv-loop counts top total limit gain₀ left₀ times₀ sum₀ gain left times sum =

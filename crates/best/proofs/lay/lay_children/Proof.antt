@@ -7,7 +7,7 @@ use mathlib.Core.Path.{ap}
 use lib.ListN.{getD}
 use native.Mathlib.Omega.{arith}
 use Rattle.model.specs.Table.{maxNodes, maxLimit, slots}
-use Rattle.theory.specs.CellsRun.{blockAt}
+use Rattle.best.specs.CellsRun.{blockAt}
 use Rattle.best.proofs.LayNode.{
   Walking,
   Found,

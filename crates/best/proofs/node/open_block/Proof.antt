@@ -3,8 +3,8 @@ use Prim.Native.Nat.{_+_, _-_, _≤_}
 use mathlib.Core.List.{[]}
 use native.Mathlib.Omega.{arith}
 use lib.ListN.{length-set}
-use Rattle.theory.specs.Cells.{cellAt}
-use Rattle.theory.specs.CellsFront.{Sweeping, sweep-none, sweep-end}
+use Rattle.best.specs.Cells.{cellAt}
+use Rattle.best.specs.CellsFront.{Sweeping, sweep-none, sweep-end}
 use Rattle.best.proofs.NodeColumns.{open-turn}
 use borrow.Author.Needs.{needs}
 use Rattle.best.proofs.node.open_block.Statement.{statement}

@@ -4,7 +4,7 @@ use mathlib.Core.Path.{_≡_, refl, _∙_}
 use native.Mathlib.Omega.{arith}
 use lib.ListN.{length}
 use Rattle.model.specs.Table.{slots, nodeCount}
-use Rattle.theory.specs.CellsPlan.{Planned, planned-none}
+use Rattle.best.specs.CellsPlan.{Planned, planned-none}
 use borrow.Author.Needs.{needs}
 use Rattle.best.proofs.node.plan_nodes.Statement.{statement}
 use Rattle.best.proofs.node.plan_nodes.Tie as tie

@@ -11,7 +11,7 @@ use Rattle.model.specs.Table.{maxNodes, maxLimit, nodeCount, limitOf}
 use Rattle.model.specs.Refusals.{badMarks, shortScratch, scratchWords, readTree}
 use Rattle.model.specs.declared.Answer.{Answer}
 use Rattle.theory.specs.Checks.{lentChecks, firstOf-cons, firstOf-none}
-use Rattle.theory.specs.Judged.{tree-facts}
+use Rattle.theory.specs.JudgeAnswers.{tree-facts}
 use Rattle.planner.proofs.Planning.{tree-refuses, tree-goes-on, words-fit}
 use borrow.Author.Needs.{needs}
 use Rattle.planner.proofs.common.check_plan.Statement.{statement}

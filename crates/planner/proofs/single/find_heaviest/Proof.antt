@@ -2,8 +2,8 @@
 use mathlib.Core.Logic.{inl, inr, ⊎-elim}
 use native.Mathlib.Omega.{arith}
 use denote.Ref.{now}
-use Rattle.theory.specs.Shape.{size}
-use Rattle.theory.specs.ChainAt.{chainAt}
+use Rattle.theory.specs.PlanShape.{size}
+use Rattle.theory.specs.TableChain.{chainAt}
 use Rattle.planner.proofs.Scan.{Scan, scan-start, scan-turn, scan-end, next-less}
 use borrow.Author.Needs.{needs}
 use Rattle.planner.proofs.single.find_heaviest.Statement.{statement}

@@ -4,8 +4,8 @@ use Prim.Native.Nat.{_+_, _≤_}
 use native.Mathlib.Omega.{arith}
 use denote.Ref.{now}
 use Rattle.model.specs.Table.{nodeCount}
-use Rattle.theory.specs.Shape.{size}
-use Rattle.theory.specs.ChainAt.{chainAt}
+use Rattle.theory.specs.PlanShape.{size}
+use Rattle.theory.specs.TableChain.{chainAt}
 use Rattle.planner.specs.Single.{restAt}
 use Rattle.planner.proofs.Scan.{next-less, next-high, sum-more, sum-fits, sum-end}
 use borrow.Author.Needs.{needs}

@@ -1,0 +1,198 @@
+-- A node's children as they stand in arrays of rests, gains and siblings before, and the cells of a child as they stand in a block
+-- of words: K + 1 words of cells, then K + 1 lengths of runs.
+-- Defines listBack (a list from the last back), frontOf, cellIn, Swept, Sweeping. Proves list-cons, list-length, list-same; front-cons,
+-- front-length, front-good; and sweep-none, sweep-turn, sweep-end: a sweep over the starts of a block, one store of a cell a turn. Assumes nothing.
+use Prim.Native.Nat.{ℕ, zero, suc, _+_, _*_, _≤_, _<_}
+use mathlib.Core.Path.{_≡_, refl, _∙_, ap, ap₂}
+use mathlib.Core.Bool.{Bool, true, false}
+use mathlib.Core.List.{List, [], _∷_}
+use native.Mathlib.Omega.{arith}
+use lib.ListN.{length, getD, set, length-set}
+use lib.Seq.{getD-set-same, getD-set-other}
+use lib.Dec.{eqb}
+use borrow.Author.Tests.{eqb-true, eqb-false}
+use Rattle.model.specs.Steps.{Child}
+use Rattle.best.specs.Cells.{Cell, GoodChild, Good}
+
+-- ---- A list from the last back
+
+-- what x gives for place u and for those before it by p, the last first; f bounds them, and 0 is none
+unfoldable pub backFrom : {A : Type 0} → ℕ → (ℕ → A) → (ℕ → ℕ) → ℕ → List A
+backFrom zero x p u = []
+backFrom (suc f) x p zero = []
+backFrom (suc f) x p (suc u) = x (suc u) ∷ backFrom f x p (p (suc u))
+
+unfoldable pub listBack : {A : Type 0} → (ℕ → A) → (ℕ → ℕ) → ℕ → List A
+listBack x p u = backFrom u x p u
+
+pub list-none : {A : Type 0} (x : ℕ → A) (p : ℕ → ℕ) → listBack x p 0 ≡ []
+unfolding listBack backFrom
+list-none x p = refl
+
+module _ {A : Type 0} (x : ℕ → A) (p : ℕ → ℕ) (less : (u : ℕ) → 1 ≤ u → p u < u) where
+  back-enough : (f g u : ℕ) → u ≤ f → u ≤ g → backFrom f x p u ≡ backFrom g x p u
+  unfolding backFrom
+  back-enough zero zero u a b = refl
+  back-enough zero (suc g) zero a b = refl
+  back-enough zero (suc g) (suc u) a b = absurd (omega arith)
+  back-enough (suc f) zero zero a b = refl
+  back-enough (suc f) zero (suc u) a b = absurd (omega arith)
+  back-enough (suc f) (suc g) zero a b = refl
+  back-enough (suc f) (suc g) (suc u) a b =
+      let l : p (suc u) < suc u = less (suc u) (omega arith) in
+      ap (λ xs. x (suc u) ∷ xs) (back-enough f g (p (suc u)) (omega arith) (omega arith))
+
+  pub list-cons : (u : ℕ) → 1 ≤ u → listBack x p u ≡ x u ∷ listBack x p (p u)
+  unfolding listBack backFrom
+  list-cons zero a = absurd (omega arith)
+  list-cons (suc u) a =
+      let l : p (suc u) < suc u = less (suc u) (omega arith) in
+      ap (λ xs. x (suc u) ∷ xs) (back-enough u (p (suc u)) (p (suc u)) (omega arith) (omega arith))
+
+  back-length : (f u : ℕ) → length (backFrom f x p u) ≤ u
+  unfolding backFrom
+  back-length zero u = omega arith
+  back-length (suc f) zero = omega arith
+  back-length (suc f) (suc u) = omega (arith, back-length f (p (suc u)), less (suc u) (omega arith))
+
+  pub list-length : (u : ℕ) → length (listBack x p u) ≤ u
+  unfolding listBack
+  list-length u = back-length u u
+
+-- it is the same where it is the same at each place
+module _ {A : Type 0} {x y : ℕ → A} {p q : ℕ → ℕ} (In : ℕ → Type 0)
+    (step : (u : ℕ) → 1 ≤ u → In u → (x u ≡ y u) × (p u ≡ q u) × In (q u))
+  where
+    back-same : (f u : ℕ) → In u → backFrom f x p u ≡ backFrom f y q u
+    unfolding backFrom
+    back-same zero u i = refl
+    back-same (suc f) zero i = refl
+    back-same (suc f) (suc u) i =
+        let s = step (suc u) (omega arith) i in
+        ap₂ _∷_ (s .0) (ap (backFrom f x p) (s .1) ∙ back-same f (q (suc u)) (s .2))
+
+    pub list-same : (u : ℕ) → In u → listBack x p u ≡ listBack y q u
+    unfolding listBack
+    list-same u i = back-same u u i
+
+-- ---- Children in arrays
+
+-- child u by its rest and its gain
+abbrev pub childIn : List ℕ → List ℕ → ℕ → Child
+childIn rests gains u = record { rest = getD rests u 0; gain = getD gains u 0 }
+
+-- the children up to u, the last first
+unfoldable pub frontOf : List ℕ → List ℕ → List ℕ → ℕ → List Child
+frontOf rests gains prevs u = listBack (childIn rests gains) (λ v. getD prevs v 0) u
+
+-- the sibling before a node comes before it
+abbrev pub Earlier : List ℕ → Type 0
+Earlier prevs = (u : ℕ) → 1 ≤ u → getD prevs u 0 < u
+
+-- each child weighs at most K, and gains no more than it weighs
+abbrev pub EachGood : ℕ → List ℕ → List ℕ → Type 0
+EachGood K rests gains = (u : ℕ) → GoodChild K (childIn rests gains u)
+
+module _ (rests gains prevs : List ℕ) (earlier : Earlier prevs) where
+  pub front-none : frontOf rests gains prevs 0 ≡ []
+  unfolding frontOf
+  front-none = list-none (childIn rests gains) (λ v. getD prevs v 0)
+
+  pub front-cons : (u : ℕ) → 1 ≤ u
+      → frontOf rests gains prevs u ≡ childIn rests gains u ∷ frontOf rests gains prevs (getD prevs u 0)
+  unfolding frontOf
+  front-cons = list-cons (childIn rests gains) (λ v. getD prevs v 0) earlier
+
+  pub front-length : (u : ℕ) → length (frontOf rests gains prevs u) ≤ u
+  unfolding frontOf
+  front-length = list-length (childIn rests gains) (λ v. getD prevs v 0) earlier
+
+front-good-from : (K : ℕ) (rests gains prevs : List ℕ) → EachGood K rests gains → (f u : ℕ) → Good K (backFrom f (childIn rests gains) (λ v. getD prevs v 0) u)
+unfolding backFrom Good
+front-good-from K rests gains prevs h zero u = tt
+front-good-from K rests gains prevs h (suc f) zero = tt
+front-good-from K rests gains prevs h (suc f) (suc u) = (h (suc u), front-good-from K rests gains prevs h f (getD prevs (suc u) 0))
+
+pub front-good : (K : ℕ) (rests gains prevs : List ℕ) → EachGood K rests gains → (u : ℕ) → Good K (frontOf rests gains prevs u)
+unfolding frontOf listBack
+front-good K rests gains prevs h u = front-good-from K rests gains prevs h u u
+
+-- ---- Cells in a block
+
+-- the cell at start s of the block that begins at `here`
+abbrev pub cellIn : List ℕ → ℕ → ℕ → ℕ → Cell
+cellIn xs K here s = record { word = getD xs (here + s) 0; run = getD xs (here + (K + 1) + s) 0 }
+
+-- the cells at the starts from `start` on are set to those of f, and nothing else is changed but in the block
+pub record Swept (K start here : ℕ) (f : ℕ → Cell) (xs ys : List ℕ) : Type 0 where
+  pub long : length ys ≡ length xs
+  pub cells : (s : ℕ) → start ≤ s → s ≤ K → cellIn ys K here s ≡ f s
+  pub below : (i : ℕ) → i < here → getD ys i 0 ≡ getD xs i 0
+  pub above : (i : ℕ) → here + 2 * (K + 1) ≤ i → getD ys i 0 ≡ getD xs i 0
+
+-- the same up to the start s
+pub record Sweeping (K start here s : ℕ) (f : ℕ → Cell) (xs ys : List ℕ) : Type 0 where
+  pub long : length ys ≡ length xs
+  pub swept : (u : ℕ) → start ≤ u → u < s → cellIn ys K here u ≡ f u
+  pub left : (u : ℕ) → s ≤ u → u ≤ K → cellIn ys K here u ≡ cellIn xs K here u
+  pub below : (i : ℕ) → i < here → getD ys i 0 ≡ getD xs i 0
+  pub above : (i : ℕ) → here + 2 * (K + 1) ≤ i → getD ys i 0 ≡ getD xs i 0
+
+pub sweep-none : (K start here : ℕ) (f : ℕ → Cell) (xs : List ℕ) → Sweeping K start here start f xs xs
+sweep-none K start here f xs =
+    record {
+      long = refl;
+      swept = λ u p q. absurd (omega arith);
+      left = λ u p q. refl;
+      below = λ i p. refl;
+      above = λ i p. refl;
+    }
+
+pub sweep-end : {K start here s : ℕ} {f : ℕ → Cell} {xs ys : List ℕ} → Sweeping K start here s f xs ys → K < s → Swept K start here f xs ys
+sweep-end w h =
+    record { long = w .long; cells = λ u p q. w .swept u p (omega arith); below = w .below; above = w .above }
+
+-- two stores, at other places
+store-two : (ys : List ℕ) (a b x y i : ℕ) → (i ≡ a → ⊥) → (i ≡ b → ⊥) → getD (set (set ys a x) b y) i 0 ≡ getD ys i 0
+store-two ys a b x y i p q = getD-set-other (set ys a x) b i y 0 q ∙ getD-set-other ys a i x 0 p
+
+module _ (K start here s : ℕ) (f : ℕ → Cell) (xs ys : List ℕ) (word run : ℕ) (w : Sweeping K start here s f xs ys) (high : s ≤ K)
+    (room : here + 2 * (K + 1) ≤ length xs)
+  where
+    after : List ℕ
+    after = set (set ys (here + s) word) (here + (K + 1) + s) run
+
+    other-cell : (u : ℕ) → u ≤ K → (u ≡ s → ⊥) → cellIn after K here u ≡ cellIn ys K here u
+    unfolding after
+    other-cell u l n =
+        ap₂ (λ a b. record { word = a; run = b })
+        (store-two ys (here + s) (here + (K + 1) + s) word run (here + u) (λ e. n (omega arith)) (λ e. omega arith))
+        (store-two ys (here + s) (here + (K + 1) + s) word run (here + (K + 1) + u) (λ e. omega arith) (λ e. n (omega arith)))
+
+    this-cell : cellIn after K here s ≡ record { word = word; run = run }
+    unfolding after
+    this-cell =
+        let d : here + s ≡ here + (K + 1) + s → ⊥ = λ e. omega arith in
+        let l : here + s < length ys = omega (arith, w .long) in
+        let m : here + (K + 1) + s < length (set ys (here + s) word) = simp length-set (omega (arith, w .long)) in
+        ap₂ (λ a b. record { word = a; run = b })
+        (getD-set-other (set ys (here + s) word) (here + (K + 1) + s) (here + s) run 0 d ∙ getD-set-same ys (here + s) word 0 l)
+        (getD-set-same (set ys (here + s) word) (here + (K + 1) + s) run 0 m)
+
+    pub sweep-turn : record { word = word; run = run } ≡ f s
+        → Sweeping K start here (s + 1) f xs (set (set ys (here + s) word) (here + (K + 1) + s) run)
+    unfolding after
+    sweep-turn e =
+        record {
+          long = simp length-set (w .long);
+          swept = λ u p q. go u p q (eqb u s) refl;
+          left = λ u p q. other-cell u q (λ n. omega arith) ∙ w .left u (omega arith) q;
+          below = λ i p. store-two ys (here + s) (here + (K + 1) + s) word run i (λ n. omega arith) (λ n. omega arith) ∙ w .below i p;
+          above = λ i p. store-two ys (here + s) (here + (K + 1) + s) word run i (λ n. omega arith) (λ n. omega arith) ∙ w .above i p;
+        }
+      where
+        go : (u : ℕ) → start ≤ u → u < s + 1 → (b : Bool) → eqb u s ≡ b → cellIn after K here u ≡ f u
+        go u p q true t = let same : u ≡ s = eqb-true u s t in rw same (this-cell ∙ e)
+        go u p q false t =
+            let n : u ≡ s → ⊥ = eqb-false u s t in
+            other-cell u (omega arith) n ∙ w .swept u p (omega arith)

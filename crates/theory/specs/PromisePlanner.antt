@@ -1,0 +1,149 @@
+-- What the planners' entries promise beside their equations, from the answer and what is left: each accepts, with a feasible plan (plan-promise,
+-- best-plan), and the best planner's plan is the lowest there is (best-promise).
+-- Proves lent-passes, passes-lent (right buffers are checks that pass), planned-done, planned-refused (what a planner leaves), plan-passes (a
+-- planner that answers 0 was lent an accepted tree and right buffers). Assumes nothing.
+use Prim.Native.Nat.{ℕ}
+use mathlib.Core.Path.{_≡_, sym, ap, _∙_}
+use mathlib.Core.Bool.{true, false, not}
+use mathlib.Core.List.{List, [], _∷_}
+use mathlib.Core.Logic.{_↔_, ⊎-elim}
+use native.Mathlib.Omega.{arith}
+use lib.ListN.{length, replicate}
+use lib.Dec.{eqb, ltb}
+use borrow.Author.Tests.{eqb-true, eq-eqb, ltb-false, le-ltb, not-false}
+use Rattle.model.specs.Table.{Chain, nodeCount, limitOf, treeOf}
+use Rattle.model.specs.Plan.{pageCount, pageWeight}
+use Rattle.model.specs.Runs.{runsOf}
+use Rattle.model.specs.Steps.{bestMarks}
+use Rattle.model.specs.Refusals.{badMarks, shortScratch, scratchWords, treeChecks, planChecks, passes, acceptedTree, answerOf, accepted, firstOf, readTree, judgePlan, Planned, planned, planBest}
+use Rattle.model.specs.Demand.{Lowest, PlanLent, PlanPromise, BestPromise}
+use Rattle.model.specs.declared.Answer.{Answer}
+use Rattle.model.specs.declared.Verdict.the-variants.{Feasible}
+use Rattle.theory.specs.Ranges.{bool-cases, pick-true, pick-false, when-false, when-nowhere}
+use Rattle.theory.specs.Checks.{lentChecks, firstOf-all, accepted-pass, plan-never, lent-never-seven}
+use Rattle.theory.specs.TableFacts.{AcceptedFacts, accepted-facts, passes-append, passes-cons, passes-first, passes-rest, both-true}
+use Rattle.theory.specs.SiblingsByParent.{and-true}
+use Rattle.theory.specs.PlanFeasible.{Judged, judged-answer, judged-feasible}
+use Rattle.theory.specs.PromiseWeight.{weight-promise, seven-tree}
+use Rattle.theory.specs.BestLowest.{best-judged, best-lowest}
+
+-- ---- What is lent
+
+module _ (t m s : List ℕ) where
+  -- the checks of the tree and of what is lent
+  plan-parts : passes (planChecks t m s) ≡ true → (passes (treeChecks t) ≡ true) × (passes (lentChecks t m s) ≡ true)
+  unfolding planChecks lentChecks
+  plan-parts e = both-true _ (passes (lentChecks t m s)) (sym (passes-append (treeChecks t) (lentChecks t m s)) ∙ e)
+
+  pub lent-passes : PlanLent t m s → passes (planChecks t m s) ≡ true
+  unfolding planChecks lentChecks badMarks shortScratch acceptedTree passes
+  lent-passes r =
+      passes-append (treeChecks t) (lentChecks t m s)
+      ∙ and-true (passes (treeChecks t)) (passes (lentChecks t m s)) (r .tree)
+      (passes-cons (badMarks (nodeCount t) m) (shortScratch t s ∷ [])
+      (when-false (not (eqb (length m) (nodeCount t))) (nodeCount t) (ap not (eq-eqb (length m) (nodeCount t) (r .marks))))
+      ∙ passes-cons (shortScratch t s) []
+      (when-false (ltb (length s) (scratchWords (nodeCount t) (limitOf t))) (scratchWords (nodeCount t) (limitOf t))
+      (le-ltb (length s) (scratchWords (nodeCount t) (limitOf t)) (r .scratch))))
+
+  pub passes-lent : passes (planChecks t m s) ≡ true → PlanLent t m s
+  unfolding lentChecks badMarks shortScratch acceptedTree
+  passes-lent e =
+      let both = plan-parts e in
+      let long = when-nowhere (not (eqb (length m) (nodeCount t))) (nodeCount t) (passes-first (badMarks (nodeCount t) m) (shortScratch t s ∷ []) (both .1)) in
+      let words =
+      when-nowhere (ltb (length s) (scratchWords (nodeCount t) (limitOf t))) (scratchWords (nodeCount t) (limitOf t))
+      (passes-first (shortScratch t s) [] (passes-rest (badMarks (nodeCount t) m) (shortScratch t s ∷ []) (both .1))) in
+      record {
+        tree = both .0;
+        marks = eqb-true (length m) (nodeCount t) (not-false (eqb (length m) (nodeCount t)) long);
+        scratch = ltb-false (length s) (scratchWords (nodeCount t) (limitOf t)) words;
+      }
+
+-- ---- What a planner leaves
+
+module _ (steps : ℕ → Chain → List ℕ) (t m s : List ℕ) where
+  abbrev made : List ℕ
+  made = steps (limitOf t) (treeOf t)
+
+  pub planned-done : passes (planChecks t m s) ≡ true
+      → planned steps t m s ≡ record { answer = judgePlan t made; marks = made; scratch = replicate (length s) 0 }
+  unfolding planned
+  planned-done e = pick-true (passes (planChecks t m s)) _ _ e
+
+  pub planned-refused : passes (planChecks t m s) ≡ false
+      → planned steps t m s ≡ record { answer = firstOf (planChecks t m s) accepted; marks = m; scratch = s }
+  unfolding planned
+  planned-refused e = pick-false (passes (planChecks t m s)) _ _ e
+
+  -- a planner that answers 0 was lent an accepted tree and right buffers
+  pub plan-passes : planned steps t m s .answer .number ≡ 0 → passes (planChecks t m s) ≡ true
+  plan-passes z = ⊎-elim (λ e. e) other (bool-cases (passes (planChecks t m s)))
+    where
+      other : passes (planChecks t m s) ≡ false → passes (planChecks t m s) ≡ true
+      other e =
+          accepted-pass (planChecks t m s) accepted (plan-never t m s)
+          (sym (ap (λ (p : Planned). p .answer .number) (planned-refused e)) ∙ z)
+
+  -- ---- Steps whose plan of an accepted tree is feasible
+
+  module _ (good : AcceptedFacts t → Judged t made) where
+    made-judged : passes (planChecks t m s) ≡ true → Judged t made
+    unfolding acceptedTree
+    made-judged e = good (accepted-facts t (plan-parts t m s e .0))
+
+    done-answer : passes (planChecks t m s) ≡ true
+        → planned steps t m s .answer ≡ answerOf (Feasible (pageCount t made) (pageWeight t made 1))
+    done-answer e = ap (λ (p : Planned). p .answer) (planned-done e) ∙ judged-answer (made-judged e)
+
+    -- 7 is the tree reader's
+    seven-same : (planned steps t m s .answer .number ≡ 7) ↔ (readTree t .number ≡ 7)
+    unfolding readTree planChecks lentChecks
+    seven-same = ⊎-elim accepts refuses (bool-cases (passes (planChecks t m s)))
+      where
+        accepts : passes (planChecks t m s) ≡ true → (planned steps t m s .answer .number ≡ 7) ↔ (readTree t .number ≡ 7)
+        accepts e = (
+          λ h. absurd (omega (arith, ap (λ (a : Answer). a .number) (done-answer e))),
+          λ h. absurd (omega (arith, ap (λ (a : Answer). a .number) (firstOf-all (treeChecks t) accepted (plan-parts t m s e .0)))),
+        )
+
+        refuses : passes (planChecks t m s) ≡ false → (planned steps t m s .answer .number ≡ 7) ↔ (readTree t .number ≡ 7)
+        refuses e =
+            let q = ap (λ (p : Planned). p .answer .number) (planned-refused e) in
+            let tree = seven-tree t (lentChecks t m s) accepted (lent-never-seven t m s) (λ h. omega arith) in
+            (λ h. tree .0 (sym q ∙ h), λ h. q ∙ tree .1 h)
+
+    pub plan-promise : PlanPromise t m s (planned steps t m s .answer) (planned steps t m s .marks) (planned steps t m s .scratch)
+    plan-promise =
+        record {
+          accepts =
+              λ r.
+              let e = lent-passes t m s r in
+              rw (planned-done e) (judged-answer (made-judged e), judged-feasible (made-judged e));
+          kept = λ h. ⊎-elim (λ e. absurd (h (ap (λ (a : Answer). a .number) (done-answer e)))) left (bool-cases (passes (planChecks t m s)));
+          weight = weight-promise t (planned steps t m s .answer) seven-same;
+        }
+      where
+        left : passes (planChecks t m s) ≡ false → (planned steps t m s .marks ≡ m) × (planned steps t m s .scratch ≡ s)
+        left e = (ap (λ (p : Planned). p .marks) (planned-refused e), ap (λ (p : Planned). p .scratch) (planned-refused e))
+
+-- ---- The best planner
+
+module _ (t m s : List ℕ) where
+  best-low : PlanLent t m s
+      → (P : ℕ) × (W : ℕ) × (planBest t m s .answer ≡ answerOf (Feasible P W)) × Lowest t P W (runsOf t (planBest t m s .marks))
+  unfolding acceptedTree
+  best-low r =
+      let a : AcceptedFacts t = accepted-facts t (r .tree) in
+      let done = planned-done bestMarks t m s (lent-passes t m s r) in
+      (_, _, ap (λ (p : Planned). p .answer) done ∙ judged-answer (best-judged a), rw (ap (λ (p : Planned). p .marks) done) (best-lowest a))
+
+  pub best-promise : BestPromise t m s (planBest t m s .answer) (planBest t m s .marks)
+  best-promise = record { lowest = best-low }
+
+  pub best-plan : PlanPromise t m s (planBest t m s .answer) (planBest t m s .marks) (planBest t m s .scratch)
+  best-plan = plan-promise bestMarks t m s best-judged
+
+  -- where it answers 0 it was lent what it is to be lent
+  pub best-lent : planBest t m s .answer .number ≡ 0 → PlanLent t m s
+  best-lent z = passes-lent t m s (plan-passes bestMarks t m s z)
