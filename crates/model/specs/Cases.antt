@@ -9,10 +9,10 @@ use lib.Dec.{eqb}
 use Rattle.model.specs.Basics.{pick, when, atPlace, sumTo, countTo, firstTo, lastTo, listTo, every, sameList}
 use Rattle.model.specs.Table.{wordAt, bytesOf, nodeCount, limitOf, fieldAt, walkFrom, walkPlace, chainFrom, treeOf}
 use Rattle.model.specs.Plan.{prevAt, ownerAt, parentFrom, parentAt, markAt, inRun, goodMark, pageFrom, pageOf, pageCount, pageWeight, badMark, heavyPage, verdictOf, runLastFrom, runLast}
-use Rattle.model.specs.Runs.{Run, comesFrom, comesAfter, isRun, isMember, countOf, holds, runWith, homeFrom, homeOf, runWeight, withinLimit, runsOf, runCount, rootWeight}
+use Rattle.model.specs.Runs.{Run, comesFrom, comesAfter, isRun, isMember, countOf, holds, runWith, homeFrom, homeOf, runWeight, withinLimit, runsOf, pageRun, runCount, rootWeight}
 use Rattle.model.specs.Steps.{restSum, gainSum, takenCount, largestGain, takeEarliest, reduceFrom, reduce, better, leastOf, winner, staying, asMember, runChoices, running, runOf, lightest, stopsAt, secondStart, gainOf, childOf, childrenFrom, childrenOf, choicesOf, layMarks, bestMarks, levelMarks, whole, cutDown, remainders, laySingle, singleMarks, sides, remainder, takenAt, layPair, pairMarks, entryAt, stretched}
-use Rattle.model.specs.Archive.{nextPage, pageRecords, nextOnPage, nodeRecord, archiveOf, pagesIn, pageFieldIn, nodeFieldIn, parentIn, firstIn, nextIn, tableIn, beginsIn, continuesIn, markIn, marksIn}
-use Rattle.model.specs.Refusals.{shortTable, badCount, badLimit, badLength, noWeight, badWalk, heavyNode, badMarks, shortScratch, markRefused, pageRefused, badOutput, noArchive, formChecks, treeChecks, planChecks, judgeChecks, writeChecks, passes, soundForm, acceptedTree, refusedForWeight, feasiblePlan, firstOf, readTree, judgePlan, planned, planBest, planLevel, planSingle, planPair, writeArchive, isArchive, readChecks, readArchive, scratchWords, Planned}
+use Rattle.model.specs.Archive.{firstEdition, headWords, nextPage, pageRecord, nextOnPage, nodeRecord, archiveOf, nodesIn, limitIn, pagesIn, pageFieldIn, nodeFieldIn, parentIn, firstIn, nextIn, tableIn, beginsIn, continuesIn, markIn, marksIn}
+use Rattle.model.specs.Refusals.{shortTable, badCount, badLimit, badLength, noWeight, badWalk, heavyNode, badMarks, shortScratch, markRefused, pageRefused, badOutput, noArchive, headChecks, nodeChecks, weightChecks, lentChecks, markChecks, filmChecks, backChecks, formChecks, treeChecks, planChecks, judgeChecks, writeChecks, passes, soundForm, acceptedTree, refusedForWeight, feasiblePlan, firstOf, readTree, judgePlan, planned, planBest, planLevel, planSingle, planPair, writeArchive, isArchive, readChecks, readArchive, scratchWords, Planned}
 use Rattle.model.specs.declared.Beside.{Beside}
 use Rattle.model.specs.declared.Beside.the-variants.{Given, Nothing}
 use Rattle.model.specs.declared.Verdict.the-variants.{Feasible, Failed}
@@ -47,7 +47,7 @@ treeG = bytesOf (5 ∷ 5 ∷ 1 ∷ 1 ∷ 2 ∷ 0 ∷ 2 ∷ 2 ∷ 3 ∷ 4 ∷ 3 �
 
 -- a test, with every definition open, so that it computes
 pub computed : Bool → Bool
-unfolding pick when atPlace sumTo countTo firstTo lastTo listTo every sameList wordAt bytesOf fieldAt walkFrom walkPlace chainFrom treeOf prevAt ownerAt parentFrom parentAt markAt inRun goodMark pageFrom pageOf pageCount pageWeight badMark heavyPage verdictOf runLastFrom runLast comesFrom comesAfter isRun isMember countOf holds runWith homeFrom homeOf runWeight withinLimit runsOf restSum gainSum takenCount largestGain takeEarliest reduceFrom reduce better leastOf winner staying asMember runChoices running runOf lightest stopsAt secondStart gainOf childOf childrenFrom childrenOf choicesOf layMarks bestMarks levelMarks whole cutDown remainders laySingle singleMarks sides remainder takenAt layPair pairMarks entryAt stretched nextPage pageRecords nextOnPage nodeRecord archiveOf pagesIn pageFieldIn nodeFieldIn parentIn firstIn nextIn tableIn beginsIn continuesIn markIn marksIn shortTable badCount badLimit badLength noWeight badWalk heavyNode badMarks shortScratch markRefused pageRefused badOutput noArchive formChecks treeChecks planChecks judgeChecks writeChecks passes soundForm acceptedTree refusedForWeight feasiblePlan firstOf readTree judgePlan planned writeArchive isArchive readChecks readArchive
+unfolding pick when atPlace sumTo countTo firstTo lastTo listTo every sameList wordAt bytesOf fieldAt walkFrom walkPlace chainFrom treeOf prevAt ownerAt parentFrom parentAt markAt inRun goodMark pageFrom pageOf pageCount pageWeight badMark heavyPage verdictOf runLastFrom runLast comesFrom comesAfter isRun isMember countOf holds runWith homeFrom homeOf runWeight withinLimit runsOf pageRun restSum gainSum takenCount largestGain takeEarliest reduceFrom reduce better leastOf winner staying asMember runChoices running runOf lightest stopsAt secondStart gainOf childOf childrenFrom childrenOf choicesOf layMarks bestMarks levelMarks whole cutDown remainders laySingle singleMarks sides remainder takenAt layPair pairMarks entryAt stretched headWords nextPage pageRecord nextOnPage nodeRecord archiveOf nodesIn limitIn pagesIn pageFieldIn nodeFieldIn parentIn firstIn nextIn tableIn beginsIn continuesIn markIn marksIn shortTable badCount badLimit badLength noWeight badWalk heavyNode badMarks shortScratch markRefused pageRefused badOutput noArchive headChecks nodeChecks weightChecks lentChecks markChecks filmChecks backChecks formChecks treeChecks planChecks judgeChecks writeChecks passes soundForm acceptedTree refusedForWeight feasiblePlan firstOf readTree judgePlan planned writeArchive isArchive readChecks readArchive
 computed b = b
 
 abbrev saysFeasible : Beside → ℕ → ℕ → Bool
@@ -112,9 +112,9 @@ refusals =
     ∷ answers (planBest (treeE 5 1) bestE (replicate 192 7) .answer) 0 0
     ∷ answers (judgePlan (treeE 5 1) (1 ∷ 2 ∷ 0 ∷ 0 ∷ 0 ∷ 0 ∷ [])) 10 2
     ∷ answers (judgePlan (treeE 5 1) (1 ∷ 0 ∷ 0 ∷ 0 ∷ 0 ∷ 0 ∷ [])) 11 1
-    ∷ answers (writeArchive (treeE 5 1) bestE (replicate 77 7) .answer) 12 78
-    ∷ keeps (writeArchive (treeE 5 1) bestE (replicate 78 7) .answer) (writeArchive (treeE 5 1) bestE (replicate 78 7) .archive) (archiveOf (treeE 5 1) bestE) 0 0
-    ∷ answers (readArchive [] [] [] .answer) 13 0
+    ∷ answers (writeArchive firstEdition (treeE 5 1) bestE (replicate 77 7) .answer) 12 78
+    ∷ keeps (writeArchive firstEdition (treeE 5 1) bestE (replicate 78 7) .answer) (writeArchive firstEdition (treeE 5 1) bestE (replicate 78 7) .archive) (archiveOf firstEdition (treeE 5 1) bestE) 0 0
+    ∷ answers (readArchive firstEdition [] [] [] .answer) 13 0
     ∷ []
 
 pub refusals-hold : every computed refusals ≡ true
@@ -124,7 +124,7 @@ refusals-hold = refl
 -- E's best plan, written and read back into buffers of the right lengths, with the tree and the plan it was written from
 pub back : List Bool
 back =
-    let r = readArchive (archiveOf (treeE 5 1) bestE) (replicate 52 7) (replicate 6 7) in
+    let r = readArchive firstEdition (archiveOf firstEdition (treeE 5 1) bestE) (replicate 52 7) (replicate 6 7) in
     keeps (r .answer) (r .table) (treeE 5 1) 0 0 ∷ keeps (r .answer) (r .marks) bestE 0 0 ∷ []
 
 pub back-hold : every computed back ≡ true

@@ -14,6 +14,7 @@ use Rattle.model.specs.Runs.{Run, holds, withinLimit, runCount, rootWeig
 use Rattle.model.specs.Archive.{pagesIn, pageFieldIn, archiveBytes}
 use Rattle.model.specs.Refusals.{scratchWords, acceptedTree, feasiblePlan, soundForm, answerOf, planBest, writeArchive}
 use Rattle.model.specs.declared.Answer.{Answer}
+use Rattle.model.specs.declared.Edition.{Edition}
 use Rattle.model.specs.declared.Verdict.the-variants.{Feasible}
 
 -- ---- The lowest there is
@@ -62,60 +63,60 @@ pub record PlanPromise (t m s : List ℕ) (r : Answer) (marks scratch : List ℕ
 pub record BestPromise (t m s : List ℕ) (r : Answer) (marks : List ℕ) : Type 0 where
   pub lowest : PlanLent t m s → (P : ℕ) × (W : ℕ) × (r ≡ answerOf (Feasible P W)) × Lowest t P W (runsOf t marks)
 
--- ---- The archive
+-- ---- The archive, of an edition e
 
 -- the run in page q's record
-abbrev pub runIn : List ℕ → ℕ → Run
-runIn a q = record { first = pageFieldIn a q 0; last = pageFieldIn a q 1 }
+abbrev pub runIn : Edition → List ℕ → ℕ → Run
+runIn e a q = record { first = pageFieldIn e a q 0; last = pageFieldIn e a q 1 }
 
 -- the runs in the page records, page 1 first
-unfoldable pub runsIn : List ℕ → List Run
-runsIn a = listTo (pagesIn a) (λ q. runIn a q ∷ [])
+unfoldable pub runsIn : Edition → List ℕ → List Run
+runsIn e a = listTo (pagesIn e a) (λ q. runIn e a q ∷ [])
 
 -- the weight in page record 1
-unfoldable pub rootIn : List ℕ → ℕ
-rootIn a = pageFieldIn a 1 2
+unfoldable pub rootIn : Edition → List ℕ → ℕ
+rootIn e a = pageFieldIn e a 1 2
 
 -- The planner's answer p and the writer's answer r both carry the archive's page count P and the weight W in page
 -- record 1. Every sequence of sibling runs that holds the table's tree within the page limit has at least P runs
 -- and, where it has exactly P, a root page of at least W. The archive's own runs are such a sequence, with exactly P
 -- runs and root page W.
-pub record LowestOnFilm (t a : List ℕ) (p r : Answer) : Type 0 where
-  pub planner : p ≡ answerOf (Feasible (pagesIn a) (rootIn a))
-  pub writer : r ≡ answerOf (Feasible (pagesIn a) (rootIn a))
-  pub lowest : Lowest t (pagesIn a) (rootIn a) (runsIn a)
+pub record LowestOnFilm (e : Edition) (t a : List ℕ) (p r : Answer) : Type 0 where
+  pub planner : p ≡ answerOf (Feasible (pagesIn e a) (rootIn e a))
+  pub writer : r ≡ answerOf (Feasible (pagesIn e a) (rootIn e a))
+  pub lowest : Lowest t (pagesIn e a) (rootIn e a) (runsIn e a)
 
 -- What the writer says with its answer r and the archive a that it leaves, where it was lent the table t, the marks
 -- m and the output out. Marks that the best planner left for this table, whatever else it was lent, it accepts where
 -- the output is as long as the planner's page count asks, and the archive of them is the lowest. On refusal the
 -- output is as lent, and 7 is exact.
-pub record WritePromise (t m out : List ℕ) (r : Answer) (a : List ℕ) : Type 0 where
+pub record WritePromise (e : Edition) (t m out : List ℕ) (r : Answer) (a : List ℕ) : Type 0 where
   pub accepts : (lent scratch : List ℕ) (P W : ℕ)
       → planBest t lent scratch .answer ≡ answerOf (Feasible P W) → planBest t lent scratch .marks ≡ m
-      → length out ≡ archiveBytes P (nodeCount t) → r .number ≡ 0
+      → length out ≡ archiveBytes e P (nodeCount t) → r .number ≡ 0
   pub lowest : (lent scratch : List ℕ)
       → planBest t lent scratch .answer .number ≡ 0 → planBest t lent scratch .marks ≡ m
-      → r .number ≡ 0 → LowestOnFilm t a (planBest t lent scratch .answer) r
+      → r .number ≡ 0 → LowestOnFilm e t a (planBest t lent scratch .answer) r
   pub kept : (r .number ≡ 0 → ⊥) → a ≡ out
   pub weight : WeightPromise t r
 
 -- the writer, lent the table t, the marks m and some output, accepts and leaves the archive a
-pub record WrittenFrom (t m a : List ℕ) : Type 0 where
+pub record WrittenFrom (e : Edition) (t m a : List ℕ) : Type 0 where
   pub bytes : Bytes t
   pub out : List ℕ
-  pub accepts : writeArchive t m out .answer .number ≡ 0
-  pub leaves : writeArchive t m out .archive ≡ a
+  pub accepts : writeArchive e t m out .answer .number ≡ 0
+  pub leaves : writeArchive e t m out .archive ≡ a
 
 -- What the reader says with its answer r, and the table t and the marks m that it leaves, where it was lent the
 -- archive a and the buffers table and marks. An archive that was written reads back as the very table and marks it
 -- was written from, where the buffers are as long as these. What is read is an accepted tree and a feasible plan,
 -- and the writer gives this very archive for them, with this answer. 13 means that no table and marks write the
 -- archive. On refusal both buffers are as lent.
-pub record ReadPromise (a table marks : List ℕ) (r : Answer) (t m : List ℕ) : Type 0 where
-  pub back : (u n : List ℕ) → WrittenFrom u n a → length table ≡ length u → length marks ≡ length n
+pub record ReadPromise (e : Edition) (a table marks : List ℕ) (r : Answer) (t m : List ℕ) : Type 0 where
+  pub back : (u n : List ℕ) → WrittenFrom e u n a → length table ≡ length u → length marks ≡ length n
       → (r .number ≡ 0) × (t ≡ u) × (m ≡ n)
   pub sound : r .number ≡ 0 → (acceptedTree t ≡ true) × (feasiblePlan t m ≡ true)
   pub again : r .number ≡ 0 → (out : List ℕ) → length out ≡ length a
-      → writeArchive t m out ≡ record { answer = r; archive = a }
-  pub none : (r .number ≡ 13) ↔ ((u n : List ℕ) → WrittenFrom u n a → ⊥)
+      → writeArchive e t m out ≡ record { answer = r; archive = a }
+  pub none : (r .number ≡ 13) ↔ ((u n : List ℕ) → WrittenFrom e u n a → ⊥)
   pub kept : (r .number ≡ 0 → ⊥) → (t ≡ table) × (m ≡ marks)

@@ -4,18 +4,19 @@ use Prim.Native.Nat.{ℕ, _+_, _*_}
 use mathlib.Core.Bool.{Bool, true, false, not, _&&_, _||_}
 use mathlib.Core.List.{List, [], _∷_, _++_}
 use lib.ListN.{length, replicate}
-use lib.Dec.{eqb, ltb}
+use lib.Dec.{eqb, ltb, leb}
 use Rattle.model.specs.Basics.{pick, when, atPlace, firstTo, sameList}
 use Rattle.model.specs.Table.{maxNodes, maxLimit, nodeCount, limitOf, weightAt, tableBytes, walkPlace, Chain, treeOf}
 use Rattle.model.specs.Plan.{badMark, heavyPage, pageCount, verdictOf}
 use Rattle.model.specs.Steps.{bestMarks, levelMarks, singleMarks, pairMarks}
-use Rattle.model.specs.Archive.{archiveOf, archiveBytes, tableIn, marksIn}
+use Rattle.model.specs.Archive.{archiveOf, archiveBytes, nodesIn, tableIn, marksIn}
 use Rattle.model.specs.declared.Place.{Place}
 use Rattle.model.specs.declared.Cause.the-variants.{BadMark, HeavyPage}
 use Rattle.model.specs.declared.Verdict.{Verdict}
 use Rattle.model.specs.declared.Verdict.the-variants.{Feasible, Failed}
 use Rattle.model.specs.declared.Beside.the-variants.{Given, Nothing}
 use Rattle.model.specs.declared.Answer.{Answer}
+use Rattle.model.specs.declared.Edition.{Edition}
 
 -- ---- Answers
 
@@ -87,7 +88,8 @@ scratchWords n k = 4 * n * (k + 3)
 
 unfoldable pub shortScratch : List ℕ → List ℕ → Check
 shortScratch t s =
-    record { answer = refused 9; place = when (ltb (length s) (scratchWords (nodeCount t) (limitOf t))) (scratchWords (nodeCount t) (limitOf t)) }
+    let words : ℕ = scratchWords (nodeCount t) (limitOf t) in
+    record { answer = refused 9; place = when (ltb (length s) words) words }
 
 -- 10: a mark is not allowed; place the first such node
 unfoldable pub markRefused : List ℕ → List ℕ → Check
@@ -105,22 +107,50 @@ badOutput size out = record { answer = refused 12; place = when (not (eqb (lengt
 unfoldable pub noArchive : Bool → Check
 noArchive written = record { answer = refused 13; place = when (not written) 0 }
 
--- ---- The order, for each entry
+-- ---- The order: its parts, and for each entry those that it checks
+
+-- the head and the length
+unfoldable pub headChecks : List ℕ → List Check
+headChecks t = shortTable t ∷ badCount t ∷ badLimit t ∷ badLength t ∷ []
+
+-- the nodes and their links
+unfoldable pub nodeChecks : List ℕ → List Check
+nodeChecks t = noWeight t ∷ badWalk t ∷ []
+
+-- the nodes' weights against the limit
+unfoldable pub weightChecks : List ℕ → List Check
+weightChecks t = heavyNode t ∷ []
+
+-- the buffers that a planner is lent
+unfoldable pub lentChecks : List ℕ → List ℕ → List ℕ → List Check
+lentChecks t m s = badMarks (nodeCount t) m ∷ shortScratch t s ∷ []
+
+-- a plan that is given
+unfoldable pub markChecks : List ℕ → List ℕ → List Check
+markChecks t m = badMarks (nodeCount t) m ∷ markRefused t m ∷ pageRefused t m ∷ []
+
+-- the film that is to be written
+unfoldable pub filmChecks : Edition → List ℕ → List ℕ → List ℕ → List Check
+filmChecks e t m out = badOutput (archiveBytes e (pageCount t m) (nodeCount t)) out ∷ []
+
+-- the buffers that an archive is read into
+unfoldable pub backChecks : ℕ → List ℕ → List ℕ → List Check
+backChecks n t m = badOutput (tableBytes n) t ∷ badMarks n m ∷ []
 
 unfoldable pub formChecks : List ℕ → List Check
-formChecks t = shortTable t ∷ badCount t ∷ badLimit t ∷ badLength t ∷ noWeight t ∷ badWalk t ∷ []
+formChecks t = headChecks t ++ nodeChecks t
 
 unfoldable pub treeChecks : List ℕ → List Check
-treeChecks t = formChecks t ++ (heavyNode t ∷ [])
+treeChecks t = formChecks t ++ weightChecks t
 
 unfoldable pub planChecks : List ℕ → List ℕ → List ℕ → List Check
-planChecks t m s = treeChecks t ++ (badMarks (nodeCount t) m ∷ shortScratch t s ∷ [])
+planChecks t m s = treeChecks t ++ lentChecks t m s
 
 unfoldable pub judgeChecks : List ℕ → List ℕ → List Check
-judgeChecks t m = treeChecks t ++ (badMarks (nodeCount t) m ∷ markRefused t m ∷ pageRefused t m ∷ [])
+judgeChecks t m = treeChecks t ++ markChecks t m
 
-unfoldable pub writeChecks : List ℕ → List ℕ → List ℕ → List Check
-writeChecks t m out = judgeChecks t m ++ (badOutput (archiveBytes (pageCount t m) (nodeCount t)) out ∷ [])
+unfoldable pub writeChecks : Edition → List ℕ → List ℕ → List ℕ → List Check
+writeChecks e t m out = judgeChecks t m ++ filmChecks e t m out
 
 -- no check of the list applies
 unfoldable pub passes : List Check → Bool
@@ -187,16 +217,18 @@ pub record Written : Type 0 where
   pub answer : Answer
   pub archive : List ℕ
 
-unfoldable pub writeArchive : List ℕ → List ℕ → List ℕ → Written
-writeArchive t m out =
+unfoldable pub writeArchive : Edition → List ℕ → List ℕ → List ℕ → Written
+writeArchive e t m out =
     record {
-      answer = firstOf (writeChecks t m out) (answerOf (verdictOf t m));
-      archive = pick (passes (writeChecks t m out)) (archiveOf t m) out;
+      answer = firstOf (writeChecks e t m out) (answerOf (verdictOf t m));
+      archive = pick (passes (writeChecks e t m out)) (archiveOf e t m) out;
     }
 
--- an accepted tree and a feasible plan write this archive: those that it tells
-unfoldable pub isArchive : List ℕ → Bool
-isArchive a = feasiblePlan (tableIn a) (marksIn a) && sameList (archiveOf (tableIn a) (marksIn a)) a
+-- an accepted tree and a feasible plan write this archive: those that it tells, with no more nodes than the edition takes
+unfoldable pub isArchive : Edition → List ℕ → Bool
+isArchive e a =
+    leb (nodesIn e a) (e .most)
+    && (feasiblePlan (tableIn e a) (marksIn e a) && sameList (archiveOf e (tableIn e a) (marksIn e a)) a)
 
 -- the archive reader checks 13, then 12, then 8: its answer, and the table and the marks that it leaves
 pub record Restored : Type 0 where
@@ -204,13 +236,13 @@ pub record Restored : Type 0 where
   pub table : List ℕ
   pub marks : List ℕ
 
-unfoldable pub readChecks : List ℕ → List ℕ → List ℕ → List Check
-readChecks a t m = noArchive (isArchive a) ∷ badOutput (tableBytes (nodeCount a)) t ∷ badMarks (nodeCount a) m ∷ []
+unfoldable pub readChecks : Edition → List ℕ → List ℕ → List ℕ → List Check
+readChecks e a t m = noArchive (isArchive e a) ∷ backChecks (nodesIn e a) t m
 
-unfoldable pub readArchive : List ℕ → List ℕ → List ℕ → Restored
-readArchive a t m =
+unfoldable pub readArchive : Edition → List ℕ → List ℕ → List ℕ → Restored
+readArchive e a t m =
     record {
-      answer = firstOf (readChecks a t m) (answerOf (verdictOf (tableIn a) (marksIn a)));
-      table = pick (passes (readChecks a t m)) (tableIn a) t;
-      marks = pick (passes (readChecks a t m)) (marksIn a) m;
+      answer = firstOf (readChecks e a t m) (answerOf (verdictOf (tableIn e a) (marksIn e a)));
+      table = pick (passes (readChecks e a t m)) (tableIn e a) t;
+      marks = pick (passes (readChecks e a t m)) (marksIn e a) m;
     }

@@ -1,8 +1,8 @@
 -- Document 01, 'Plans and pages': the sequences of sibling runs of demand 3, told from the tree alone.
-use Prim.Native.Nat.{ℕ, zero, suc}
+use Prim.Native.Nat.{ℕ, zero, suc, _-_}
 use mathlib.Core.Bool.{Bool, not, _&&_, _||_}
 use mathlib.Core.List.{List, [], _∷_}
-use lib.ListN.{length}
+use lib.ListN.{length, getD}
 use lib.Dec.{eqb, leb}
 use Rattle.model.specs.Basics.{pick, atPlace, sumTo, countTo, listTo, every}
 use Rattle.model.specs.Table.{nodeCount, limitOf, weightAt, nextAt}
@@ -27,7 +27,7 @@ comesAfter t u v = comesFrom (nodeCount t) t u v
 unfoldable pub isRun : List ℕ → Run → Bool
 isRun t r = leb 1 (r .first) && leb (r .first) (nodeCount t) && comesAfter t (r .first) (r .last)
 
--- the first, the last, and all brothers between
+-- the first, the last, and all siblings between
 unfoldable pub isMember : List ℕ → ℕ → Run → Bool
 isMember t v r = comesAfter t (r .first) v && comesAfter t v (r .last)
 
@@ -84,3 +84,7 @@ rootWeight t rs = runWeight t rs rootRun
 -- the runs of a plan, by their first nodes
 unfoldable pub runsOf : List ℕ → List ℕ → List Run
 runsOf t m = listTo (nodeCount t) (λ v. pick (hasMark m begins v) (record { first = v; last = runLast t m v } ∷ []) [])
+
+-- the run of page p: pages and runs have one order, that of their first nodes
+unfoldable pub pageRun : List ℕ → List ℕ → ℕ → Run
+pageRun t m p = getD (runsOf t m) (p - 1) rootRun

@@ -31,3 +31,10 @@ pub struct Answer {
     pub place: u32,
     pub beside: Beside,
 }
+
+// How an edition of the archive is laid out: how many words its head and each page record have, and how many nodes it takes at most.
+pub struct Edition {
+    pub head: u16,
+    pub page: u16,
+    pub most: u16,
+}

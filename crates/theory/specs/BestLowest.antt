@@ -19,7 +19,7 @@ use Rattle.theory.specs.TableFacts.{AcceptedFacts}
 use Rattle.theory.specs.TableNumbered.{Rooted, sound-root, tree-within, tree-positive}
 use Rattle.theory.specs.PlanShape.{allowed, weighed, AllWithin, EachWithin, Positive}
 use Rattle.theory.specs.PlanLaid.{FeasibleShape}
-use Rattle.theory.specs.PlanFeasible.{Judged, ShapePlan, judged-answer, judged-bridge, shape-feasible, feasible-judged}
+use Rattle.theory.specs.PlanFeasible.{Judged, ShapePlan, judged-verdict, judged-bridge, shape-judged}
 use Rattle.theory.specs.PlanBridge.{count-bridge, weight-bridge}
 use Rattle.theory.specs.SingleShape.{single-feasible}
 use Rattle.theory.specs.PairShape.{pair-feasible}
@@ -47,7 +47,7 @@ module _ {t : List ℕ} (a : AcceptedFacts t) where
   Plans steps c = (root : ℕ) × FeasibleShape (limitOf t) c (steps (limitOf t) c) root
 
   judged : (steps : ℕ → Chain → List ℕ) → Plans steps (treeOf t) → Judged t (steps (limitOf t) (treeOf t))
-  judged steps p = feasible-judged t _ (shape-feasible a _ (p .0) (p .1) .0)
+  judged steps p = shape-judged a _ (p .0) (p .1)
 
   pub best-judged : Judged t (bestMarks (limitOf t) (treeOf t))
   best-judged = judged bestMarks (by-shape (Plans bestMarks) (λ w l kids e p. (_, best-feasible (limitOf t) w l kids e .feasible)))
@@ -71,14 +71,14 @@ module _ {t : List ℕ} (a : AcceptedFacts t) where
   -- the verdict's figures are those of the entries: the sum of the counts and a page for the root, and the rest of the root's entry
   abbrev ByEntries : Bool → List ℕ → Type 0
   ByEntries gains m =
-      judgePlan t m ≡ answerOf (Feasible (pagesOf gains (limitOf t) (treeOf t)) (rootEntry gains (limitOf t) (treeOf t) .rest))
+      verdictOf t m ≡ Feasible (pagesOf gains (limitOf t) (treeOf t)) (rootEntry gains (limitOf t) (treeOf t) .rest)
 
   by-entries : (gains : Bool) (m : List ℕ) → Judged t m
       → Figured (limitOf t) (treeOf t) m (pagesOf gains (limitOf t) (treeOf t)) (rootEntry gains (limitOf t) (treeOf t) .rest)
       → ByEntries gains m
   by-entries gains m j f =
-      judged-answer j
-      ∙ ap₂ (λ (p w : ℕ). answerOf (Feasible p w)) (count-is m j ∙ f .count) (root-is m j ∙ f .feasible .root-page)
+      judged-verdict j
+      ∙ ap₂ (λ (p w : ℕ). Feasible p w) (count-is m j ∙ f .count) (root-is m j ∙ f .feasible .root-page)
 
   pub best-figures : ByEntries true (bestMarks (limitOf t) (treeOf t))
   unfolding rootEntry

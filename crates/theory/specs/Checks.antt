@@ -1,28 +1,61 @@
--- Lists of checks, one after the other: what an answer tells of the checks before it, and which numbers no check of an entry gives.
--- Defines headChecks, lentChecks, Never, nodeChecks, headAnswer. Proves firstOf-pass, firstOf-stop, firstOf-all, never-first, accepted-pass,
--- refused-fails; that no check of an entry gives 0 (tree-never to read-never); head-refuses, head-goes-on, head-count. Assumes nothing.
+-- Lists of checks, one after the other: where all pass, which of them answers, and which numbers they never give. A list is told by its
+-- parts, so that a check put into one of them is met here and in the facts that the part stands for, and nowhere else.
+-- Defines Pass, Never, andThen. Proves passes-append, pass-all; firstOf-pass, firstOf-stop, firstOf-all, firstOf-cons; never-append, never-first,
+-- accepted-pass, refused-fails; that no check gives 0, and that of the weights alone 7 (head-never to read-never); firstOf-then. Assumes nothing.
+use Prim.Native.Nat.{ℕ}
 use mathlib.Core.Path.{_≡_, refl, sym, ap, ap₂, _∙_}
-use mathlib.Core.Bool.{Bool, true, false, not, false≢true, true≢false}
+use mathlib.Core.Bool.{Bool, true, false, not, _&&_, false≢true, true≢false}
+use mathlib.Core.Logic.{_↔_}
 use mathlib.Core.List.{List, [], _∷_, _++_}
-use Prim.Native.Nat.{ℕ, _≤_}
-use Rattle.model.specs.Basics.{atPlace, every}
-use Rattle.model.specs.Table.{maxNodes, nodeCount}
-use borrow.Author.Tests.{ltb-false, eq-eqb}
-use Rattle.theory.specs.Ranges.{when-nowhere, append-nil}
-use Rattle.theory.specs.TableFacts.{passes-first, passes-rest, both-true, both-false}
-use lib.Dec.{eqb, ltb}
-use Rattle.model.specs.Refusals.{Check, shortTable, badCount, badLimit, badLength, noWeight, badWalk, heavyNode, badMarks, shortScratch, markRefused, pageRefused, badOutput, noArchive, formChecks, treeChecks, planChecks, judgeChecks, writeChecks, readChecks, readTree, passes, accepted, firstOf}
+use lib.Dec.{eqb}
+use borrow.Author.Tests.{eq-eqb, ne-eqb}
+use Rattle.model.specs.Basics.{pick, atPlace, every}
+use Rattle.model.specs.Refusals.{Check, accepted, firstOf, passes}
+use Rattle.model.specs.Refusals.{shortTable, badCount, badLimit, badLength, noWeight, badWalk, heavyNode, badMarks}
+use Rattle.model.specs.Refusals.{shortScratch, markRefused, pageRefused, badOutput, noArchive}
+use Rattle.model.specs.Refusals.{headChecks, nodeChecks, weightChecks, lentChecks, markChecks, filmChecks, backChecks}
+use Rattle.model.specs.Refusals.{formChecks, treeChecks, planChecks, judgeChecks, writeChecks, readChecks}
 use Rattle.model.specs.declared.Place.{Place}
 use Rattle.model.specs.declared.Place.the-variants.{At, Nowhere}
 use Rattle.model.specs.declared.Answer.{Answer}
+use Rattle.model.specs.declared.Edition.{Edition}
+use Rattle.theory.specs.Ranges.{at-nowhere, pick-true, pick-false, append-nil}
+use Rattle.theory.specs.Bools.{both-true, and-true}
 
--- the checks of the head and the length, before any node is looked at
-unfoldable pub headChecks : List ℕ → List Check
-headChecks t = shortTable t ∷ badCount t ∷ badLimit t ∷ badLength t ∷ []
+-- ---- Checks that pass
 
--- the checks of a planner after the tree's: of what is lent
-unfoldable pub lentChecks : List ℕ → List ℕ → List ℕ → List Check
-lentChecks t m s = badMarks (nodeCount t) m ∷ shortScratch t s ∷ []
+-- no check's condition holds
+unfoldable pub Pass : List Check → Type 0
+Pass [] = ⊤
+Pass (c ∷ cs) = (c .place ≡ Nowhere) × Pass cs
+
+pub pass-all : (cs : List Check) → (passes cs ≡ true) ↔ Pass cs
+unfolding passes atPlace Pass
+pass-all [] = (λ e. tt, λ p. refl)
+pass-all (c ∷ cs) = go (c .place) refl (pass-all cs)
+  where
+    go : (o : Place) → c .place ≡ o → (passes cs ≡ true) ↔ Pass cs
+        → (atPlace o (λ p. false) (passes cs) ≡ true) ↔ ((c .place ≡ Nowhere) × Pass cs)
+    go (At p) q ih = (λ h. absurd (false≢true h), λ h. absurd (at-nowhere p (sym q ∙ h .0)))
+    go Nowhere q ih = (λ h. (q, ih .0 h), λ h. ih .1 (h .1))
+
+pub passes-append : (cs ds : List Check) → passes (cs ++ ds) ≡ (passes cs && passes ds)
+unfolding passes atPlace
+passes-append [] ds = refl
+passes-append (c ∷ cs) ds = go (c .place) (passes-append cs ds)
+  where
+    go : (o : Place) → passes (cs ++ ds) ≡ (passes cs && passes ds)
+        → atPlace o (λ p. false) (passes (cs ++ ds)) ≡ (atPlace o (λ p. false) (passes cs) && passes ds)
+    go (At p) ih = refl
+    go Nowhere ih = ih
+
+pub passes-both : (cs ds : List Check) → passes (cs ++ ds) ≡ true → (passes cs ≡ true) × (passes ds ≡ true)
+passes-both cs ds e = both-true (passes cs) (passes ds) (sym (passes-append cs ds) ∙ e)
+
+pub both-pass : (cs ds : List Check) → passes cs ≡ true → passes ds ≡ true → passes (cs ++ ds) ≡ true
+both-pass cs ds e f = passes-append cs ds ∙ and-true (passes cs) (passes ds) e f
+
+-- ---- The check that answers
 
 -- checks that pass leave the answer to those after them
 pub firstOf-pass : (cs ds : List Check) (a : Answer) → passes cs ≡ true → firstOf (cs ++ ds) a ≡ firstOf ds a
@@ -42,7 +75,8 @@ firstOf-stop [] ds a b e = absurd (true≢false e)
 firstOf-stop (c ∷ cs) ds a b e = go (c .place) (firstOf-stop cs ds a b) e
   where
     go : (o : Place) → (passes cs ≡ false → firstOf (cs ++ ds) a ≡ firstOf cs b)
-        → atPlace o (λ p. false) (passes cs) ≡ false → atPlace o (c .answer) (firstOf (cs ++ ds) a) ≡ atPlace o (c .answer) (firstOf cs b)
+        → atPlace o (λ p. false) (passes cs) ≡ false
+        → atPlace o (c .answer) (firstOf (cs ++ ds) a) ≡ atPlace o (c .answer) (firstOf cs b)
     go (At p) ih h = refl
     go Nowhere ih h = ih h
 
@@ -61,23 +95,42 @@ pub firstOf-none : (a r : Answer) → r ≡ a → r ≡ firstOf [] a
 unfolding firstOf
 firstOf-none a r e = e
 
+-- a list in two parts, as a program puts an answer together
+pub firstOf-append : (cs ds : List Check) (a : Answer) → firstOf (cs ++ ds) a ≡ firstOf cs (firstOf ds a)
+unfolding firstOf
+firstOf-append [] ds a = refl
+firstOf-append (c ∷ cs) ds a = ap (atPlace (c .place) (c .answer)) (firstOf-append cs ds a)
+
 -- ---- Numbers that no check gives
 
 -- no check of the list gives the number n, at any place
 abbrev pub Never : ℕ → List Check → Type 0
 Never n cs = (p : ℕ) → every (λ c. not (eqb (c .answer p .number) n)) cs ≡ true
 
+pub never-append : {n : ℕ} (cs ds : List Check) → Never n cs → Never n ds → Never n (cs ++ ds)
+unfolding every
+never-append [] ds h k = k
+never-append {n} (c ∷ cs) ds h k p =
+    let b = both-true (not (eqb (c .answer p .number) n)) (every (λ d. not (eqb (d .answer p .number) n)) cs) (h p) in
+    and-true _ _ (b .0) (never-append cs ds (λ q. rest q) k p)
+  where
+    rest : Never n cs
+    rest q = both-true (not (eqb (c .answer q .number) n)) (every (λ d. not (eqb (d .answer q .number) n)) cs) (h q) .1
+
 -- so the answer n is that of what comes after them, and all of them pass
-pub never-first : (n : ℕ) (cs : List Check) (a : Answer) → Never n cs → firstOf cs a .number ≡ n → (passes cs ≡ true) × (a .number ≡ n)
+pub never-first : (n : ℕ) (cs : List Check) (a : Answer) → Never n cs → firstOf cs a .number ≡ n
+    → (passes cs ≡ true) × (a .number ≡ n)
 unfolding passes firstOf atPlace every
 never-first n [] a h e = (refl, e)
 never-first n (c ∷ cs) a h e = go (c .place) (never-first n cs a (λ p. other p .1)) e
   where
-    other : (p : ℕ) → (not (eqb (c .answer p .number) n) ≡ true) × (every (λ d. not (eqb (d .answer p .number) n)) cs ≡ true)
+    other : (p : ℕ)
+        → (not (eqb (c .answer p .number) n) ≡ true) × (every (λ d. not (eqb (d .answer p .number) n)) cs ≡ true)
     other p = both-true (not (eqb (c .answer p .number) n)) (every (λ d. not (eqb (d .answer p .number) n)) cs) (h p)
 
     go : (o : Place) → (firstOf cs a .number ≡ n → (passes cs ≡ true) × (a .number ≡ n))
-        → atPlace o (c .answer) (firstOf cs a) .number ≡ n → (atPlace o (λ p. false) (passes cs) ≡ true) × (a .number ≡ n)
+        → atPlace o (c .answer) (firstOf cs a) .number ≡ n
+        → (atPlace o (λ p. false) (passes cs) ≡ true) × (a .number ≡ n)
     go (At p) ih q = absurd (true≢false (sym (other p .0) ∙ ap not (eq-eqb (c .answer p .number) n q)))
     go Nowhere ih q = ih q
 
@@ -93,63 +146,95 @@ refused-fails cs a z h = go (passes cs) refl
     go true e = absurd (h (ap (λ (x : Answer). x .number) (firstOf-all cs a e) ∙ z))
     go false e = e
 
--- ---- No check of an entry gives 0, and 7 is given by the check of the weights alone
+-- ---- No check gives 0, and 7 is given by the check of the weights alone
+
+-- neither 0 nor 7
+abbrev pub Plain : List Check → Type 0
+Plain cs = Never 0 cs × Never 7 cs
+
+plain-append : (cs ds : List Check) → Plain cs → Plain ds → Plain (cs ++ ds)
+plain-append cs ds h k = (never-append cs ds (h .0) (k .0), never-append cs ds (h .1) (k .1))
+
+pub head-plain : (t : List ℕ) → Plain (headChecks t)
+unfolding every headChecks shortTable badCount badLimit badLength
+head-plain t = (λ p. refl, λ p. refl)
+
+node-plain : (t : List ℕ) → Plain (nodeChecks t)
+unfolding every nodeChecks noWeight badWalk
+node-plain t = (λ p. refl, λ p. refl)
+
+weight-never : (t : List ℕ) → Never 0 (weightChecks t)
+unfolding every weightChecks heavyNode
+weight-never t p = refl
+
+-- the check of the weights gives 7 where it does not pass
+pub weight-seven : (t : List ℕ) (a : Answer) → passes (weightChecks t) ≡ false → firstOf (weightChecks t) a .number ≡ 7
+unfolding firstOf passes atPlace weightChecks heavyNode
+weight-seven t a = go (heavyNode t .place)
+  where
+    go : (o : Place) → atPlace o (λ p. false) true ≡ false → atPlace o (heavyNode t .answer) a .number ≡ 7
+    go (At p) e = refl
+    go Nowhere e = absurd (true≢false e)
+
+pub lent-plain : (t m s : List ℕ) → Plain (lentChecks t m s)
+unfolding every lentChecks badMarks shortScratch
+lent-plain t m s = (λ p. refl, λ p. refl)
+
+pub mark-plain : (t m : List ℕ) → Plain (markChecks t m)
+unfolding every markChecks badMarks markRefused pageRefused
+mark-plain t m = (λ p. refl, λ p. refl)
+
+pub film-plain : (e : Edition) (t m out : List ℕ) → Plain (filmChecks e t m out)
+unfolding every filmChecks badOutput
+film-plain e t m out = (λ p. refl, λ p. refl)
+
+pub form-plain : (t : List ℕ) → Plain (formChecks t)
+unfolding formChecks
+form-plain t = plain-append (headChecks t) (nodeChecks t) (head-plain t) (node-plain t)
 
 pub tree-never : (t : List ℕ) → Never 0 (treeChecks t)
-unfolding every treeChecks formChecks shortTable badCount badLimit badLength noWeight badWalk heavyNode
-tree-never t p = refl
+unfolding treeChecks
+tree-never t = never-append (formChecks t) (weightChecks t) (form-plain t .0) (weight-never t)
 
 pub plan-never : (t m s : List ℕ) → Never 0 (planChecks t m s)
-unfolding every planChecks treeChecks formChecks shortTable badCount badLimit badLength noWeight badWalk heavyNode badMarks shortScratch
-plan-never t m s p = refl
+unfolding planChecks
+plan-never t m s = never-append (treeChecks t) (lentChecks t m s) (tree-never t) (lent-plain t m s .0)
 
 pub judge-never : (t m : List ℕ) → Never 0 (judgeChecks t m)
-unfolding every judgeChecks treeChecks formChecks shortTable badCount badLimit badLength noWeight badWalk heavyNode badMarks markRefused pageRefused
-judge-never t m p = refl
+unfolding judgeChecks
+judge-never t m = never-append (treeChecks t) (markChecks t m) (tree-never t) (mark-plain t m .0)
 
-pub write-never : (t m out : List ℕ) → Never 0 (writeChecks t m out)
-unfolding every writeChecks judgeChecks treeChecks formChecks shortTable badCount badLimit badLength noWeight badWalk heavyNode badMarks markRefused pageRefused badOutput
-write-never t m out p = refl
+pub write-never : (e : Edition) (t m out : List ℕ) → Never 0 (writeChecks e t m out)
+unfolding writeChecks
+write-never e t m out = never-append (judgeChecks t m) (filmChecks e t m out) (judge-never t m) (film-plain e t m out .0)
 
-pub read-never : (a t m : List ℕ) → Never 0 (readChecks a t m)
-unfolding every readChecks noArchive badOutput badMarks
-read-never a t m p = refl
+pub read-never : (e : Edition) (a t m : List ℕ) → Never 0 (readChecks e a t m)
+unfolding every readChecks backChecks noArchive badOutput badMarks
+read-never e a t m p = refl
 
-pub form-never-seven : (t : List ℕ) → Never 7 (formChecks t)
-unfolding every formChecks shortTable badCount badLimit badLength noWeight badWalk
-form-never-seven t p = refl
+-- ---- Going on from an answer
 
-pub lent-never-seven : (t m s : List ℕ) → Never 7 (lentChecks t m s)
-unfolding every lentChecks badMarks shortScratch
-lent-never-seven t m s p = refl
+-- an answer that refuses stands, and one that accepts leaves it to the next
+unfoldable pub andThen : Answer → Answer → Answer
+andThen r s = pick (eqb (r .number) 0) s r
 
--- ---- The tree reader's checks: those of the head, and those that look at nodes
+pub then-next : (r s : Answer) → r .number ≡ 0 → andThen r s ≡ s
+unfolding andThen
+then-next r s e = pick-true (eqb (r .number) 0) s r (eq-eqb (r .number) 0 e)
 
-unfoldable pub nodeChecks : List ℕ → List Check
-nodeChecks t = noWeight t ∷ badWalk t ∷ heavyNode t ∷ []
+pub then-stands : (r s : Answer) → (r .number ≡ 0 → ⊥) → andThen r s ≡ r
+unfolding andThen
+then-stands r s h = pick-false (eqb (r .number) 0) s r (ne-eqb (r .number) 0 h)
 
--- the answer of the checks of the head alone
-unfoldable pub headAnswer : List ℕ → Answer
-headAnswer t = firstOf (headChecks t) accepted
-
-head-never : (t : List ℕ) → Never 0 (headChecks t)
-unfolding every headChecks shortTable badCount badLimit badLength
-head-never t p = refl
-
-head-passes : (t : List ℕ) → headAnswer t .number ≡ 0 → passes (headChecks t) ≡ true
-unfolding headAnswer
-head-passes t e = accepted-pass (headChecks t) accepted (head-never t) e
-
-pub head-refuses : (t : List ℕ) → (headAnswer t .number ≡ 0 → ⊥) → headAnswer t ≡ readTree t
-unfolding headAnswer readTree treeChecks formChecks headChecks nodeChecks
-head-refuses t h = sym (firstOf-stop (headChecks t) (nodeChecks t) accepted accepted (refused-fails (headChecks t) accepted refl h))
-
-pub head-goes-on : (t : List ℕ) → headAnswer t .number ≡ 0 → firstOf (nodeChecks t) accepted ≡ readTree t
-unfolding readTree treeChecks formChecks headChecks nodeChecks
-head-goes-on t e = sym (firstOf-pass (headChecks t) (nodeChecks t) accepted (head-passes t e))
-
-pub head-count : (t : List ℕ) → headAnswer t .number ≡ 0 → nodeCount t ≤ maxNodes
-unfolding headChecks badCount
-head-count t e =
-    let p = passes-first (badCount t) _ (passes-rest (shortTable t) _ (head-passes t e)) in
-    ltb-false maxNodes (nodeCount t) (both-false (eqb (nodeCount t) 0) (ltb maxNodes (nodeCount t)) (when-nowhere _ _ p) .1)
+-- checks after others, from the others' own answer
+pub firstOf-then : (cs ds : List Check) (a : Answer) → Never 0 cs
+    → firstOf (cs ++ ds) a ≡ andThen (firstOf cs accepted) (firstOf ds a)
+firstOf-then cs ds a never = go (passes cs) refl
+  where
+    go : (b : Bool) → passes cs ≡ b → firstOf (cs ++ ds) a ≡ andThen (firstOf cs accepted) (firstOf ds a)
+    go true e =
+        firstOf-pass cs ds a e
+        ∙ sym (then-next _ _ (ap (λ (x : Answer). x .number) (firstOf-all cs accepted e)))
+    go false e =
+        firstOf-stop cs ds a accepted e
+        ∙ sym (then-stands _ _ (λ z. true≢false (sym (accepted-pass cs accepted never z) ∙ e)))

@@ -1,24 +1,28 @@
--- The answer of the judge: a refusal of the tree stands, then that of the marks' length; else it is the verdict's.
--- Proves tree-accepted, tree-facts; judge-refuses, judge-length, judge-goes-on; pageCount-le. Assumes nothing.
+-- The answers of the tree reader and of the judge: what acceptance tells of a tree, and the judge's answer from the tree's and the marks'.
+-- Defines headAnswer, nodeAnswer, marksAnswer. Proves tree-accepted, tree-facts; head-refuses, head-goes-on, head-count; judge-then, marks-length, marks-verdict;
+-- pageCount-le. Assumes nothing.
+use Prim.Native.Nat.{ℕ, _≤_}
 use mathlib.Core.Path.{_≡_, refl, sym, ap, _∙_}
 use mathlib.Core.Bool.{true, not}
-use mathlib.Core.List.{List, [], _∷_}
-use Prim.Native.Nat.{ℕ, _≤_}
+use mathlib.Core.List.{List}
 use lib.Dec.{eqb}
 use lib.ListN.{length}
 use borrow.Author.Tests.{eq-eqb, ne-eqb}
 use Rattle.model.specs.Basics.{when, atPlace}
-use Rattle.model.specs.Table.{nodeCount}
+use Rattle.model.specs.Table.{maxNodes, nodeCount}
 use Rattle.model.specs.Plan.{badMark, heavyPage, pageCount, pageWeight, verdictOf}
-use Rattle.model.specs.Refusals.{badMarks, markRefused, pageRefused, treeChecks, judgeChecks, acceptedTree, answerOf, refused, accepted, firstOf, readTree, judgePlan}
+use Rattle.model.specs.Refusals.{badMarks, markRefused, pageRefused, headChecks, nodeChecks, weightChecks, formChecks}
+use Rattle.model.specs.Refusals.{treeChecks, markChecks, judgeChecks, passes, acceptedTree, answerOf, refused, accepted}
+use Rattle.model.specs.Refusals.{firstOf, readTree, judgePlan}
 use Rattle.model.specs.declared.Place.{Place}
 use Rattle.model.specs.declared.Place.the-variants.{At, Nowhere}
 use Rattle.model.specs.declared.Cause.the-variants.{BadMark, HeavyPage}
 use Rattle.model.specs.declared.Verdict.{Verdict}
 use Rattle.model.specs.declared.Verdict.the-variants.{Feasible, Failed}
+use Rattle.model.specs.declared.Answer.{Answer}
 use Rattle.theory.specs.Ranges.{when-true, when-false, atPlace-at, atPlace-nowhere, countTo-le}
-use Rattle.theory.specs.TableFacts.{AcceptedFacts, accepted-facts}
-use Rattle.theory.specs.Checks.{tree-never, firstOf-pass, firstOf-stop, accepted-pass, refused-fails}
+use Rattle.theory.specs.Checks.{head-plain, tree-never, firstOf-pass, firstOf-append, firstOf-then, accepted-pass, andThen, then-next, then-stands}
+use Rattle.theory.specs.TableFacts.{AcceptedFacts, head-facts, accepted-facts}
 
 -- ---- The tree
 
@@ -29,6 +33,30 @@ tree-accepted t e = accepted-pass (treeChecks t) accepted (tree-never t) e
 
 pub tree-facts : (t : List ℕ) → readTree t .number ≡ 0 → AcceptedFacts t
 tree-facts t e = accepted-facts t (tree-accepted t e)
+
+-- the answer of the checks of the head alone
+unfoldable pub headAnswer : List ℕ → Answer
+headAnswer t = firstOf (headChecks t) accepted
+
+-- the checks of the nodes, after those of the head
+unfoldable pub nodeAnswer : List ℕ → Answer
+nodeAnswer t = firstOf (nodeChecks t) (firstOf (weightChecks t) accepted)
+
+read-then : (t : List ℕ) → readTree t ≡ andThen (headAnswer t) (nodeAnswer t)
+unfolding readTree treeChecks formChecks headAnswer nodeAnswer
+read-then t =
+    firstOf-append (formChecks t) (weightChecks t) accepted
+    ∙ firstOf-then (headChecks t) (nodeChecks t) (firstOf (weightChecks t) accepted) (head-plain t .0)
+
+pub head-refuses : (t : List ℕ) → (headAnswer t .number ≡ 0 → ⊥) → headAnswer t ≡ readTree t
+head-refuses t h = sym (read-then t ∙ then-stands (headAnswer t) (nodeAnswer t) h)
+
+pub head-goes-on : (t : List ℕ) → headAnswer t .number ≡ 0 → nodeAnswer t ≡ readTree t
+head-goes-on t e = sym (read-then t ∙ then-next (headAnswer t) (nodeAnswer t) e)
+
+pub head-count : (t : List ℕ) → headAnswer t .number ≡ 0 → nodeCount t ≤ maxNodes
+unfolding headAnswer
+head-count t e = head-facts t (accepted-pass (headChecks t) accepted (head-plain t .0) e) .0 .1
 
 -- ---- The plan
 
@@ -43,42 +71,36 @@ verdict-stands (At u) p v = refl
 verdict-stands Nowhere (At q) v = refl
 verdict-stands Nowhere Nowhere v = refl
 
-marks-answer : (t m : List ℕ) → firstOf (markRefused t m ∷ pageRefused t m ∷ []) (answerOf (verdictOf t m)) ≡ answerOf (verdictOf t m)
-unfolding firstOf markRefused pageRefused verdictOf
-marks-answer t m = verdict-stands (badMark t m) (heavyPage t m) (Feasible (pageCount t m) (pageWeight t m 1))
+-- the judge's answer where the tree's was acceptance
+unfoldable pub marksAnswer : List ℕ → List ℕ → Answer
+marksAnswer t m = firstOf (markChecks t m) (answerOf (verdictOf t m))
 
--- a refusal of the tree is the judge's
-pub judge-refuses : (t m : List ℕ) → (readTree t .number ≡ 0 → ⊥) → readTree t ≡ judgePlan t m
-unfolding readTree judgePlan judgeChecks
-judge-refuses t m h =
-    sym
-    (firstOf-stop (treeChecks t) (badMarks (nodeCount t) m ∷ markRefused t m ∷ pageRefused t m ∷ []) (answerOf (verdictOf t m)) accepted
-    (refused-fails (treeChecks t) accepted refl h))
+-- the judge goes on from the tree's answer
+pub judge-then : (t m : List ℕ) → judgePlan t m ≡ andThen (readTree t) (marksAnswer t m)
+unfolding judgePlan judgeChecks readTree marksAnswer
+judge-then t m = firstOf-then (treeChecks t) (markChecks t m) (answerOf (verdictOf t m)) (tree-never t)
 
-module _ (t m : List ℕ) (e : readTree t .number ≡ 0) where
-  judge-marks : judgePlan t m
+module _ (t m : List ℕ) where
+  marks-are : marksAnswer t m
       ≡ atPlace (when (not (eqb (length m) (nodeCount t))) (nodeCount t)) (refused 8) (answerOf (verdictOf t m))
-  unfolding judgePlan judgeChecks acceptedTree firstOf badMarks
-  judge-marks =
-      firstOf-pass (treeChecks t) (badMarks (nodeCount t) m ∷ markRefused t m ∷ pageRefused t m ∷ []) (answerOf (verdictOf t m))
-      (tree-accepted t e)
-      ∙ ap (atPlace (when (not (eqb (length m) (nodeCount t))) (nodeCount t)) (refused 8)) (marks-answer t m)
+  unfolding marksAnswer markChecks firstOf badMarks markRefused pageRefused verdictOf
+  marks-are =
+      ap (atPlace (when (not (eqb (length m) (nodeCount t))) (nodeCount t)) (refused 8))
+      (verdict-stands (badMark t m) (heavyPage t m) (Feasible (pageCount t m) (pageWeight t m 1)))
 
   -- a plan that is not one mark a node
-  pub judge-length : (length m ≡ nodeCount t → ⊥) → refused 8 (nodeCount t) ≡ judgePlan t m
-  judge-length h =
+  pub marks-length : (length m ≡ nodeCount t → ⊥) → refused 8 (nodeCount t) ≡ marksAnswer t m
+  marks-length h =
       sym
-      (judge-marks
-      ∙ atPlace-at (when (not (eqb (length m) (nodeCount t))) (nodeCount t)) (nodeCount t) (refused 8) (answerOf (verdictOf t m))
-      (when-true (not (eqb (length m) (nodeCount t))) (nodeCount t) (ap not (ne-eqb (length m) (nodeCount t) h))))
+      (marks-are
+      ∙ atPlace-at _ (nodeCount t) (refused 8) _ (when-true _ (nodeCount t) (ap not (ne-eqb (length m) (nodeCount t) h))))
 
   -- a plan of the right length
-  pub judge-goes-on : length m ≡ nodeCount t → answerOf (verdictOf t m) ≡ judgePlan t m
-  judge-goes-on h =
+  pub marks-verdict : length m ≡ nodeCount t → answerOf (verdictOf t m) ≡ marksAnswer t m
+  marks-verdict h =
       sym
-      (judge-marks
-      ∙ atPlace-nowhere (when (not (eqb (length m) (nodeCount t))) (nodeCount t)) (refused 8) (answerOf (verdictOf t m))
-      (when-false (not (eqb (length m) (nodeCount t))) (nodeCount t) (ap not (eq-eqb (length m) (nodeCount t) h))))
+      (marks-are
+      ∙ atPlace-nowhere _ (refused 8) _ (when-false _ (nodeCount t) (ap not (eq-eqb (length m) (nodeCount t) h))))
 
 pub pageCount-le : (t m : List ℕ) → pageCount t m ≤ nodeCount t
 unfolding pageCount

@@ -5,9 +5,9 @@ pub mod Sums
 pub mod Chosen
 pub mod Lists
 -- Lists of checks
-pub mod TableFacts
 pub mod Checks
 -- Tables of sound form: facts, numbering, links, siblings, bytes
+pub mod TableFacts
 pub mod PlanShape
 pub mod TableNumbered
 pub mod TableLinks

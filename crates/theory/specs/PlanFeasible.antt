@@ -1,26 +1,27 @@
 -- Feasible plans by number and by shape: the judge finds nothing just where node 1 has mark 1, the marks of the tree are allowed and
--- every page by shape is within the limit; the verdict is then the number of those pages and the weight of the first.
--- Defines Judged, ShapePlan. Proves feasible-judged, judged-feasible, judged-verdict, judged-answer; heavy-bridge, judged-bridge,
--- feasible-bridge, judge-bridge; shape-feasible (from FeasibleShape). Assumes nothing.
+-- every page by shape is within the limit; the verdict is then page count and root weight.
+-- Defines Judged, ShapePlan. Proves feasible-parts, feasible-judged, judged-feasible, judged-verdict, judge-feasible, feasible-judge;
+-- heavy-bridge, judged-bridge; shape-judged (from FeasibleShape). Assumes nothing.
 use Prim.Native.Nat.{ℕ, zero, suc, _-_, _≤_}
 use native.Mathlib.Omega.{arith}
-use mathlib.Core.Bool.{true, false, not, _&&_}
+use mathlib.Core.Bool.{true, false, not}
 use mathlib.Core.Path.{_≡_, sym, _∙_, ap}
 use mathlib.Core.Logic.{_↔_}
 use mathlib.Core.List.{List, [], _∷_}
 use lib.ListN.{length, getD}
-use lib.Dec.{eqb, ltb}
+use lib.Dec.{ltb}
 use borrow.Author.Tests.{eqb-true, eq-eqb, le-ltb, ltb-false, not-false}
 use Rattle.model.specs.Table.{nodeCount, limitOf, treeOf}
 use Rattle.model.specs.Plan.{markAt, pageCount, pageWeight, badMark, heavyPage, verdictOf}
-use Rattle.model.specs.Refusals.{passes, treeChecks, badMarks, markRefused, pageRefused, judgeChecks, acceptedTree, feasiblePlan, answerOf, judgePlan}
+use Rattle.model.specs.Refusals.{passes, badMarks, markRefused, pageRefused, treeChecks, markChecks, judgeChecks}
+use Rattle.model.specs.Refusals.{acceptedTree, feasiblePlan, answerOf, judgePlan}
 use Rattle.model.specs.declared.Place.the-variants.{Nowhere}
 use Rattle.model.specs.declared.Verdict.the-variants.{Feasible}
 use Rattle.theory.specs.Ranges.{Upto, when-false, when-nowhere, atPlace-nowhere, firstTo-none, firstTo-nowhere}
-use Rattle.theory.specs.TableFacts.{SoundFacts, AcceptedFacts, accepted-facts, facts-accepted, both-true, passes-first, passes-rest, passes-cons, passes-append}
-use Rattle.theory.specs.Checks.{firstOf-all}
-use Rattle.theory.specs.PlanShape.{allowed, weighed, AllWithin}
+use Rattle.theory.specs.Checks.{Pass, pass-all, passes-both, both-pass, firstOf-all, accepted-pass, judge-never}
+use Rattle.theory.specs.TableFacts.{SoundFacts, AcceptedFacts, accepted-facts}
 use Rattle.theory.specs.TableNumbered.{tree-size}
+use Rattle.theory.specs.PlanShape.{allowed, weighed, AllWithin}
 use Rattle.theory.specs.PlanLaid.{FeasibleShape}
 use Rattle.theory.specs.PlanMarks.{marks-bridge}
 use Rattle.theory.specs.PlanBridge.{count-bridge, weight-bridge}
@@ -58,46 +59,48 @@ pub record Judged (t m : List ℕ) : Type 0 where
   pub marked : badMark t m ≡ Nowhere
   pub light : heavyPage t m ≡ Nowhere
 
+pub feasible-parts : (t m : List ℕ) → feasiblePlan t m ≡ true → (acceptedTree t ≡ true) × (passes (markChecks t m) ≡ true)
+unfolding feasiblePlan judgeChecks acceptedTree
+feasible-parts t m e = passes-both (treeChecks t) (markChecks t m) e
+
 pub feasible-judged : (t m : List ℕ) → feasiblePlan t m ≡ true → Judged t m
-unfolding feasiblePlan judgeChecks acceptedTree badMarks markRefused pageRefused
+unfolding Pass markChecks badMarks markRefused pageRefused
 feasible-judged t m e =
-    let both =
-    both-true (passes (treeChecks t)) (passes (badMarks (nodeCount t) m ∷ markRefused t m ∷ pageRefused t m ∷ []))
-    (sym (passes-append (treeChecks t) (badMarks (nodeCount t) m ∷ markRefused t m ∷ pageRefused t m ∷ [])) ∙ e) in
-    let e₁ = passes-rest (badMarks (nodeCount t) m) (markRefused t m ∷ pageRefused t m ∷ []) (both .1) in
-    let e₂ = passes-rest (markRefused t m) (pageRefused t m ∷ []) e₁ in
+    let parts = feasible-parts t m e in
+    let p = pass-all (markChecks t m) .0 (parts .1) in
     record {
-      tree = accepted-facts t (both .0);
-      long =
-          eqb-true (length m) (nodeCount t)
-          (not-false (eqb (length m) (nodeCount t))
-          (when-nowhere (not (eqb (length m) (nodeCount t))) (nodeCount t)
-          (passes-first (badMarks (nodeCount t) m) (markRefused t m ∷ pageRefused t m ∷ []) (both .1))));
-      marked = passes-first (markRefused t m) (pageRefused t m ∷ []) e₁;
-      light = passes-first (pageRefused t m) [] e₂;
+      tree = accepted-facts t (parts .0);
+      long = eqb-true (length m) (nodeCount t) (not-false _ (when-nowhere _ (nodeCount t) (p .0)));
+      marked = p .1;
+      light = p .2;
     }
 
-pub judged-feasible : {t m : List ℕ} → Judged t m → feasiblePlan t m ≡ true
-unfolding feasiblePlan judgeChecks acceptedTree badMarks markRefused pageRefused passes
-judged-feasible {t} {m} j =
-    passes-append (treeChecks t) (badMarks (nodeCount t) m ∷ markRefused t m ∷ pageRefused t m ∷ [])
-    ∙ ap (λ b. b && passes (badMarks (nodeCount t) m ∷ markRefused t m ∷ pageRefused t m ∷ [])) tree
-    ∙ passes-cons (badMarks (nodeCount t) m) (markRefused t m ∷ pageRefused t m ∷ [])
-    (when-false (not (eqb (length m) (nodeCount t))) (nodeCount t) (ap not (eq-eqb (length m) (nodeCount t) (j .long))))
-    ∙ passes-cons (markRefused t m) (pageRefused t m ∷ []) (j .marked)
-    ∙ passes-cons (pageRefused t m) [] (j .light)
-  where
-    tree : passes (treeChecks t) ≡ true
-    tree = facts-accepted t (j .tree)
+pub judged-feasible : {t m : List ℕ} → acceptedTree t ≡ true → Judged t m → feasiblePlan t m ≡ true
+unfolding Pass feasiblePlan judgeChecks acceptedTree markChecks badMarks markRefused pageRefused
+judged-feasible {t} {m} e j =
+    both-pass (treeChecks t) (markChecks t m) e
+    (pass-all (markChecks t m) .1 (
+      when-false _ (nodeCount t) (ap not (eq-eqb (length m) (nodeCount t) (j .long))),
+      j .marked,
+      j .light,
+      tt,
+    ))
 
 pub judged-verdict : {t m : List ℕ} → Judged t m → verdictOf t m ≡ Feasible (pageCount t m) (pageWeight t m 1)
 unfolding verdictOf
 judged-verdict {t} {m} j = atPlace-nowhere (badMark t m) _ _ (j .marked) ∙ atPlace-nowhere (heavyPage t m) _ _ (j .light)
 
-pub judged-answer : {t m : List ℕ} → Judged t m → judgePlan t m ≡ answerOf (Feasible (pageCount t m) (pageWeight t m 1))
+-- ---- The judge's answer
+
+pub judge-feasible : (t m : List ℕ) → judgePlan t m .number ≡ 0 → feasiblePlan t m ≡ true
 unfolding judgePlan feasiblePlan
-judged-answer {t} {m} j =
-    firstOf-all (judgeChecks t m) (answerOf (verdictOf t m)) (judged-feasible j) ∙ ap answerOf (judged-verdict j)
+judge-feasible t m e = accepted-pass (judgeChecks t m) (answerOf (verdictOf t m)) (judge-never t m) e
+
+pub feasible-judge : (t m : List ℕ) → feasiblePlan t m ≡ true
+    → judgePlan t m ≡ answerOf (Feasible (pageCount t m) (pageWeight t m 1))
+unfolding judgePlan feasiblePlan
+feasible-judge t m e =
+    firstOf-all (judgeChecks t m) (answerOf (verdictOf t m)) e ∙ ap answerOf (judged-verdict (feasible-judged t m e))
 
 -- ---- By shape
 
@@ -138,23 +141,10 @@ module _ {t : List ℕ} (a : AcceptedFacts t) (m : List ℕ) (long : length m �
     },
   )
 
-  pub feasible-bridge : (feasiblePlan t m ≡ true) ↔ ShapePlan t m
-  feasible-bridge = (λ e. judged-bridge .0 (feasible-judged t m e), λ p. judged-feasible (judged-bridge .1 p))
-
-  pub judge-bridge : ShapePlan t m
-      → judgePlan t m ≡ answerOf (Feasible (length (weighed (treeOf t) m .pages)) (getD (weighed (treeOf t) m .pages) 0 0))
-  judge-bridge p =
-      let j : Judged t m = judged-bridge .1 p in
-      judged-answer j
-      ∙ rw (count-bridge (a .sound) m long (p .allows), weight-bridge (a .sound) m long (p .allows) 1 (omega arith))
-
--- what the judge says of a plan by shape
-pub shape-feasible : {t : List ℕ} → AcceptedFacts t → (m : List ℕ) (root : ℕ) → FeasibleShape (limitOf t) (treeOf t) m root
-    → (feasiblePlan t m ≡ true) × (judgePlan t m ≡ answerOf (Feasible (length (weighed (treeOf t) m .pages)) root))
+-- what the judge finds of a plan by shape
+pub shape-judged : {t : List ℕ} → AcceptedFacts t → (m : List ℕ) (root : ℕ) → FeasibleShape (limitOf t) (treeOf t) m root
+    → Judged t m
 unfolding markAt
-shape-feasible {t} a m root f =
+shape-judged {t} a m root f =
     let long : length m ≡ nodeCount t = omega (arith, f .long, tree-size (a .sound)) in
-    let p : ShapePlan t m = record { first = f .first; allows = f .allows; within = f .within } in (
-      feasible-bridge a m long .1 p,
-      judge-bridge a m long p ∙ ap (λ r. answerOf (Feasible (length (weighed (treeOf t) m .pages)) r)) (f .root-page),
-    )
+    judged-bridge a m long .1 (record { first = f .first; allows = f .allows; within = f .within })

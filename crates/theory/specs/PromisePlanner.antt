@@ -15,49 +15,46 @@ use Rattle.model.specs.Table.{Chain, nodeCount, limitOf, treeOf}
 use Rattle.model.specs.Plan.{pageCount, pageWeight}
 use Rattle.model.specs.Runs.{runsOf}
 use Rattle.model.specs.Steps.{bestMarks}
-use Rattle.model.specs.Refusals.{badMarks, shortScratch, scratchWords, treeChecks, planChecks, passes, acceptedTree, answerOf, accepted, firstOf, readTree, judgePlan, Planned, planned, planBest}
+use Rattle.model.specs.Refusals.{badMarks, shortScratch, scratchWords, treeChecks, lentChecks, planChecks, passes, acceptedTree}
+use Rattle.model.specs.Refusals.{feasiblePlan, answerOf, accepted, firstOf, readTree, judgePlan, Planned, planned, planBest}
 use Rattle.model.specs.Demand.{Lowest, PlanLent, PlanPromise, BestPromise}
 use Rattle.model.specs.declared.Answer.{Answer}
 use Rattle.model.specs.declared.Verdict.the-variants.{Feasible}
 use Rattle.theory.specs.Ranges.{bool-cases, pick-true, pick-false, when-false, when-nowhere}
-use Rattle.theory.specs.Checks.{lentChecks, firstOf-all, accepted-pass, plan-never, lent-never-seven}
-use Rattle.theory.specs.TableFacts.{AcceptedFacts, accepted-facts, passes-append, passes-cons, passes-first, passes-rest, both-true}
-use Rattle.theory.specs.SiblingsByParent.{and-true}
-use Rattle.theory.specs.PlanFeasible.{Judged, judged-answer, judged-feasible}
+use Rattle.theory.specs.Checks.{Pass, pass-all, passes-both, both-pass, firstOf-all, accepted-pass, plan-never, lent-plain}
+use Rattle.theory.specs.TableFacts.{AcceptedFacts, accepted-facts}
+use Rattle.theory.specs.PlanFeasible.{Judged, judged-feasible, feasible-judge}
 use Rattle.theory.specs.PromiseWeight.{weight-promise, seven-tree}
 use Rattle.theory.specs.BestLowest.{best-judged, best-lowest}
 
 -- ---- What is lent
 
 module _ (t m s : List ℕ) where
-  -- the checks of the tree and of what is lent
-  plan-parts : passes (planChecks t m s) ≡ true → (passes (treeChecks t) ≡ true) × (passes (lentChecks t m s) ≡ true)
-  unfolding planChecks lentChecks
-  plan-parts e = both-true _ (passes (lentChecks t m s)) (sym (passes-append (treeChecks t) (lentChecks t m s)) ∙ e)
+  plan-parts : passes (planChecks t m s) ≡ true → (acceptedTree t ≡ true) × (passes (lentChecks t m s) ≡ true)
+  unfolding planChecks acceptedTree
+  plan-parts e = passes-both (treeChecks t) (lentChecks t m s) e
 
   pub lent-passes : PlanLent t m s → passes (planChecks t m s) ≡ true
-  unfolding planChecks lentChecks badMarks shortScratch acceptedTree passes
+  unfolding Pass planChecks lentChecks badMarks shortScratch acceptedTree
   lent-passes r =
-      passes-append (treeChecks t) (lentChecks t m s)
-      ∙ and-true (passes (treeChecks t)) (passes (lentChecks t m s)) (r .tree)
-      (passes-cons (badMarks (nodeCount t) m) (shortScratch t s ∷ [])
-      (when-false (not (eqb (length m) (nodeCount t))) (nodeCount t) (ap not (eq-eqb (length m) (nodeCount t) (r .marks))))
-      ∙ passes-cons (shortScratch t s) []
-      (when-false (ltb (length s) (scratchWords (nodeCount t) (limitOf t))) (scratchWords (nodeCount t) (limitOf t))
-      (le-ltb (length s) (scratchWords (nodeCount t) (limitOf t)) (r .scratch))))
+      both-pass (treeChecks t) (lentChecks t m s) (r .tree)
+      (pass-all (lentChecks t m s) .1 (
+        when-false _ (nodeCount t) (ap not (eq-eqb (length m) (nodeCount t) (r .marks))),
+        when-false _ (scratchWords (nodeCount t) (limitOf t)) (le-ltb (length s) (scratchWords (nodeCount t) (limitOf t)) (r .scratch)),
+        tt,
+      ))
 
   pub passes-lent : passes (planChecks t m s) ≡ true → PlanLent t m s
-  unfolding lentChecks badMarks shortScratch acceptedTree
+  unfolding Pass lentChecks badMarks shortScratch
   passes-lent e =
-      let both = plan-parts e in
-      let long = when-nowhere (not (eqb (length m) (nodeCount t))) (nodeCount t) (passes-first (badMarks (nodeCount t) m) (shortScratch t s ∷ []) (both .1)) in
-      let words =
-      when-nowhere (ltb (length s) (scratchWords (nodeCount t) (limitOf t))) (scratchWords (nodeCount t) (limitOf t))
-      (passes-first (shortScratch t s) [] (passes-rest (badMarks (nodeCount t) m) (shortScratch t s ∷ []) (both .1))) in
+      let parts = plan-parts e in
+      let p = pass-all (lentChecks t m s) .0 (parts .1) in
       record {
-        tree = both .0;
-        marks = eqb-true (length m) (nodeCount t) (not-false (eqb (length m) (nodeCount t)) long);
-        scratch = ltb-false (length s) (scratchWords (nodeCount t) (limitOf t)) words;
+        tree = parts .0;
+        marks = eqb-true (length m) (nodeCount t) (not-false _ (when-nowhere _ (nodeCount t) (p .0)));
+        scratch =
+            ltb-false (length s) (scratchWords (nodeCount t) (limitOf t))
+            (when-nowhere _ (scratchWords (nodeCount t) (limitOf t)) (p .1));
       }
 
 -- ---- What a planner leaves
@@ -89,16 +86,18 @@ module _ (steps : ℕ → Chain → List ℕ) (t m s : List ℕ) where
 
   module _ (good : AcceptedFacts t → Judged t made) where
     made-judged : passes (planChecks t m s) ≡ true → Judged t made
-    unfolding acceptedTree
     made-judged e = good (accepted-facts t (plan-parts t m s e .0))
+
+    made-feasible : passes (planChecks t m s) ≡ true → feasiblePlan t made ≡ true
+    made-feasible e = judged-feasible (plan-parts t m s e .0) (made-judged e)
 
     done-answer : passes (planChecks t m s) ≡ true
         → planned steps t m s .answer ≡ answerOf (Feasible (pageCount t made) (pageWeight t made 1))
-    done-answer e = ap (λ (p : Planned). p .answer) (planned-done e) ∙ judged-answer (made-judged e)
+    done-answer e = ap (λ (p : Planned). p .answer) (planned-done e) ∙ feasible-judge t made (made-feasible e)
 
     -- 7 is the tree reader's
     seven-same : (planned steps t m s .answer .number ≡ 7) ↔ (readTree t .number ≡ 7)
-    unfolding readTree planChecks lentChecks
+    unfolding readTree planChecks acceptedTree
     seven-same = ⊎-elim accepts refuses (bool-cases (passes (planChecks t m s)))
       where
         accepts : passes (planChecks t m s) ≡ true → (planned steps t m s .answer .number ≡ 7) ↔ (readTree t .number ≡ 7)
@@ -110,7 +109,7 @@ module _ (steps : ℕ → Chain → List ℕ) (t m s : List ℕ) where
         refuses : passes (planChecks t m s) ≡ false → (planned steps t m s .answer .number ≡ 7) ↔ (readTree t .number ≡ 7)
         refuses e =
             let q = ap (λ (p : Planned). p .answer .number) (planned-refused e) in
-            let tree = seven-tree t (lentChecks t m s) accepted (lent-never-seven t m s) (λ h. omega arith) in
+            let tree = seven-tree t (lentChecks t m s) accepted (lent-plain t m s .1) (λ h. omega arith) in
             (λ h. tree .0 (sym q ∙ h), λ h. q ∙ tree .1 h)
 
     pub plan-promise : PlanPromise t m s (planned steps t m s .answer) (planned steps t m s .marks) (planned steps t m s .scratch)
@@ -119,7 +118,7 @@ module _ (steps : ℕ → Chain → List ℕ) (t m s : List ℕ) where
           accepts =
               λ r.
               let e = lent-passes t m s r in
-              rw (planned-done e) (judged-answer (made-judged e), judged-feasible (made-judged e));
+              rw (planned-done e) (feasible-judge t made (made-feasible e), made-feasible e);
           kept = λ h. ⊎-elim (λ e. absurd (h (ap (λ (a : Answer). a .number) (done-answer e)))) left (bool-cases (passes (planChecks t m s)));
           weight = weight-promise t (planned steps t m s .answer) seven-same;
         }
@@ -132,11 +131,14 @@ module _ (steps : ℕ → Chain → List ℕ) (t m s : List ℕ) where
 module _ (t m s : List ℕ) where
   best-low : PlanLent t m s
       → (P : ℕ) × (W : ℕ) × (planBest t m s .answer ≡ answerOf (Feasible P W)) × Lowest t P W (runsOf t (planBest t m s .marks))
-  unfolding acceptedTree
   best-low r =
       let a : AcceptedFacts t = accepted-facts t (r .tree) in
-      let done = planned-done bestMarks t m s (lent-passes t m s r) in
-      (_, _, ap (λ (p : Planned). p .answer) done ∙ judged-answer (best-judged a), rw (ap (λ (p : Planned). p .marks) done) (best-lowest a))
+      let done = planned-done bestMarks t m s (lent-passes t m s r) in (
+        _,
+        _,
+        ap (λ (p : Planned). p .answer) done ∙ feasible-judge t _ (judged-feasible (r .tree) (best-judged a)),
+        rw (ap (λ (p : Planned). p .marks) done) (best-lowest a),
+      )
 
   pub best-promise : BestPromise t m s (planBest t m s .answer) (planBest t m s .marks)
   best-promise = record { lowest = best-low }

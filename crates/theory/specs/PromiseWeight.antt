@@ -6,18 +6,17 @@ use native.Mathlib.Omega.{arith}
 use mathlib.Core.Path.{_≡_, refl, sym, _∙_, ap}
 use mathlib.Core.Bool.{Bool, true, false}
 use mathlib.Core.Logic.{_↔_}
-use mathlib.Core.List.{List, [], _∷_, _++_, append-assoc}
-use Rattle.model.specs.Basics.{every}
-use Rattle.model.specs.Table.{nodeCount}
-use Rattle.model.specs.Plan.{pageCount, verdictOf}
-use Rattle.model.specs.Archive.{archiveBytes}
-use Rattle.model.specs.Refusals.{Check, badMarks, markRefused, pageRefused, badOutput, treeChecks, judgeChecks, writeChecks, passes, answerOf, accepted, firstOf, readTree, judgePlan, writeArchive}
+use mathlib.Core.List.{List, _++_, append-assoc}
+use Rattle.model.specs.Plan.{verdictOf}
+use Rattle.model.specs.Refusals.{Check, treeChecks, markChecks, filmChecks, judgeChecks, writeChecks, passes}
+use Rattle.model.specs.Refusals.{answerOf, accepted, firstOf, readTree, judgePlan, writeArchive}
 use Rattle.model.specs.Demand.{WeightPromise}
 use Rattle.model.specs.declared.Cause.the-variants.{BadMark, HeavyPage}
 use Rattle.model.specs.declared.Verdict.{Verdict}
 use Rattle.model.specs.declared.Verdict.the-variants.{Feasible, Failed}
 use Rattle.model.specs.declared.Answer.{Answer}
-use Rattle.theory.specs.Checks.{Never, firstOf-pass, firstOf-stop, firstOf-all, never-first}
+use Rattle.model.specs.declared.Edition.{Edition}
+use Rattle.theory.specs.Checks.{Never, firstOf-pass, firstOf-stop, firstOf-all, never-append, never-first, mark-plain, film-plain}
 use Rattle.theory.specs.RunsHeld.{refused-unheld, seven-refused}
 
 -- an entry that answers 7 just where the tree reader does
@@ -50,20 +49,17 @@ pub read-weight : (t : List ℕ) → WeightPromise t (readTree t)
 read-weight t = weight-promise t (readTree t) (λ h. h, λ h. h)
 
 module _ (t m : List ℕ) where
-  -- the checks of the judge after the tree's
-  abbrev markChecks : List Check
-  markChecks = badMarks (nodeCount t) m ∷ markRefused t m ∷ pageRefused t m ∷ []
-
   pub judge-weight : WeightPromise t (judgePlan t m)
-  unfolding judgePlan judgeChecks badMarks markRefused pageRefused every
+  unfolding judgePlan judgeChecks
   judge-weight =
       weight-promise t (judgePlan t m)
-      (seven-tree t markChecks (answerOf (verdictOf t m)) (λ p. refl) (verdict-never-seven (verdictOf t m)))
+      (seven-tree t (markChecks t m) (answerOf (verdictOf t m)) (mark-plain t m .1) (verdict-never-seven (verdictOf t m)))
 
-  pub write-weight : (out : List ℕ) → WeightPromise t (writeArchive t m out .answer)
-  unfolding writeArchive writeChecks judgeChecks badMarks markRefused pageRefused badOutput every
-  write-weight out =
-      let last : List Check = badOutput (archiveBytes (pageCount t m) (nodeCount t)) out ∷ [] in
-      weight-promise t (writeArchive t m out .answer)
-      (rw (append-assoc (treeChecks t) markChecks last)
-      (seven-tree t (markChecks ++ last) (answerOf (verdictOf t m)) (λ p. refl) (verdict-never-seven (verdictOf t m))))
+  pub write-weight : (e : Edition) (out : List ℕ) → WeightPromise t (writeArchive e t m out .answer)
+  unfolding writeArchive writeChecks judgeChecks
+  write-weight e out =
+      weight-promise t (writeArchive e t m out .answer)
+      (rw (append-assoc (treeChecks t) (markChecks t m) (filmChecks e t m out))
+      (seven-tree t (markChecks t m ++ filmChecks e t m out) (answerOf (verdictOf t m))
+      (never-append (markChecks t m) (filmChecks e t m out) (mark-plain t m .1) (film-plain e t m out .1))
+      (verdict-never-seven (verdictOf t m))))

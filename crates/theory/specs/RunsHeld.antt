@@ -3,7 +3,7 @@
 -- Defines PlanRuns, RunsPlan. Proves plan-runs, runs-plan, accepted-held, refused-unheld, seven-refused. Assumes nothing.
 use Prim.Native.Nat.{ℕ, _-_, _≤_}
 use native.Mathlib.Omega.{arith}
-use mathlib.Core.Bool.{Bool, true, false, not, _&&_, true≢false}
+use mathlib.Core.Bool.{Bool, true, false, not, _&&_, true≢false, false≢true}
 use mathlib.Core.Path.{_≡_, refl, sym, _∙_, ap}
 use mathlib.Core.Logic.{_↔_}
 use mathlib.Core.List.{List, [], _∷_}
@@ -14,14 +14,15 @@ use Rattle.model.specs.Basics.{pick, countTo}
 use Rattle.model.specs.Table.{nodeCount, limitOf, weightAt}
 use Rattle.model.specs.Plan.{begins, continues, markAt, hasMark, goodMark, badMark, pageOf, pageCount, pageWeight, heavyPage}
 use Rattle.model.specs.Runs.{Run, countOf, holds, homeOf, runWeight, withinLimit, runCount, rootWeight, runsOf}
-use Rattle.model.specs.Refusals.{heavyNode, formChecks, treeChecks, soundForm, acceptedTree, refusedForWeight, firstOf, refused, accepted, readTree}
+use Rattle.model.specs.Refusals.{formChecks, weightChecks, treeChecks, passes, soundForm, acceptedTree, refusedForWeight}
+use Rattle.model.specs.Refusals.{firstOf, accepted, readTree}
 use Rattle.model.specs.Demand.{HeldWithin}
-use Rattle.model.specs.declared.Place.{Place}
-use Rattle.model.specs.declared.Place.the-variants.{At, Nowhere}
-use Rattle.theory.specs.Ranges.{Upto, pick-true, pick-false, atPlace-at, atPlace-nowhere, sumTo-cong, countTo-le, countTo-all, firstTo-none}
+use Rattle.model.specs.declared.Place.the-variants.{Nowhere}
+use Rattle.model.specs.declared.Answer.{Answer}
+use Rattle.theory.specs.Ranges.{Upto, pick-true, pick-false, sumTo-cong, countTo-le, countTo-all, firstTo-none}
 use Rattle.theory.specs.Sums.{sumTo-only, sumTo-one}
-use Rattle.theory.specs.TableFacts.{SoundFacts, sound-facts, accepted-facts, facts-accepted, heavy-none, both-true}
-use Rattle.theory.specs.Checks.{firstOf-pass, firstOf-stop, never-first, form-never-seven}
+use Rattle.theory.specs.TableFacts.{SoundFacts, sound-facts, accepted-facts, sound-accepted}
+use Rattle.theory.specs.Checks.{passes-append, firstOf-pass, firstOf-stop, firstOf-all, never-first, form-plain, weight-seven}
 use Rattle.theory.specs.PlanPages.{bad-none, good-first, good-later, pageOf-begins}
 use Rattle.theory.specs.Lists.{every-all}
 use Rattle.theory.specs.RunsFacts.{HoldFacts, holds-facts, home-first}
@@ -172,15 +173,15 @@ module _ {t : List ℕ} (s : SoundFacts t) where
       omega arith
 
   -- a tree of sound form is accepted exactly where some sequence of runs holds it within the limit
-  pub accepted-held : (acceptedTree t ≡ true) ↔ HeldWithin t
-  accepted-held = (
+  pub accepted-held : soundForm t ≡ true → (acceptedTree t ≡ true) ↔ HeldWithin t
+  accepted-held f = (
     λ e. let ones-runs : PlanRuns t (ones (nodeCount t)) = plan-runs s (ones (nodeCount t)) (ones-good s) in
         record {
           runs = runsOf t (ones (nodeCount t));
           held = ones-runs .held;
           within = ones-runs .limit .1 (ones-light s (accepted-facts t e .light));
         },
-    λ w. facts-accepted t (record { sound = s; light = held-light w }),
+    λ w. sound-accepted t f (held-light w),
   )
 
 -- refused for weight: of sound form, and held within the limit by no sequence of runs
@@ -188,65 +189,38 @@ pub refused-unheld : (t : List ℕ) → (refusedForWeight t ≡ true) ↔ ((soun
 unfolding refusedForWeight
 refused-unheld t = (
   λ e. let b = both-true (soundForm t) (not (acceptedTree t)) e in
-      (b .0, λ w. true≢false (sym (accepted-held (sound-facts t (b .0)) .1 w) ∙ not-true (acceptedTree t) (b .1))),
+      (b .0, λ w. true≢false (sym (accepted-held (sound-facts t (b .0)) (b .0) .1 w) ∙ not-true (acceptedTree t) (b .1))),
   λ b. rw (b .0) (go (b .0) (b .1) (acceptedTree t) refl),
 )
   where
     go : soundForm t ≡ true → (HeldWithin t → ⊥) → (c : Bool) → acceptedTree t ≡ c → not (acceptedTree t) ≡ true
-    go sound none true e = absurd (none (accepted-held (sound-facts t sound) .0 e))
+    go sound none true e = absurd (none (accepted-held (sound-facts t sound) sound .0 e))
     go sound none false e = ap not e
 
 -- ---- The tree reader's answer
 
--- of a table of sound form the reader asks only whether a node outweighs K
-read-sound : (t : List ℕ) → soundForm t ≡ true → readTree t ≡ firstOf (heavyNode t ∷ []) accepted
-unfolding readTree treeChecks soundForm
-read-sound t e = firstOf-pass (formChecks t) (heavyNode t ∷ []) accepted e
-
-read-heavy : (t : List ℕ) (p : ℕ) → soundForm t ≡ true → heavyNode t .place ≡ At p → readTree t .number ≡ 7
-unfolding firstOf heavyNode
-read-heavy t p e q =
-    ap (λ a. a .number) (read-sound t e)
-    ∙ ap (λ a. a .number) (atPlace-at (heavyNode t .place) p (refused 7) accepted q)
-
-read-light : (t : List ℕ) → soundForm t ≡ true → heavyNode t .place ≡ Nowhere → readTree t .number ≡ 0
-unfolding firstOf heavyNode
-read-light t e q =
-    ap (λ a. a .number) (read-sound t e)
-    ∙ ap (λ a. a .number) (atPlace-nowhere (heavyNode t .place) (refused 7) accepted q)
-
--- of any other it does not answer 7
-read-unsound : (t : List ℕ) → soundForm t ≡ false → readTree t .number ≡ 7 → ⊥
-unfolding readTree treeChecks soundForm
-read-unsound t e seven =
-    let stop = firstOf-stop (formChecks t) (heavyNode t ∷ []) accepted accepted e in
-    let form = never-first 7 (formChecks t) accepted (form-never-seven t) (sym (ap (λ a. a .number) stop) ∙ seven) in
-    true≢false (sym (form .0) ∙ e)
-
 -- the tree reader answers 7 exactly where the tree is refused for weight
 pub seven-refused : (t : List ℕ) → (readTree t .number ≡ 7) ↔ (refusedForWeight t ≡ true)
-unfolding refusedForWeight
-seven-refused t = (λ e. there e (soundForm t) refl (acceptedTree t) refl, back)
+unfolding readTree treeChecks refusedForWeight soundForm acceptedTree
+seven-refused t = go (passes (formChecks t)) refl (passes (weightChecks t)) refl
   where
-    light-place : acceptedTree t ≡ true → heavyNode t .place ≡ Nowhere
-    light-place a = heavy-none t .0 (accepted-facts t a .light)
+    same : passes (treeChecks t) ≡ (passes (formChecks t) && passes (weightChecks t))
+    same = passes-append (formChecks t) (weightChecks t)
 
-    there : readTree t .number ≡ 7 → (b : Bool) → soundForm t ≡ b → (c : Bool) → acceptedTree t ≡ c
-        → (soundForm t && not (acceptedTree t)) ≡ true
-    there e true q true q′ = absurd (omega (arith, read-light t q (light-place q′)))
-    there e true q false q′ = rw (q, q′)
-    there e false q c q′ = absurd (read-unsound t q e)
-
-    back : (soundForm t && not (acceptedTree t)) ≡ true → readTree t .number ≡ 7
-    back e = go (heavyNode t .place) refl
-      where
-        b : (soundForm t ≡ true) × (not (acceptedTree t) ≡ true)
-        b = both-true (soundForm t) (not (acceptedTree t)) e
-
-        go : (o : Place) → heavyNode t .place ≡ o → readTree t .number ≡ 7
-        go (At p) q = read-heavy t p (b .0) q
-        go Nowhere q =
-            absurd
-            (true≢false
-            (sym (facts-accepted t (record { sound = sound-facts t (b .0); light = heavy-none t .1 q }))
-            ∙ not-true (acceptedTree t) (b .1)))
+    go : (b : Bool) → passes (formChecks t) ≡ b → (c : Bool) → passes (weightChecks t) ≡ c
+        → (firstOf (treeChecks t) accepted .number ≡ 7) ↔ ((passes (formChecks t) && not (passes (treeChecks t))) ≡ true)
+    go true e true h = (
+      λ z. absurd (omega (arith, ap (λ (x : Answer). x .number) (firstOf-all (treeChecks t) accepted (same ∙ rw (e, h))))),
+      λ z. absurd (false≢true (sym (rw (e, same, h)) ∙ z)),
+    )
+    go true e false h = (
+      λ z. rw (e, same, h),
+      λ z. ap (λ (x : Answer). x .number) (firstOf-pass (formChecks t) (weightChecks t) accepted e) ∙ weight-seven t accepted h,
+    )
+    go false e c h = (
+      λ z. absurd
+          (true≢false
+          (sym (never-first 7 (formChecks t) accepted (form-plain t .1) (sym (ap (λ (x : Answer). x .number) (firstOf-stop (formChecks t) (weightChecks t) accepted accepted e)) ∙ z) .0)
+          ∙ e)),
+      λ z. absurd (false≢true (sym (rw e) ∙ z)),
+    )

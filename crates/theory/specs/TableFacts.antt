@@ -1,20 +1,23 @@
 -- What a table of sound form is, as plain facts, and what an accepted one is besides.
--- Defines SoundFacts, AcceptedFacts. Proves that they say what the checks say. Assumes nothing.
+-- Defines SoundFacts, AcceptedFacts. Proves that they say what the parts of the list of checks say: head-facts, sound-facts, facts-sound,
+-- light-passes; accepted-parts, sound-accepted, accepted-facts, facts-accepted. Assumes nothing.
 use Prim.Native.Nat.{ℕ, _+_, _*_, _≤_}
 use native.Mathlib.Omega.{arith}
-use mathlib.Core.Bool.{Bool, true, false, not, _&&_, _||_, true≢false, false≢true}
+use mathlib.Core.Bool.{Bool, true, false, not, _||_}
 use mathlib.Core.Path.{_≡_, refl, sym, _∙_, ap}
 use mathlib.Core.Logic.{_↔_}
-use mathlib.Core.List.{List, [], _∷_, _++_}
+use mathlib.Core.List.{List, [], _∷_}
 use lib.ListN.{length}
 use lib.Dec.{eqb, ltb}
 use borrow.Author.Tests.{eqb-true, eqb-false, eq-eqb, ne-eqb, ltb-false, le-ltb, not-false}
-use Rattle.model.specs.Basics.{when, atPlace, firstTo}
+use Rattle.model.specs.Basics.{firstTo}
 use Rattle.model.specs.Table.{maxNodes, maxLimit, nodeCount, limitOf, weightAt, nextAt, tableBytes, walkFrom, walkPlace}
-use Rattle.model.specs.Refusals.{Check, passes, formChecks, treeChecks, soundForm, acceptedTree, shortTable, badCount, badLimit, badLength, noWeight, badWalk, heavyNode}
-use Rattle.model.specs.declared.Place.{Place}
+use Rattle.model.specs.Refusals.{passes, headChecks, nodeChecks, weightChecks, formChecks, treeChecks, soundForm, acceptedTree}
+use Rattle.model.specs.Refusals.{shortTable, badCount, badLimit, badLength, noWeight, badWalk, heavyNode}
 use Rattle.model.specs.declared.Place.the-variants.{At, Nowhere}
-use Rattle.theory.specs.Ranges.{Upto, pick-true, pick-false, when-false, when-nowhere, at-nowhere, atPlace-nowhere, firstTo-none, firstTo-nowhere}
+use Rattle.theory.specs.Bools.{both-false}
+use Rattle.theory.specs.Ranges.{Upto, pick-true, pick-false, when-false, when-nowhere, at-nowhere, firstTo-none, firstTo-nowhere}
+use Rattle.theory.specs.Checks.{Pass, pass-all, passes-both, both-pass}
 
 pub record SoundFacts (t : List ℕ) : Type 0 where
   pub count-low : 1 ≤ nodeCount t
@@ -29,42 +32,6 @@ pub record SoundFacts (t : List ℕ) : Type 0 where
 pub record AcceptedFacts (t : List ℕ) : Type 0 where
   pub sound : SoundFacts t
   pub light : Upto (nodeCount t) (λ v. weightAt t v ≤ limitOf t)
-
--- ---- Lists of checks
-
-pub passes-first : (c : Check) (cs : List Check) → passes (c ∷ cs) ≡ true → c .place ≡ Nowhere
-unfolding passes atPlace
-passes-first c cs e = go (c .place) refl e
-  where
-    go : (o : Place) → c .place ≡ o → atPlace o (λ p. false) (passes cs) ≡ true → c .place ≡ Nowhere
-    go (At p) q h = absurd (false≢true h)
-    go Nowhere q h = q
-
-pub passes-rest : (c : Check) (cs : List Check) → passes (c ∷ cs) ≡ true → passes cs ≡ true
-unfolding passes
-passes-rest c cs e = sym (atPlace-nowhere (c .place) (λ p. false) (passes cs) (passes-first c cs e)) ∙ e
-
-pub passes-cons : (c : Check) (cs : List Check) → c .place ≡ Nowhere → passes (c ∷ cs) ≡ passes cs
-unfolding passes
-passes-cons c cs e = atPlace-nowhere (c .place) (λ p. false) (passes cs) e
-
-pub passes-append : (cs ds : List Check) → passes (cs ++ ds) ≡ (passes cs && passes ds)
-unfolding passes atPlace
-passes-append [] ds = refl
-passes-append (c ∷ cs) ds = go (c .place) (passes-append cs ds)
-  where
-    go : (o : Place) → passes (cs ++ ds) ≡ (passes cs && passes ds)
-        → atPlace o (λ p. false) (passes (cs ++ ds)) ≡ (atPlace o (λ p. false) (passes cs) && passes ds)
-    go (At p) ih = refl
-    go Nowhere ih = ih
-
-pub both-true : (a b : Bool) → (a && b) ≡ true → (a ≡ true) × (b ≡ true)
-both-true true b e = (refl, e)
-both-true false b e = absurd (false≢true e)
-
-pub both-false : (a b : Bool) → (a || b) ≡ false → (a ≡ false) × (b ≡ false)
-both-false true b e = absurd (true≢false e)
-both-false false b e = (refl, e)
 
 -- ---- The checks of the form
 
@@ -93,97 +60,84 @@ unfolding walkPlace
 walk-is t z =
     pick-true (eqb (nextAt t 1) 0) (walkFrom (2 * nodeCount t + 2) t (nodeCount t) 0 (1 ∷ [])) (At 0) (eq-eqb (nextAt t 1) 0 z)
 
+pub head-facts : (t : List ℕ) → passes (headChecks t) ≡ true
+    → ((1 ≤ nodeCount t) × (nodeCount t ≤ maxNodes)) × ((1 ≤ limitOf t) × (limitOf t ≤ maxLimit))
+    × (length t ≡ tableBytes (nodeCount t))
+unfolding Pass headChecks badCount badLimit badLength
+head-facts t e =
+    let p = pass-all (headChecks t) .0 e in (
+      out-of-range (nodeCount t) maxNodes (when-nowhere _ (nodeCount t) (p .1)),
+      out-of-range (limitOf t) maxLimit (when-nowhere _ (limitOf t) (p .2)),
+      eqb-true (length t) (tableBytes (nodeCount t)) (not-false _ (when-nowhere _ (tableBytes (nodeCount t)) (p .3))),
+    )
+
 pub sound-facts : (t : List ℕ) → soundForm t ≡ true → SoundFacts t
-unfolding soundForm formChecks shortTable badCount badLimit badLength noWeight badWalk
-sound-facts t e₁ =
-    let e₂ = passes-rest (shortTable t) (badCount t ∷ badLimit t ∷ badLength t ∷ noWeight t ∷ badWalk t ∷ []) e₁ in
-    let e₃ = passes-rest (badCount t) (badLimit t ∷ badLength t ∷ noWeight t ∷ badWalk t ∷ []) e₂ in
-    let e₄ = passes-rest (badLimit t) (badLength t ∷ noWeight t ∷ badWalk t ∷ []) e₃ in
-    let e₅ = passes-rest (badLength t) (noWeight t ∷ badWalk t ∷ []) e₄ in
-    let e₆ = passes-rest (noWeight t) (badWalk t ∷ []) e₅ in
-    let count =
-    out-of-range (nodeCount t) maxNodes
-    (when-nowhere (eqb (nodeCount t) 0 || ltb maxNodes (nodeCount t)) (nodeCount t)
-    (passes-first (badCount t) (badLimit t ∷ badLength t ∷ noWeight t ∷ badWalk t ∷ []) e₂)) in
-    let limit =
-    out-of-range (limitOf t) maxLimit
-    (when-nowhere (eqb (limitOf t) 0 || ltb maxLimit (limitOf t)) (limitOf t)
-    (passes-first (badLimit t) (badLength t ∷ noWeight t ∷ badWalk t ∷ []) e₃)) in
-    let long : not (eqb (length t) (tableBytes (nodeCount t))) ≡ false =
-    when-nowhere (not (eqb (length t) (tableBytes (nodeCount t)))) (tableBytes (nodeCount t))
-    (passes-first (badLength t) (noWeight t ∷ badWalk t ∷ []) e₄) in
-    let none : Upto (nodeCount t) (λ v. eqb (weightAt t v) 0 ≡ false) =
-    firstTo-nowhere (nodeCount t) (λ v. eqb (weightAt t v) 0) (passes-first (noWeight t) (badWalk t ∷ []) e₅) in
-    let walk : walkPlace t ≡ Nowhere = passes-first (badWalk t) [] e₆ in
-    let alone : nextAt t 1 ≡ 0 = walk-alone t walk in
+unfolding Pass soundForm formChecks nodeChecks noWeight badWalk
+sound-facts t e =
+    let parts = passes-both (headChecks t) (nodeChecks t) e in
+    let h = head-facts t (parts .0) in
+    let p = pass-all (nodeChecks t) .0 (parts .1) in
+    let alone : nextAt t 1 ≡ 0 = walk-alone t (p .1) in
     record {
-      count-low = count .0;
-      count-high = count .1;
-      limit-low = limit .0;
-      limit-high = limit .1;
-      bytes = eqb-true (length t) (tableBytes (nodeCount t)) (not-false (eqb (length t) (tableBytes (nodeCount t))) long);
-      weighs = λ v low high. let nonzero : weightAt t v ≡ 0 → ⊥ = eqb-false (weightAt t v) 0 (none v low high) in omega arith;
+      count-low = h .0 .0;
+      count-high = h .0 .1;
+      limit-low = h .1 .0;
+      limit-high = h .1 .1;
+      bytes = h .2;
+      weighs =
+          λ v low high.
+          let nonzero : weightAt t v ≡ 0 → ⊥ =
+          eqb-false (weightAt t v) 0 (firstTo-nowhere (nodeCount t) (λ u. eqb (weightAt t u) 0) (p .0) v low high) in
+          omega arith;
       root-alone = alone;
-      walks = sym (walk-is t alone) ∙ walk;
+      walks = sym (walk-is t alone) ∙ p .1;
     }
 
+-- facts that are all of the form; the form is more than these where a check looks at something that they leave out
 pub facts-sound : (t : List ℕ) → SoundFacts t → soundForm t ≡ true
-unfolding soundForm formChecks shortTable badCount badLimit badLength noWeight badWalk passes
+unfolding Pass soundForm formChecks headChecks nodeChecks shortTable badCount badLimit badLength noWeight badWalk
 facts-sound t s =
-    passes-cons (shortTable t) (badCount t ∷ badLimit t ∷ badLength t ∷ noWeight t ∷ badWalk t ∷ []) long-enough
-    ∙ passes-cons (badCount t) (badLimit t ∷ badLength t ∷ noWeight t ∷ badWalk t ∷ []) count
-    ∙ passes-cons (badLimit t) (badLength t ∷ noWeight t ∷ badWalk t ∷ []) limit
-    ∙ passes-cons (badLength t) (noWeight t ∷ badWalk t ∷ []) long
-    ∙ passes-cons (noWeight t) (badWalk t ∷ []) weigh
-    ∙ passes-cons (badWalk t) [] (walk-is t (s .root-alone) ∙ s .walks)
-  where
-    long-enough : when (ltb (length t) 4) 0 ≡ Nowhere
-    long-enough = when-false (ltb (length t) 4) 0 (le-ltb (length t) 4 (omega (arith, s .bytes)))
+    both-pass (headChecks t) (nodeChecks t)
+    (pass-all (headChecks t) .1 (
+      when-false (ltb (length t) 4) 0 (le-ltb (length t) 4 (omega (arith, s .bytes))),
+      when-false _ (nodeCount t) (in-range (nodeCount t) maxNodes (s .count-low) (s .count-high)),
+      when-false _ (limitOf t) (in-range (limitOf t) maxLimit (s .limit-low) (s .limit-high)),
+      when-false _ (tableBytes (nodeCount t)) (ap not (eq-eqb (length t) (tableBytes (nodeCount t)) (s .bytes))),
+      tt,
+    ))
+    (pass-all (nodeChecks t) .1 (
+      firstTo-none (nodeCount t) (λ v. eqb (weightAt t v) 0)
+          (λ v low high. ne-eqb (weightAt t v) 0 (λ z. omega (arith, s .weighs v low high))),
+      walk-is t (s .root-alone) ∙ s .walks,
+      tt,
+    ))
 
-    count : when (eqb (nodeCount t) 0 || ltb maxNodes (nodeCount t)) (nodeCount t) ≡ Nowhere
-    count =
-        when-false (eqb (nodeCount t) 0 || ltb maxNodes (nodeCount t)) (nodeCount t)
-        (in-range (nodeCount t) maxNodes (s .count-low) (s .count-high))
+-- ---- Accepted: of sound form, and no node outweighs K
 
-    limit : when (eqb (limitOf t) 0 || ltb maxLimit (limitOf t)) (limitOf t) ≡ Nowhere
-    limit =
-        when-false (eqb (limitOf t) 0 || ltb maxLimit (limitOf t)) (limitOf t)
-        (in-range (limitOf t) maxLimit (s .limit-low) (s .limit-high))
-
-    long : when (not (eqb (length t) (tableBytes (nodeCount t)))) (tableBytes (nodeCount t)) ≡ Nowhere
-    long =
-        when-false (not (eqb (length t) (tableBytes (nodeCount t)))) (tableBytes (nodeCount t))
-        (ap not (eq-eqb (length t) (tableBytes (nodeCount t)) (s .bytes)))
-
-    weigh : firstTo (nodeCount t) (λ v. eqb (weightAt t v) 0) ≡ Nowhere
-    weigh =
-        firstTo-none (nodeCount t) (λ v. eqb (weightAt t v) 0)
-        (λ v low high. ne-eqb (weightAt t v) 0 (λ z. omega (arith, s .weighs v low high)))
-
--- ---- Accepted
-
--- no node outweighs K
-pub heavy-none : (t : List ℕ) → Upto (nodeCount t) (λ v. weightAt t v ≤ limitOf t) ↔ (heavyNode t .place ≡ Nowhere)
-unfolding heavyNode
-heavy-none t = (
-  λ h. firstTo-none (nodeCount t) (λ v. ltb (limitOf t) (weightAt t v))
-      (λ v low high. le-ltb (limitOf t) (weightAt t v) (h v low high)),
+pub light-passes : (t : List ℕ) → (passes (weightChecks t) ≡ true) ↔ Upto (nodeCount t) (λ v. weightAt t v ≤ limitOf t)
+unfolding Pass weightChecks heavyNode
+light-passes t = (
   λ e v low high.
-      ltb-false (limitOf t) (weightAt t v) (firstTo-nowhere (nodeCount t) (λ v. ltb (limitOf t) (weightAt t v)) e v low high),
+      ltb-false (limitOf t) (weightAt t v)
+      (firstTo-nowhere (nodeCount t) (λ u. ltb (limitOf t) (weightAt t u)) (pass-all (weightChecks t) .0 e .0) v low high),
+  λ h. pass-all (weightChecks t) .1
+      (firstTo-none (nodeCount t) (λ v. ltb (limitOf t) (weightAt t v))
+      (λ v low high. le-ltb (limitOf t) (weightAt t v) (h v low high)), tt),
 )
 
-pub accepted-facts : (t : List ℕ) → acceptedTree t ≡ true → AcceptedFacts t
+pub accepted-parts : (t : List ℕ) → acceptedTree t ≡ true → (soundForm t ≡ true) × (passes (weightChecks t) ≡ true)
 unfolding acceptedTree treeChecks soundForm
+accepted-parts t e = passes-both (formChecks t) (weightChecks t) e
+
+pub sound-accepted : (t : List ℕ) → soundForm t ≡ true → Upto (nodeCount t) (λ v. weightAt t v ≤ limitOf t)
+    → acceptedTree t ≡ true
+unfolding acceptedTree treeChecks soundForm
+sound-accepted t e h = both-pass (formChecks t) (weightChecks t) e (light-passes t .1 h)
+
+pub accepted-facts : (t : List ℕ) → acceptedTree t ≡ true → AcceptedFacts t
 accepted-facts t e =
-    let both =
-    both-true (passes (formChecks t)) (passes (heavyNode t ∷ [])) (sym (passes-append (formChecks t) (heavyNode t ∷ [])) ∙ e) in
-    record { sound = sound-facts t (both .0); light = heavy-none t .1 (passes-first (heavyNode t) [] (both .1)) }
+    let parts = accepted-parts t e in
+    record { sound = sound-facts t (parts .0); light = light-passes t .0 (parts .1) }
 
 pub facts-accepted : (t : List ℕ) → AcceptedFacts t → acceptedTree t ≡ true
-unfolding acceptedTree treeChecks soundForm passes
-facts-accepted t a =
-    passes-append (formChecks t) (heavyNode t ∷ []) ∙ ap (λ b. b && passes (heavyNode t ∷ [])) form
-    ∙ passes-cons (heavyNode t) [] (heavy-none t .0 (a .light))
-  where
-    form : passes (formChecks t) ≡ true
-    form = facts-sound t (a .sound)
+facts-accepted t a = sound-accepted t (facts-sound t (a .sound)) (a .light)
