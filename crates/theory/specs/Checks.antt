@@ -8,8 +8,9 @@ use Prim.Native.Nat.{ℕ, _≤_}
 use Rattle.model.specs.Basics.{atPlace, every}
 use Rattle.model.specs.Table.{maxNodes, nodeCount}
 use borrow.Author.Tests.{ltb-false, eq-eqb}
+use Rattle.theory.specs.Bools.{both-true, both-false}
 use Rattle.theory.specs.Ranges.{when-nowhere, append-nil}
-use Rattle.theory.specs.TableFacts.{passes-first, passes-rest, both-true, both-false}
+use Rattle.theory.specs.TableFacts.{passes-first, passes-rest}
 use lib.Dec.{eqb, ltb}
 use Rattle.model.specs.Refusals.{Check, shortTable, badCount, badLimit, badLength, noWeight, badWalk, heavyNode, badMarks, shortScratch, markRefused, pageRefused, badOutput, noArchive, formChecks, treeChecks, planChecks, judgeChecks, writeChecks, readChecks, readTree, passes, accepted, firstOf}
 use Rattle.model.specs.declared.Place.{Place}

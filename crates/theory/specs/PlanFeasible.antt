@@ -16,8 +16,9 @@ use Rattle.model.specs.Plan.{markAt, pageCount, pageWeight, badMark, heavyPage,
 use Rattle.model.specs.Refusals.{passes, treeChecks, badMarks, markRefused, pageRefused, judgeChecks, acceptedTree, feasiblePlan, answerOf, judgePlan}
 use Rattle.model.specs.declared.Place.the-variants.{Nowhere}
 use Rattle.model.specs.declared.Verdict.the-variants.{Feasible}
+use Rattle.theory.specs.Bools.{both-true}
 use Rattle.theory.specs.Ranges.{Upto, when-false, when-nowhere, atPlace-nowhere, firstTo-none, firstTo-nowhere}
-use Rattle.theory.specs.TableFacts.{SoundFacts, AcceptedFacts, accepted-facts, facts-accepted, both-true, passes-first, passes-rest, passes-cons, passes-append}
+use Rattle.theory.specs.TableFacts.{SoundFacts, AcceptedFacts, accepted-facts, facts-accepted, passes-first, passes-rest, passes-cons, passes-append}
 use Rattle.theory.specs.Checks.{firstOf-all}
 use Rattle.theory.specs.PlanShape.{allowed, weighed, AllWithin}
 use Rattle.theory.specs.TableNumbered.{tree-size}

@@ -19,10 +19,10 @@ use Rattle.model.specs.Refusals.{badMarks, shortScratch, scratchWords, treeChec
 use Rattle.model.specs.Demand.{Lowest, PlanLent, PlanPromise, BestPromise}
 use Rattle.model.specs.declared.Answer.{Answer}
 use Rattle.model.specs.declared.Verdict.the-variants.{Feasible}
-use Rattle.theory.specs.Ranges.{bool-cases, pick-true, pick-false, when-false, when-nowhere}
+use Rattle.theory.specs.Bools.{bool-cases, both-true, and-true}
+use Rattle.theory.specs.Ranges.{pick-true, pick-false, when-false, when-nowhere}
 use Rattle.theory.specs.Checks.{lentChecks, firstOf-all, accepted-pass, plan-never, lent-never-seven}
-use Rattle.theory.specs.TableFacts.{AcceptedFacts, accepted-facts, passes-append, passes-cons, passes-first, passes-rest, both-true}
-use Rattle.theory.specs.SiblingsByParent.{and-true}
+use Rattle.theory.specs.TableFacts.{AcceptedFacts, accepted-facts, passes-append, passes-cons, passes-first, passes-rest}
 use Rattle.theory.specs.PlanFeasible.{Judged, judged-answer, judged-feasible}
 use Rattle.theory.specs.PromiseWeight.{weight-promise, seven-tree}
 use Rattle.theory.specs.BestLowest.{best-judged, best-lowest}

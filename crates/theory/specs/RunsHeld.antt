@@ -18,9 +18,10 @@ use Rattle.model.specs.Refusals.{heavyNode, formChecks, treeChecks, soundForm, 
 use Rattle.model.specs.Demand.{HeldWithin}
 use Rattle.model.specs.declared.Place.{Place}
 use Rattle.model.specs.declared.Place.the-variants.{At, Nowhere}
+use Rattle.theory.specs.Bools.{both-true}
 use Rattle.theory.specs.Ranges.{Upto, pick-true, pick-false, atPlace-at, atPlace-nowhere, sumTo-cong, countTo-le, countTo-all, firstTo-none}
 use Rattle.theory.specs.Sums.{sumTo-only, sumTo-one}
-use Rattle.theory.specs.TableFacts.{SoundFacts, sound-facts, accepted-facts, facts-accepted, heavy-none, both-true}
+use Rattle.theory.specs.TableFacts.{SoundFacts, sound-facts, accepted-facts, facts-accepted, heavy-none}
 use Rattle.theory.specs.Checks.{firstOf-pass, firstOf-stop, never-first, form-never-seven}
 use Rattle.theory.specs.PlanPages.{bad-none, good-first, good-later, pageOf-begins}
 use Rattle.theory.specs.Lists.{every-all}

@@ -2,7 +2,7 @@
 -- Defines SoundFacts, AcceptedFacts. Proves that they say what the checks say. Assumes nothing.
 use Prim.Native.Nat.{ℕ, _+_, _*_, _≤_}
 use native.Mathlib.Omega.{arith}
-use mathlib.Core.Bool.{Bool, true, false, not, _&&_, _||_, true≢false, false≢true}
+use mathlib.Core.Bool.{Bool, true, false, not, _&&_, _||_, false≢true}
 use mathlib.Core.Path.{_≡_, refl, sym, _∙_, ap}
 use mathlib.Core.Logic.{_↔_}
 use mathlib.Core.List.{List, [], _∷_, _++_}
@@ -14,6 +14,7 @@ use Rattle.model.specs.Table.{maxNodes, maxLimit, nodeCount, limitOf, weightAt,
 use Rattle.model.specs.Refusals.{Check, passes, formChecks, treeChecks, soundForm, acceptedTree, shortTable, badCount, badLimit, badLength, noWeight, badWalk, heavyNode}
 use Rattle.model.specs.declared.Place.{Place}
 use Rattle.model.specs.declared.Place.the-variants.{At, Nowhere}
+use Rattle.theory.specs.Bools.{both-true, both-false}
 use Rattle.theory.specs.Ranges.{Upto, pick-true, pick-false, when-false, when-nowhere, at-nowhere, atPlace-nowhere, firstTo-none, firstTo-nowhere}
 
 pub record SoundFacts (t : List ℕ) : Type 0 where
@@ -57,14 +58,6 @@ passes-append (c ∷ cs) ds = go (c .place) (passes-append cs ds)
         → atPlace o (λ p. false) (passes (cs ++ ds)) ≡ (atPlace o (λ p. false) (passes cs) && passes ds)
     go (At p) ih = refl
     go Nowhere ih = ih
-
-pub both-true : (a b : Bool) → (a && b) ≡ true → (a ≡ true) × (b ≡ true)
-both-true true b e = (refl, e)
-both-true false b e = absurd (false≢true e)
-
-pub both-false : (a b : Bool) → (a || b) ≡ false → (a ≡ false) × (b ≡ false)
-both-false true b e = absurd (true≢false e)
-both-false false b e = (refl, e)
 
 -- ---- The checks of the form
 
