@@ -13,9 +13,9 @@ use Rattle.model.specs.Basics.{pick, sameList}
 use Rattle.model.specs.Table.{nodeCount, limitOf, tableBytes, slots}
 use Rattle.model.specs.Refusals.{isArchive}
 use Rattle.model.specs.Archive.{parentIn, firstIn, tableIn, marksIn}
-use Rattle.theory.specs.Ranges.{pick-true, pick-false, bool-cases}
+use Rattle.theory.specs.Bools.{bool-cases, and-true, and-false-left, and-false-right}
+use Rattle.theory.specs.Ranges.{pick-true, pick-false}
 use Rattle.theory.specs.ArchiveBack.{sameList-self, sameList-true}
-use Rattle.theory.specs.SiblingsByParent.{and-true, and-false-left, and-false-right}
 use Rattle.archive.specs.Put.{putWord, length-putWord, Starts, starts-none, starts-word}
 use Rattle.archive.specs.Onward.{Linked}
 use Rattle.archive.specs.Decode.{Told, told, told-nodes, Loaded, told-links, told-onward, treeUpto, length-treeUpto, tree-start, tree-told}

@@ -11,10 +11,10 @@ use Rattle.model.specs.Basics.{countTo}
 use Rattle.model.specs.Table.{nodeCount, limitOf, weightAt, labelAt, nextAt}
 use Rattle.model.specs.Plan.{begins, continues, markAt, hasMark, runLast, pageOf, pageCount, pageWeight}
 use Rattle.model.specs.Archive.{nextPage, nextOnPage, archiveBytes}
-use Rattle.theory.specs.TableFacts.{SoundFacts, AcceptedFacts, both-true}
+use Rattle.theory.specs.Bools.{both-true, and-true}
+use Rattle.theory.specs.TableFacts.{SoundFacts, AcceptedFacts}
 use Rattle.theory.specs.PlanPass.{pageOf-le}
 use Rattle.theory.specs.TableLinks.{next-later, next-le}
-use Rattle.theory.specs.SiblingsByParent.{and-true}
 use Rattle.theory.specs.RunsByMarks.{runLast-on, runLast-stop}
 use Rattle.theory.specs.Ranges.{countTo-yes, countTo-no}
 use Rattle.theory.specs.Chosen.{countTo-mono}

@@ -12,8 +12,7 @@ use Rattle.model.specs.Table.{Bytes, nodeCount}
 use Rattle.model.specs.Plan.{verdictOf}
 use Rattle.model.specs.Archive.{archiveOf, tableIn, marksIn}
 use Rattle.model.specs.Refusals.{feasiblePlan, refused, answerOf, Written, writeArchive, isArchive, Restored, readArchive}
-use Rattle.theory.specs.Ranges.{bool-cases}
-use Rattle.theory.specs.SiblingsByParent.{and-false-left, and-false-right}
+use Rattle.theory.specs.Bools.{bool-cases, and-false-left, and-false-right}
 use Rattle.theory.specs.JudgeAnswers.{pageCount-le}
 use Rattle.theory.specs.ArchiveWords.{length-archive, archive-nodes}
 use Rattle.theory.specs.ArchiveBack.{feasible-planned, sameList-true, write-read, read-write}

@@ -15,10 +15,10 @@ use Rattle.model.specs.Basics.{pick, countTo}
 use Rattle.model.specs.Table.{maxNodes, nodeCount, nextAt, slots}
 use Rattle.model.specs.Plan.{prevAt, begins, stays, markAt, hasMark, pageCount, runLast}
 use Rattle.model.specs.Archive.{pagesIn, pageFieldIn}
-use Rattle.theory.specs.Ranges.{Upto, pick-true, pick-false}
+use Rattle.theory.specs.Bools.{and-true, and-false-left, and-false-right}
+use Rattle.theory.specs.Ranges.{Upto, pick-true, pick-false, order-cases}
 use Rattle.theory.specs.TableFacts.{SoundFacts}
 use Rattle.theory.specs.TableLinks.{prevAt-less, prevAt-next, next-prev}
-use Rattle.theory.specs.SiblingsByParent.{order-cases, and-true, and-false-left, and-false-right}
 use Rattle.theory.specs.Chosen.{ranked-one, countTo-mono, countTo-pass}
 use Rattle.theory.specs.RunsByMarks.{good-marks, runLast-on, runLast-stop, runLast-low}
 use Rattle.theory.specs.ArchiveWords.{Page, page-first}

@@ -10,8 +10,8 @@ use lib.Seq.{getD-set-same, getD-set-other}
 use lib.Dec.{eqb, ltb}
 use borrow.Author.Tests.{eqb-true, eqb-false, eq-eqb, ne-eqb, lt-ltb, le-ltb}
 use Rattle.model.specs.Basics.{atPlace, firstTo}
-use Rattle.theory.specs.Ranges.{Upto, atPlace-at, atPlace-nowhere, place-cases, firstTo-none, firstTo-first, firstTo-cong, firstTo-at}
-use Rattle.theory.specs.SiblingsByParent.{and-true, and-false-left, and-false-right, order-cases}
+use Rattle.theory.specs.Bools.{and-true, and-false-left, and-false-right}
+use Rattle.theory.specs.Ranges.{Upto, atPlace-at, atPlace-nowhere, place-cases, firstTo-none, firstTo-first, firstTo-cong, firstTo-at, order-cases}
 use Rattle.model.specs.Table.{slots}
 use Rattle.judge.specs.Rows.{Row}
 use Rattle.model.specs.declared.Place.{Place}

@@ -14,10 +14,10 @@ use Rattle.model.specs.Archive.{archiveOf, archiveBytes, tableIn, marksIn}
 use Rattle.model.specs.Refusals.{Check, badMarks, badOutput, noArchive, judgeChecks, writeChecks, readChecks, passes, feasiblePlan, answerOf, refused, firstOf, judgePlan, Written, writeArchive, isArchive, readArchive}
 use Rattle.model.specs.declared.Place.the-variants.{At, Nowhere}
 use Rattle.model.specs.declared.Answer.{Answer}
-use Rattle.theory.specs.Ranges.{pick-true, pick-false, when-true, when-false, when-nowhere, atPlace-at, atPlace-nowhere, bool-cases}
-use Rattle.theory.specs.TableFacts.{passes-cons, passes-first, passes-append, both-true}
+use Rattle.theory.specs.Bools.{bool-cases, both-true, and-true, and-false-left, and-false-right}
+use Rattle.theory.specs.Ranges.{pick-true, pick-false, when-true, when-false, when-nowhere, atPlace-at, atPlace-nowhere}
+use Rattle.theory.specs.TableFacts.{passes-cons, passes-first, passes-append}
 use Rattle.theory.specs.Checks.{firstOf-pass, firstOf-stop, firstOf-all, accepted-pass, never-first, judge-never, write-never, read-never}
-use Rattle.theory.specs.SiblingsByParent.{and-true, and-false-left, and-false-right}
 use Rattle.theory.specs.PlanFeasible.{feasible-judged, judged-answer}
 use Rattle.theory.specs.ArchiveWords.{length-archive}
 use Rattle.theory.specs.ArchiveBack.{sameList-true}

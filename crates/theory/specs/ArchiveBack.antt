@@ -18,10 +18,11 @@ use Rattle.model.specs.Archive.{archiveOf, pagesIn, pageFieldIn, nodeFieldIn, p
 use Rattle.model.specs.Refusals.{feasiblePlan, isArchive}
 use Rattle.model.specs.declared.Place.{Place}
 use Rattle.model.specs.declared.Place.the-variants.{At, Nowhere}
+use Rattle.theory.specs.Bools.{both-true, and-true, and-false-left}
 use Rattle.theory.specs.Ranges.{Upto, pick-true, pick-false, atPlace-at, atPlace-nowhere, place-cases, countTo-none, firstTo-cong, firstTo-at, firstTo-nowhere, listTo-cong, length-listTo, getD-listTo}
-use Rattle.theory.specs.TableFacts.{SoundFacts, both-true}
+use Rattle.theory.specs.TableFacts.{SoundFacts}
 use Rattle.theory.specs.Chosen.{countTo-mono, countTo-pass, countTo-some}
-use Rattle.theory.specs.SiblingsByParent.{and-true, and-false-left, first-by-parent, next-by-parent}
+use Rattle.theory.specs.SiblingsByParent.{first-by-parent, next-by-parent}
 use Rattle.theory.specs.RunsByMarks.{GoodMarks, good-marks, InRunOf, in-run-of, runLast-marks}
 use Rattle.theory.specs.TableEncoded.{word-small}
 use Rattle.theory.specs.ArchiveWords.{getD-fours, length-fours, words-tell, Words, words-bytes, words-cons, words-nil, words-listTo, Page, page-first, archive-nodes, archive-limit, archive-pages, archive-page, archive-node, archive-parent}

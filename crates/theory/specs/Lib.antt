@@ -1,5 +1,6 @@
 -- Laws about the definitions of document 01, by group, each file after those that it rests on.
--- Numbers 1 to n, and lists
+-- Bools, numbers 1 to n, and lists
+pub mod Bools
 pub mod Ranges
 pub mod Sums
 pub mod Chosen

@@ -8,9 +8,9 @@ use mathlib.Core.Logic.{_⊎_, inl, inr}
 use mathlib.Core.List.{List, [], _∷_, _++_, List·Memᴰ, List·Memᴰ·head, List·Memᴰ·tail, List·Memᴰ·not-nil, List·Memᴰ·append-cases, List·Memᴰ·eq-of-singleton, Memᴰ·append-left, Memᴰ·append-right}
 use Rattle.model.specs.Basics.{countTo, every}
 use Rattle.model.specs.Runs.{countOf}
+use Rattle.theory.specs.Bools.{both-true}
 use Rattle.theory.specs.Ranges.{upto-suc, pick-true, pick-false, countTo-zero, countTo-yes, countTo-no}
 use Rattle.theory.specs.Chosen.{chosen, chosen-zero, chosen-yes, chosen-no}
-use Rattle.theory.specs.TableFacts.{both-true}
 
 abbrev pub Mem {ℓ} : {X : Type ℓ} → X → List X → Type ℓ
 Mem x xs = List·Memᴰ x xs

@@ -14,6 +14,7 @@ use borrow.Author.Tests.{eq-eqb, ne-eqb}
 use Rattle.model.specs.Basics.{pick, sumTo, countTo}
 use Rattle.model.specs.Table.{nodeCount, weightAt, labelAt, firstAt, nextAt, Chain, end, node, treeOf}
 use Rattle.model.specs.Plan.{prevAt, parentAt, begins, markAt, hasMark, pageOf, pageCount, pageWeight}
+use Rattle.theory.specs.Bools.{three-true}
 use Rattle.theory.specs.Ranges.{pick-true, pick-false, sumTo-zero, sumTo-suc, countTo-zero, countTo-yes, countTo-no}
 use Rattle.theory.specs.Sums.{pick-add, pick-none}
 use Rattle.theory.specs.TableFacts.{SoundFacts}
@@ -22,7 +23,7 @@ use Rattle.theory.specs.TableNumbered.{Numbered, none, some, numbered-si
 use Rattle.theory.specs.TableLinks.{next-prev, first-prev, next-parent, first-parent, prevAt-one, parentAt-one}
 use Rattle.theory.specs.PlanPass.{pageOf-none}
 use Rattle.theory.specs.PlanPages.{pageOf-begins, pageOf-continues, pageOf-stays}
-use Rattle.theory.specs.PlanMarks.{weighed-from, allowed-from, allowed-parts}
+use Rattle.theory.specs.PlanMarks.{weighed-from, allowed-from}
 
 -- ---- What page x weighs, where the pages of a list are numbered from n + 1
 
@@ -206,7 +207,7 @@ module _ {t : List ℕ} (s : SoundFacts t) (m : List ℕ) (long : length m ≡ n
       let w : ℕ = weightAt t (suc v) in
       let l : ℕ = labelAt t (suc v) in
       let parts =
-      allowed-parts (allowedMark run (markAt m (suc v))) (allowed false kids (drop (suc v) m))
+      three-true (allowedMark run (markAt m (suc v))) (allowed false kids (drop (suc v) m))
       (allowed (runs (markAt m (suc v))) next (drop e₁ m))
       (sym (allowed-from m v w l kids next e₁ (numbered-size k) inside run) ∙ ok) in
       let below : Adds t m (suc v) e₁ (pageOf t m (suc v)) 0 (weighed kids (drop (suc v) m)) =

@@ -16,6 +16,7 @@ use Rattle.model.specs.Basics.{pick}
 use Rattle.model.specs.Table.{nodeCount, weightAt, labelAt, firstAt, nextAt, Chain, end, node, treeOf}
 use Rattle.model.specs.Plan.{prevAt, markAt, inRun, goodMark, badMark}
 use Rattle.model.specs.declared.Place.the-variants.{Nowhere}
+use Rattle.theory.specs.Bools.{three-true}
 use Rattle.theory.specs.Ranges.{Upto}
 use Rattle.theory.specs.TableFacts.{SoundFacts}
 use Rattle.theory.specs.PlanShape.{size, runs, allowedMark, allowed, joined, weighed}
@@ -42,11 +43,6 @@ module _ (m : List ℕ) (v w l : ℕ) (kids next : Chain) (last : ℕ) (ends : l
       && allowed (runs (markAt m (suc v))) next (drop last m))
   unfolding allowed
   allowed-from after = rw (marks-from m v inside, drop-drop (size kids) (suc v) m, ends)
-
-pub allowed-parts : (a b c : Bool) → (a && b && c) ≡ true → (a ≡ true) × (b ≡ true) × (c ≡ true)
-allowed-parts true true c e = (refl, refl, e)
-allowed-parts true false c e = absurd (false≢true e)
-allowed-parts false b c e = absurd (false≢true e)
 
 -- ---- Good marks are allowed marks
 
@@ -122,7 +118,7 @@ module _ {t : List ℕ} (s : SoundFacts t) (m : List ℕ) (long : length m ≡ n
   chain-good (some {m = v} {e₁ = e₁} {e₂ = e₂} {kids = kids} {next = next} k r) after low high before ok =
       let le : suc v ≤ e₁ = numbered-le k in
       let le′ : e₁ ≤ e₂ = numbered-le r in
-      let parts = allowed-parts (allowedMark after (markAt m (suc v))) (allowed false kids (drop (suc v) m))
+      let parts = three-true (allowedMark after (markAt m (suc v))) (allowed false kids (drop (suc v) m))
       (allowed (runs (markAt m (suc v))) next (drop e₁ m))
       (sym (allowed-from m v (weightAt t (suc v)) (labelAt t (suc v)) kids next e₁ (numbered-size k) (omega arith) after) ∙ ok) in
       between-join (λ x. goodMark t m x ≡ true) v e₁ e₂
@@ -142,7 +138,7 @@ module _ {t : List ℕ} (s : SoundFacts t) (m : List ℕ) (long : length m ≡ n
         (λ x a b. good x (omega arith) b) in
         (one, tree ∙ rw (one, below)),
     λ h.
-        let parts = allowed-parts (allowedMark false (markAt m 1)) (allowed false kids (drop 1 m)) true (sym tree ∙ h .1) in
+        let parts = three-true (allowedMark false (markAt m 1)) (allowed false kids (drop 1 m)) true (sym tree ∙ h .1) in
         bad-none t m .1
         (λ v low high.
         all v low high

@@ -14,10 +14,11 @@ use Rattle.model.specs.Basics.{pick, sumTo, countTo}
 use Rattle.model.specs.Table.{nodeCount, weightAt}
 use Rattle.model.specs.Plan.{prevAt, parentAt, begins, continues, stays, markAt, hasMark, inRun, goodMark, pageOf, pageCount, pageWeight, badMark}
 use Rattle.model.specs.declared.Place.the-variants.{Nowhere}
+use Rattle.theory.specs.Bools.{both-true}
 use Rattle.theory.specs.Ranges.{Upto, pick-true, pick-false, sumTo-cong, countTo-zero, countTo-yes, firstTo-none, firstTo-nowhere, First}
 use Rattle.theory.specs.Sums.{sumTo-swap, sumTo-only}
 use Rattle.theory.specs.Chosen.{countTo-mono, countTo-pass, countTo-same, ranked}
-use Rattle.theory.specs.TableFacts.{SoundFacts, both-true}
+use Rattle.theory.specs.TableFacts.{SoundFacts}
 use Rattle.theory.specs.TableLinks.{prevAt-less, parent-low}
 use Rattle.theory.specs.PlanPass.{stepBack, back-less, pageOf-step}
 

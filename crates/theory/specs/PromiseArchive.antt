@@ -17,7 +17,8 @@ use Rattle.model.specs.declared.Verdict.the-variants.{Feasible, Failed}
 use Rattle.model.specs.declared.Beside.{Beside}
 use Rattle.model.specs.declared.Beside.the-variants.{Given, Nothing}
 use Rattle.model.specs.declared.Answer.{Answer}
-use Rattle.theory.specs.Ranges.{bool-cases, pick-false}
+use Rattle.theory.specs.Bools.{bool-cases}
+use Rattle.theory.specs.Ranges.{pick-false}
 use Rattle.theory.specs.TableFacts.{facts-accepted}
 use Rattle.theory.specs.Checks.{firstOf-all}
 use Rattle.theory.specs.PlanFeasible.{Judged, feasible-judged, judged-verdict}

@@ -8,8 +8,8 @@ use mathlib.Core.Logic.{_⊎_, inl, inr}
 use mathlib.Core.List.{List, [], _∷_, _++_}
 use lib.ListN.{length, getD, length-append, List·getD-append}
 use lib.Seq.{getD-append-seam}
-use lib.Dec.{leb}
-use borrow.Author.Tests.{leb-true, leb-false}
+use lib.Dec.{leb, ltb}
+use borrow.Author.Tests.{leb-true, leb-false, ltb-true, ltb-false}
 use Rattle.model.specs.Basics.{pick, when, atPlace, sumTo, countTo, firstTo, lastTo, listTo}
 use Rattle.model.specs.declared.Place.{Place}
 use Rattle.model.specs.declared.Place.the-variants.{At, Nowhere}
@@ -71,12 +71,16 @@ pub place-cases : (o : Place) → ((p : ℕ) × (o ≡ At p)) ⊎ (o ≡ Nowhere
 place-cases (At p) = inl (p, refl)
 place-cases Nowhere = inr refl
 
--- a Bool is true or false
-pub bool-cases : (b : Bool) → (b ≡ true) ⊎ (b ≡ false)
-bool-cases true = inl refl
-bool-cases false = inr refl
-
 -- ---- The numbers 1 to n
+
+-- two numbers in order
+pub order-cases : (a b : ℕ) → (a < b) ⊎ ((a ≡ b) ⊎ (b < a))
+order-cases a b = go (ltb a b) refl (ltb b a) refl
+  where
+    go : (x : Bool) → ltb a b ≡ x → (y : Bool) → ltb b a ≡ y → (a < b) ⊎ ((a ≡ b) ⊎ (b < a))
+    go true e y h = inl (ltb-true a b e)
+    go false e true h = inr (inr (ltb-true b a h))
+    go false e false h = inr (inl (omega (arith, ltb-false a b e, ltb-false b a h)))
 
 abbrev pub Upto {ℓ} : ℕ → (ℕ → Type ℓ) → Type ℓ
 Upto n P = (v : ℕ) → 1 ≤ v → v ≤ n → P v

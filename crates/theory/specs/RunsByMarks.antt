@@ -3,7 +3,7 @@
 -- Defines GoodMarks, InRunOf. Proves good-marks, in-run-of, runLast-low, runLast-marks, runLast-on, runLast-stop. Assumes nothing.
 use Prim.Native.Nat.{ℕ, _≤_, _<_}
 use native.Mathlib.Omega.{arith}
-use mathlib.Core.Bool.{Bool, true, false, _||_}
+use mathlib.Core.Bool.{Bool, true, false}
 use mathlib.Core.Path.{_≡_, refl, sym, _∙_, ap}
 use mathlib.Core.Logic.{_⊎_, inl, inr}
 use mathlib.Core.List.{List}
@@ -12,6 +12,7 @@ use borrow.Author.Tests.{eqb-true, eqb-false, eq-eqb}
 use Rattle.model.specs.Table.{nodeCount, nextAt}
 use Rattle.model.specs.Plan.{prevAt, parentAt, stays, begins, continues, markAt, hasMark, inRun, goodMark, badMark, runLast}
 use Rattle.model.specs.declared.Place.the-variants.{Nowhere}
+use Rattle.theory.specs.Bools.{either-true}
 use Rattle.theory.specs.Ranges.{Upto, pick-false}
 use Rattle.theory.specs.TableFacts.{SoundFacts}
 use Rattle.theory.specs.TableLinks.{next-le}
@@ -26,10 +27,6 @@ pub record GoodMarks (t m : List ℕ) : Type 0 where
   pub few : Upto (nodeCount t) (λ v. markAt m v ≤ 2)
   pub before : Upto (nodeCount t) (λ v. markAt m v ≡ 2 → 1 ≤ prevAt t v)
   pub runs-on : Upto (nodeCount t) (λ v. markAt m v ≡ 2 → (markAt m (prevAt t v) ≡ 1) ⊎ (markAt m (prevAt t v) ≡ 2))
-
-either-true : (a b : Bool) → (a || b) ≡ true → (a ≡ true) ⊎ (b ≡ true)
-either-true true b e = inl refl
-either-true false b e = inr e
 
 inRun-cases : (m : List ℕ) (v : ℕ) → inRun m v ≡ true → (markAt m v ≡ 1) ⊎ (markAt m v ≡ 2)
 unfolding inRun

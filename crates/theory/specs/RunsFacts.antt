@@ -14,8 +14,9 @@ use Rattle.model.specs.Plan.{parentAt}
 use Rattle.model.specs.Runs.{Run, comesAfter, isRun, isMember, rootRun, isRootRun, countOf, inOneAtMost, holds, runWith, homeFrom, homeOf}
 use Rattle.model.specs.declared.Place.{Place}
 use Rattle.model.specs.declared.Place.the-variants.{At, Nowhere}
+use Rattle.theory.specs.Bools.{both-true}
 use Rattle.theory.specs.Ranges.{Upto, pick-true, pick-false, at-nowhere, at-same, atPlace-at, atPlace-nowhere, countTo-all, countTo-full}
-use Rattle.theory.specs.TableFacts.{SoundFacts, both-true}
+use Rattle.theory.specs.TableFacts.{SoundFacts}
 use Rattle.theory.specs.TableLinks.{parentAt-none, parentAt-less, parent-low}
 use Rattle.theory.specs.SiblingChains.{After, here, reach-le, comesAfter-after, after-comesAfter}
 use Rattle.theory.specs.Lists.{Mem, every-all, all-every, countOf-some, countOf-find, countOf-one}

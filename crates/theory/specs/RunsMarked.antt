@@ -14,8 +14,9 @@ use Rattle.model.specs.Table.{nodeCount, nextAt}
 use Rattle.model.specs.Plan.{prevAt, badMark, begins, continues, markAt, hasMark, inRun, pageCount, runLastFrom, runLast}
 use Rattle.model.specs.Runs.{Run, isMember, runsOf}
 use Rattle.model.specs.declared.Place.the-variants.{Nowhere}
+use Rattle.theory.specs.Bools.{both-true}
 use Rattle.theory.specs.Ranges.{pick-true, pick-false}
-use Rattle.theory.specs.TableFacts.{SoundFacts, both-true}
+use Rattle.theory.specs.TableFacts.{SoundFacts}
 use Rattle.theory.specs.TableLinks.{next-later, next-le, prevAt-less, prevAt-next}
 use Rattle.theory.specs.PlanPages.{good-node, good-continues, good-after}
 use Rattle.theory.specs.SiblingChains.{Reach, here, step, Before, reach-trans, reach-one, reach-after, reach-last, reach-stop, reach-stop-one, reach-common, reach-between}

@@ -14,12 +14,13 @@ use Rattle.model.specs.Table.{nodeCount, limitOf, weightAt, nextAt}
 use Rattle.model.specs.Plan.{prevAt, parentAt, begins, continues, hasMark, inRun, pageOf, pageCount, pageWeight, badMark, heavyPage}
 use Rattle.model.specs.Runs.{Run, isMember, rootRun, countOf, holds, runWith, homeOf, runWeight, withinLimit, rootWeight, runsOf}
 use Rattle.model.specs.declared.Place.the-variants.{At, Nowhere}
+use Rattle.theory.specs.Bools.{both-true, same-true}
 use Rattle.theory.specs.Ranges.{sumTo-cong, countTo-zero, countTo-yes, countTo-none, firstTo-none, firstTo-nowhere}
 use Rattle.theory.specs.Chosen.{countTo-mono, countTo-some, ranked, countTo-same, countTo-only}
-use Rattle.theory.specs.TableFacts.{SoundFacts, both-true}
+use Rattle.theory.specs.TableFacts.{SoundFacts}
 use Rattle.theory.specs.TableLinks.{prevAt-less, prevAt-next, parentAt-less, parent-low}
 use Rattle.theory.specs.PlanPages.{pageOf-begins, pageOf-continues, pageOf-stays, good-node, good-continues, good-after, root-begins}
-use Rattle.theory.specs.SiblingChains.{here, reach-trans, reach-one, same-true}
+use Rattle.theory.specs.SiblingChains.{here, reach-trans, reach-one}
 use Rattle.theory.specs.Lists.{Mem, every-all, all-every, From, chosen-from, chosen-mem, countOf-chosen}
 use Rattle.theory.specs.RunsFacts.{run-path, none-runWith, HoldFacts, facts-holds, runWith-at, runWith-zero, home-run, home-up}
 use Rattle.theory.specs.RunsMarked.{Goes, Headed, headed, runAt, runsOf-chosen, neither-inRun, ends-runLast, runAt-facts, goes-member, member-goes, goes-inRun, goes-one}

@@ -12,7 +12,8 @@ use borrow.Author.Tests.{eqb-true, eqb-false, eq-eqb, ne-eqb, not-true}
 use Rattle.model.specs.Table.{nodeCount, nextAt}
 use Rattle.model.specs.Plan.{prevAt, parentAt}
 use Rattle.model.specs.Runs.{comesFrom, comesAfter}
-use Rattle.theory.specs.TableFacts.{SoundFacts, both-true}
+use Rattle.theory.specs.Bools.{both-true}
+use Rattle.theory.specs.TableFacts.{SoundFacts}
 use Rattle.theory.specs.TableLinks.{next-later, next-le, next-one, next-prev, next-parent}
 
 pub data Reach (t : List ℕ) (P : ℕ → Type 0) : ℕ → ℕ → Type 0 where
@@ -21,12 +22,6 @@ pub data Reach (t : List ℕ) (P : ℕ → Type 0) : ℕ → ℕ → Type 0 wher
 
 abbrev pub After : List ℕ → ℕ → ℕ → Type 0
 After t = Reach t (λ v. Unit {0})
-
--- two tests that pass together are the same
-pub same-true : (a b : Bool) → (a ≡ true → b ≡ true) → (b ≡ true → a ≡ true) → a ≡ b
-same-true true b f g = sym (f refl)
-same-true false true f g = g refl
-same-true false false f g = refl
 
 -- ---- In any table
 

@@ -1,6 +1,6 @@
 -- Brothers of a table of sound form: a later node with the same parent comes after it in the chain (sibling-after). So the next sibling
 -- of a node is the next node with its parent (next-by-parent), and its first child is the node after it where that has it for its parent
--- (first-by-parent). And tests of two Bools, and two numbers in order (order-cases). Assumes nothing.
+-- (first-by-parent). Assumes nothing.
 use Prim.Native.Nat.{ℕ, zero, suc, _+_, _≤_, _<_}
 use native.Mathlib.Omega.{arith}
 use mathlib.Core.Bool.{Bool, true, false, _&&_}
@@ -8,33 +8,15 @@ use mathlib.Core.Path.{_≡_, refl, sym, _∙_, ap}
 use mathlib.Core.Logic.{_⊎_, inl, inr}
 use mathlib.Core.List.{List}
 use lib.Dec.{eqb, ltb}
-use borrow.Author.Tests.{eqb-true, eqb-false, eq-eqb, ltb-true, ltb-false, lt-ltb}
+use borrow.Author.Tests.{eqb-true, eqb-false, eq-eqb, ltb-true, lt-ltb}
 use Rattle.model.specs.Basics.{pick, atPlace, firstTo}
 use Rattle.model.specs.Table.{nodeCount, firstAt, nextAt}
 use Rattle.model.specs.Plan.{prevAt, parentAt}
-use Rattle.theory.specs.Ranges.{pick-true, pick-false, atPlace-at, atPlace-nowhere, firstTo-none, firstTo-first}
-use Rattle.theory.specs.TableFacts.{SoundFacts, both-true}
+use Rattle.theory.specs.Bools.{and-true, and-false-left, and-false-right, both-true}
+use Rattle.theory.specs.Ranges.{order-cases, pick-true, pick-false, atPlace-at, atPlace-nowhere, firstTo-none, firstTo-first}
+use Rattle.theory.specs.TableFacts.{SoundFacts}
 use Rattle.theory.specs.SiblingChains.{After, reach-first, reach-one, reach-trans, reach-le}
 use Rattle.theory.specs.TableLinks.{Source, next-le, first-step, first-cases, next-cases, linked, prevAt-less, prevAt-next, parentAt-later, parentAt-less, next-parent, first-parent, parent-low, parent-first}
-
-pub and-false-left : (a b : Bool) → a ≡ false → (a && b) ≡ false
-and-false-left a b e = rw e
-
-pub and-false-right : (a b : Bool) → b ≡ false → (a && b) ≡ false
-and-false-right true b e = e
-and-false-right false b e = refl
-
-pub and-true : (a b : Bool) → a ≡ true → b ≡ true → (a && b) ≡ true
-and-true a b e h = rw (e, h)
-
--- two numbers in order
-pub order-cases : (a b : ℕ) → (a < b) ⊎ ((a ≡ b) ⊎ (b < a))
-order-cases a b = go (ltb a b) refl (ltb b a) refl
-  where
-    go : (x : Bool) → ltb a b ≡ x → (y : Bool) → ltb b a ≡ y → (a < b) ⊎ ((a ≡ b) ⊎ (b < a))
-    go true e y h = inl (ltb-true a b e)
-    go false e true h = inr (inr (ltb-true b a h))
-    go false e false h = inr (inl (omega (arith, ltb-false a b e, ltb-false b a h)))
 
 module _ {t : List ℕ} (s : SoundFacts t) where
   abbrev Follows : ℕ → ℕ → Type 0

@@ -13,9 +13,10 @@ use Rattle.model.specs.Basics.{pick, when}
 use Rattle.model.specs.Table.{nodeCount, limitOf, weightAt, labelAt, firstAt, nextAt, walkFrom, Chain, end, node, chainFrom, treeOf}
 use Rattle.model.specs.declared.Place.{Place}
 use Rattle.model.specs.declared.Place.the-variants.{At, Nowhere}
+use Rattle.theory.specs.Bools.{both-true}
 use Rattle.theory.specs.PlanShape.{size, EachWithin, Positive}
 use Rattle.theory.specs.Ranges.{pick-true, pick-false, when-false, when-nowhere, at-nowhere}
-use Rattle.theory.specs.TableFacts.{SoundFacts, AcceptedFacts, both-true}
+use Rattle.theory.specs.TableFacts.{SoundFacts, AcceptedFacts}
 
 pub data Numbered (t : List ℕ) : ℕ → ℕ → Chain → ℕ → Type 0 where
   none : {m : ℕ} → Numbered t m 0 end m
