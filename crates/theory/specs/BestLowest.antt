@@ -9,7 +9,7 @@ use mathlib.Core.List.{List, []}
 use native.Mathlib.Omega.{arith}
 use lib.ListN.{length, getD}
 use Rattle.model.specs.Table.{Chain, end, node, limitOf, treeOf, weightAt, labelAt}
-use Rattle.model.specs.Plan.{markAt, pageCount, pageWeight}
+use Rattle.model.specs.Plan.{markAt, pageCount, pageWeight, verdictOf}
 use Rattle.model.specs.Runs.{runsOf}
 use Rattle.model.specs.Steps.{Entry, entryAt, childrenOf, bestMarks, levelMarks, singleMarks, pairMarks}
 use Rattle.model.specs.Refusals.{answerOf, judgePlan}

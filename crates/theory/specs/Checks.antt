@@ -26,7 +26,7 @@ use Rattle.theory.specs.Bools.{both-true, and-true}
 
 -- no check's condition holds
 unfoldable pub Pass : List Check → Type 0
-Pass [] = ⊤
+Pass [] = Unit {0}
 Pass (c ∷ cs) = (c .place ≡ Nowhere) × Pass cs
 
 pub pass-all : (cs : List Check) → (passes cs ≡ true) ↔ Pass cs
@@ -107,12 +107,12 @@ firstOf-append (c ∷ cs) ds a = ap (atPlace (c .place) (c .answer)) (firstOf-ap
 abbrev pub Never : ℕ → List Check → Type 0
 Never n cs = (p : ℕ) → every (λ c. not (eqb (c .answer p .number) n)) cs ≡ true
 
-pub never-append : {n : ℕ} (cs ds : List Check) → Never n cs → Never n ds → Never n (cs ++ ds)
+pub never-append : (n : ℕ) (cs ds : List Check) → Never n cs → Never n ds → Never n (cs ++ ds)
 unfolding every
-never-append [] ds h k = k
-never-append {n} (c ∷ cs) ds h k p =
+never-append n [] ds h k p = k p
+never-append n (c ∷ cs) ds h k p =
     let b = both-true (not (eqb (c .answer p .number) n)) (every (λ d. not (eqb (d .answer p .number) n)) cs) (h p) in
-    and-true _ _ (b .0) (never-append cs ds (λ q. rest q) k p)
+    and-true _ _ (b .0) (never-append n cs ds rest k p)
   where
     rest : Never n cs
     rest q = both-true (not (eqb (c .answer q .number) n)) (every (λ d. not (eqb (d .answer q .number) n)) cs) (h q) .1
@@ -153,7 +153,7 @@ abbrev pub Plain : List Check → Type 0
 Plain cs = Never 0 cs × Never 7 cs
 
 plain-append : (cs ds : List Check) → Plain cs → Plain ds → Plain (cs ++ ds)
-plain-append cs ds h k = (never-append cs ds (h .0) (k .0), never-append cs ds (h .1) (k .1))
+plain-append cs ds h k = (never-append 0 cs ds (h .0) (k .0), never-append 7 cs ds (h .1) (k .1))
 
 pub head-plain : (t : List ℕ) → Plain (headChecks t)
 unfolding every headChecks shortTable badCount badLimit badLength
@@ -194,19 +194,19 @@ form-plain t = plain-append (headChecks t) (nodeChecks t) (head-plain t) (node-p
 
 pub tree-never : (t : List ℕ) → Never 0 (treeChecks t)
 unfolding treeChecks
-tree-never t = never-append (formChecks t) (weightChecks t) (form-plain t .0) (weight-never t)
+tree-never t = never-append 0 (formChecks t) (weightChecks t) (form-plain t .0) (weight-never t)
 
 pub plan-never : (t m s : List ℕ) → Never 0 (planChecks t m s)
 unfolding planChecks
-plan-never t m s = never-append (treeChecks t) (lentChecks t m s) (tree-never t) (lent-plain t m s .0)
+plan-never t m s = never-append 0 (treeChecks t) (lentChecks t m s) (tree-never t) (lent-plain t m s .0)
 
 pub judge-never : (t m : List ℕ) → Never 0 (judgeChecks t m)
 unfolding judgeChecks
-judge-never t m = never-append (treeChecks t) (markChecks t m) (tree-never t) (mark-plain t m .0)
+judge-never t m = never-append 0 (treeChecks t) (markChecks t m) (tree-never t) (mark-plain t m .0)
 
 pub write-never : (e : Edition) (t m out : List ℕ) → Never 0 (writeChecks e t m out)
 unfolding writeChecks
-write-never e t m out = never-append (judgeChecks t m) (filmChecks e t m out) (judge-never t m) (film-plain e t m out .0)
+write-never e t m out = never-append 0 (judgeChecks t m) (filmChecks e t m out) (judge-never t m) (film-plain e t m out .0)
 
 pub read-never : (e : Edition) (a t m : List ℕ) → Never 0 (readChecks e a t m)
 unfolding every readChecks backChecks noArchive badOutput badMarks

@@ -71,20 +71,16 @@ feasible-judged t m e =
     record {
       tree = accepted-facts t (parts .0);
       long = eqb-true (length m) (nodeCount t) (not-false _ (when-nowhere _ (nodeCount t) (p .0)));
-      marked = p .1;
-      light = p .2;
+      marked = p .1 .0;
+      light = p .1 .1 .0;
     }
 
 pub judged-feasible : {t m : List ℕ} → acceptedTree t ≡ true → Judged t m → feasiblePlan t m ≡ true
 unfolding Pass feasiblePlan judgeChecks acceptedTree markChecks badMarks markRefused pageRefused
 judged-feasible {t} {m} e j =
     both-pass (treeChecks t) (markChecks t m) e
-    (pass-all (markChecks t m) .1 (
-      when-false _ (nodeCount t) (ap not (eq-eqb (length m) (nodeCount t) (j .long))),
-      j .marked,
-      j .light,
-      tt,
-    ))
+    (pass-all (markChecks t m) .1
+    (when-false _ (nodeCount t) (ap not (eq-eqb (length m) (nodeCount t) (j .long))), (j .marked, (j .light, tt))))
 
 pub judged-verdict : {t m : List ℕ} → Judged t m → verdictOf t m ≡ Feasible (pageCount t m) (pageWeight t m 1)
 unfolding verdictOf

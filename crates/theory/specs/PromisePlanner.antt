@@ -20,7 +20,8 @@ use Rattle.model.specs.Refusals.{feasiblePlan, answerOf, accepted, firstOf, rea
 use Rattle.model.specs.Demand.{Lowest, PlanLent, PlanPromise, BestPromise}
 use Rattle.model.specs.declared.Answer.{Answer}
 use Rattle.model.specs.declared.Verdict.the-variants.{Feasible}
-use Rattle.theory.specs.Ranges.{bool-cases, pick-true, pick-false, when-false, when-nowhere}
+use Rattle.theory.specs.Ranges.{pick-true, pick-false, when-false, when-nowhere}
+use Rattle.theory.specs.Bools.{bool-cases}
 use Rattle.theory.specs.Checks.{Pass, pass-all, passes-both, both-pass, firstOf-all, accepted-pass, plan-never, lent-plain}
 use Rattle.theory.specs.TableFacts.{AcceptedFacts, accepted-facts}
 use Rattle.theory.specs.PlanFeasible.{Judged, judged-feasible, feasible-judge}
@@ -40,9 +41,11 @@ module _ (t m s : List ℕ) where
       both-pass (treeChecks t) (lentChecks t m s) (r .tree)
       (pass-all (lentChecks t m s) .1 (
         when-false _ (nodeCount t) (ap not (eq-eqb (length m) (nodeCount t) (r .marks))),
-        when-false _ (scratchWords (nodeCount t) (limitOf t)) (le-ltb (length s) (scratchWords (nodeCount t) (limitOf t)) (r .scratch)),
-        tt,
+        (when-false _ words (le-ltb (length s) words (r .scratch)), tt),
       ))
+    where
+      words : ℕ
+      words = scratchWords (nodeCount t) (limitOf t)
 
   pub passes-lent : passes (planChecks t m s) ≡ true → PlanLent t m s
   unfolding Pass lentChecks badMarks shortScratch
@@ -54,7 +57,7 @@ module _ (t m s : List ℕ) where
         marks = eqb-true (length m) (nodeCount t) (not-false _ (when-nowhere _ (nodeCount t) (p .0)));
         scratch =
             ltb-false (length s) (scratchWords (nodeCount t) (limitOf t))
-            (when-nowhere _ (scratchWords (nodeCount t) (limitOf t)) (p .1));
+            (when-nowhere _ (scratchWords (nodeCount t) (limitOf t)) (p .1 .0));
       }
 
 -- ---- What a planner leaves

@@ -61,5 +61,5 @@ module _ (t m : List ℕ) where
       weight-promise t (writeArchive e t m out .answer)
       (rw (append-assoc (treeChecks t) (markChecks t m) (filmChecks e t m out))
       (seven-tree t (markChecks t m ++ filmChecks e t m out) (answerOf (verdictOf t m))
-      (never-append (markChecks t m) (filmChecks e t m out) (mark-plain t m .1) (film-plain e t m out .1))
+      (never-append 7 (markChecks t m) (filmChecks e t m out) (mark-plain t m .1) (film-plain e t m out .1))
       (verdict-never-seven (verdictOf t m))))

@@ -22,6 +22,7 @@ use Rattle.model.specs.declared.Answer.{Answer}
 use Rattle.theory.specs.Ranges.{Upto, pick-true, pick-false, sumTo-cong, countTo-le, countTo-all, firstTo-none}
 use Rattle.theory.specs.Sums.{sumTo-only, sumTo-one}
 use Rattle.theory.specs.TableFacts.{SoundFacts, sound-facts, accepted-facts, sound-accepted}
+use Rattle.theory.specs.Bools.{both-true}
 use Rattle.theory.specs.Checks.{passes-append, firstOf-pass, firstOf-stop, firstOf-all, never-first, form-plain, weight-seven}
 use Rattle.theory.specs.PlanPages.{bad-none, good-first, good-later, pageOf-begins}
 use Rattle.theory.specs.Lists.{every-all}
@@ -211,10 +212,10 @@ seven-refused t = go (passes (formChecks t)) refl (passes (weightChecks t)) refl
         → (firstOf (treeChecks t) accepted .number ≡ 7) ↔ ((passes (formChecks t) && not (passes (treeChecks t))) ≡ true)
     go true e true h = (
       λ z. absurd (omega (arith, ap (λ (x : Answer). x .number) (firstOf-all (treeChecks t) accepted (same ∙ rw (e, h))))),
-      λ z. absurd (false≢true (sym (rw (e, same, h)) ∙ z)),
+      λ z. absurd (false≢true (sym (rw (same, e, h)) ∙ z)),
     )
     go true e false h = (
-      λ z. rw (e, same, h),
+      λ z. rw (same, e, h),
       λ z. ap (λ (x : Answer). x .number) (firstOf-pass (formChecks t) (weightChecks t) accepted e) ∙ weight-seven t accepted h,
     )
     go false e c h = (

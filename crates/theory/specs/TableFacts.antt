@@ -66,9 +66,9 @@ pub head-facts : (t : List ℕ) → passes (headChecks t) ≡ true
 unfolding Pass headChecks badCount badLimit badLength
 head-facts t e =
     let p = pass-all (headChecks t) .0 e in (
-      out-of-range (nodeCount t) maxNodes (when-nowhere _ (nodeCount t) (p .1)),
-      out-of-range (limitOf t) maxLimit (when-nowhere _ (limitOf t) (p .2)),
-      eqb-true (length t) (tableBytes (nodeCount t)) (not-false _ (when-nowhere _ (tableBytes (nodeCount t)) (p .3))),
+      out-of-range (nodeCount t) maxNodes (when-nowhere _ (nodeCount t) (p .1 .0)),
+      out-of-range (limitOf t) maxLimit (when-nowhere _ (limitOf t) (p .1 .1 .0)),
+      eqb-true (length t) (tableBytes (nodeCount t)) (not-false _ (when-nowhere _ (tableBytes (nodeCount t)) (p .1 .1 .1 .0))),
     )
 
 pub sound-facts : (t : List ℕ) → soundForm t ≡ true → SoundFacts t
@@ -77,7 +77,7 @@ sound-facts t e =
     let parts = passes-both (headChecks t) (nodeChecks t) e in
     let h = head-facts t (parts .0) in
     let p = pass-all (nodeChecks t) .0 (parts .1) in
-    let alone : nextAt t 1 ≡ 0 = walk-alone t (p .1) in
+    let alone : nextAt t 1 ≡ 0 = walk-alone t (p .1 .0) in
     record {
       count-low = h .0 .0;
       count-high = h .0 .1;
@@ -90,27 +90,32 @@ sound-facts t e =
           eqb-false (weightAt t v) 0 (firstTo-nowhere (nodeCount t) (λ u. eqb (weightAt t u) 0) (p .0) v low high) in
           omega arith;
       root-alone = alone;
-      walks = sym (walk-is t alone) ∙ p .1;
+      walks = sym (walk-is t alone) ∙ p .1 .0;
     }
 
 -- facts that are all of the form; the form is more than these where a check looks at something that they leave out
 pub facts-sound : (t : List ℕ) → SoundFacts t → soundForm t ≡ true
 unfolding Pass soundForm formChecks headChecks nodeChecks shortTable badCount badLimit badLength noWeight badWalk
 facts-sound t s =
-    both-pass (headChecks t) (nodeChecks t)
-    (pass-all (headChecks t) .1 (
-      when-false (ltb (length t) 4) 0 (le-ltb (length t) 4 (omega (arith, s .bytes))),
-      when-false _ (nodeCount t) (in-range (nodeCount t) maxNodes (s .count-low) (s .count-high)),
-      when-false _ (limitOf t) (in-range (limitOf t) maxLimit (s .limit-low) (s .limit-high)),
-      when-false _ (tableBytes (nodeCount t)) (ap not (eq-eqb (length t) (tableBytes (nodeCount t)) (s .bytes))),
-      tt,
-    ))
-    (pass-all (nodeChecks t) .1 (
-      firstTo-none (nodeCount t) (λ v. eqb (weightAt t v) 0)
-          (λ v low high. ne-eqb (weightAt t v) 0 (λ z. omega (arith, s .weighs v low high))),
-      walk-is t (s .root-alone) ∙ s .walks,
-      tt,
-    ))
+    both-pass (headChecks t) (nodeChecks t) (pass-all (headChecks t) .1 (short, (count, (limit, (long, tt)))))
+    (pass-all (nodeChecks t) .1 (weigh, (walk-is t (s .root-alone) ∙ s .walks, tt)))
+  where
+    short : shortTable t .place ≡ Nowhere
+    short = when-false (ltb (length t) 4) 0 (le-ltb (length t) 4 (omega (arith, s .bytes)))
+
+    count : badCount t .place ≡ Nowhere
+    count = when-false _ (nodeCount t) (in-range (nodeCount t) maxNodes (s .count-low) (s .count-high))
+
+    limit : badLimit t .place ≡ Nowhere
+    limit = when-false _ (limitOf t) (in-range (limitOf t) maxLimit (s .limit-low) (s .limit-high))
+
+    long : badLength t .place ≡ Nowhere
+    long = when-false _ (tableBytes (nodeCount t)) (ap not (eq-eqb (length t) (tableBytes (nodeCount t)) (s .bytes)))
+
+    weigh : noWeight t .place ≡ Nowhere
+    weigh =
+        firstTo-none (nodeCount t) (λ v. eqb (weightAt t v) 0)
+        (λ v low high. ne-eqb (weightAt t v) 0 (λ z. omega (arith, s .weighs v low high)))
 
 -- ---- Accepted: of sound form, and no node outweighs K
 
@@ -120,9 +125,11 @@ light-passes t = (
   λ e v low high.
       ltb-false (limitOf t) (weightAt t v)
       (firstTo-nowhere (nodeCount t) (λ u. ltb (limitOf t) (weightAt t u)) (pass-all (weightChecks t) .0 e .0) v low high),
-  λ h. pass-all (weightChecks t) .1
-      (firstTo-none (nodeCount t) (λ v. ltb (limitOf t) (weightAt t v))
-      (λ v low high. le-ltb (limitOf t) (weightAt t v) (h v low high)), tt),
+  λ h. pass-all (weightChecks t) .1 (
+    firstTo-none (nodeCount t) (λ v. ltb (limitOf t) (weightAt t v))
+        (λ v low high. le-ltb (limitOf t) (weightAt t v) (h v low high)),
+    tt,
+  ),
 )
 
 pub accepted-parts : (t : List ℕ) → acceptedTree t ≡ true → (soundForm t ≡ true) × (passes (weightChecks t) ≡ true)
