@@ -16,7 +16,12 @@ module _ (p : ℕ → Bool) (v : ℕ) (none : firstTo v p ≡ Nowhere) where
   pub find : (n : ℕ) → v < n → p (v + 1) ≡ true → firstTo n p ≡ At (v + 1)
   find n l h =
       firstTo-first n (v + 1) p
-      (record { low = omega arith; high = omega arith; passed = h; before = λ u a b. firstTo-nowhere v p none u a (omega arith) })
+      (record {
+        low = omega arith;
+        high = omega arith;
+        passed = h;
+        before = λ u a b. firstTo-nowhere v p none u a (omega arith);
+      })
 
   pub pass-all : (n : ℕ) → v ≤ n → n ≤ v → Nowhere ≡ firstTo n p
   pass-all n a b = let e : v ≡ n = omega arith in sym (rw e at none)

@@ -24,7 +24,8 @@ loop-holds c = (search needs, firstTo-zero _)
 returns : tie.Need-returns Inv-loop μ-loop
 returns c =
     let l = c .before .before .before .loop in
-    sym (find _ (l .v) (l .inv .1) _ (c .before .before .loop-test .taken) (lt-ltb _ _ (rw (c .before .weight-at .ensures) at (c .if1 .taken))))
+    sym (find _ (l .v) (l .inv .1) _ (c .before .before .loop-test .taken)
+    (lt-ltb _ _ (rw (c .before .weight-at .ensures) at (c .if1 .taken))))
 
 loop-again : tie.Need-loop-again Inv-loop μ-loop
 loop-again c =
