@@ -2,6 +2,7 @@
 -- Bools, numbers 1 to n, and lists
 pub mod Bools
 pub mod Ranges
+pub mod Search
 pub mod Sums
 pub mod Chosen
 pub mod Lists
