@@ -3,7 +3,7 @@ pub mod ColumnRuns
 pub mod NodeLinks
 pub mod NodeColumns
 pub mod NodeGains
-pub mod NodeReady
+pub mod NodeStart
 pub mod LaySums
 pub mod LayRuns
 pub mod LayMarking

@@ -10,11 +10,11 @@ ghost use Prim.Native.Nat.{ℕ, _+_, _*_, _≤_, _<_};
 ghost use lib.ListN.{length, getD};
 ghost use Rattle.model.specs.Table.{maxNodes, maxLimit};
 ghost use Rattle.best.specs.Cells.{cellAt, lower, stayCell};
-ghost use Rattle.best.specs.CellsFront.{cellIn, frontOf, Swept};
+ghost use Rattle.best.specs.CellsArrays.{cellIn, childrenIn, Swept};
 ghost use Rattle.best.specs.CellsRun.{blockAt, Fillable};
 
 // What one page counts in a word.
-pub const PAGE: u32 = 65536;
+pub const PAGE_WORD: u32 = 65536;
 
 // Above every word.
 const NO_WORD: u32 = 4294967295;
@@ -81,7 +81,7 @@ pub fn fill_column(
     limit: usize,
 )
     requires { ⌜ (start ≤ limit) × Fillable limit start child (now rests) (now gains) (now prevs) (now words) ⌝ }
-    ensures { λ r. ⌜ Swept limit start (blockAt limit child) (λ s. cellAt limit (frontOf (now (rests .entry)) (now (gains .entry)) (now (prevs .entry)) child) s) (now (words .entry)) (now (words .exit)) ⌝ }
+    ensures { λ r. ⌜ Swept limit start (blockAt limit child) (λ s. cellAt limit (childrenIn (now (rests .entry)) (now (gains .entry)) (now (prevs .entry)) child) s) (now (words .entry)) (now (words .exit)) ⌝ }
 {
     let here = block_at(limit, child);
     let first = block_at(limit, prevs[child] as usize);
@@ -122,7 +122,7 @@ pub fn fill_column(
             before,
             start,
             limit,
-            (1 + taken) * PAGE,
+            (1 + taken) * PAGE_WORD,
             sums.len,
         );
         // the lightest total reaches the limit

@@ -16,23 +16,23 @@ ghost use lib.ListN.{length, getD, replicate};
 ghost use Rattle.model.specs.Basics.{pick};
 ghost use Rattle.model.specs.Table.{maxNodes, maxLimit, nodeCount, limitOf, weightAt, treeOf};
 ghost use Rattle.model.specs.Steps.{layMarks, rootChoice};
-ghost use Rattle.best.specs.Cells.{pulled};
-ghost use Rattle.best.specs.CellsFront.{frontOf, EachGood};
-ghost use Rattle.best.specs.CellsLay.{takes, lastMark};
-ghost use Rattle.best.specs.CellsPlan.{Planned};
-ghost use Rattle.best.specs.CellsRun.{countsOf, Kept};
-ghost use Rattle.best.specs.ReduceLevel.{levelFrom};
-ghost use Rattle.best.specs.Run.{gainSlots};
-ghost use Rattle.best.specs.Lay.{SumReady, RunReady, RunDone, startOf, NodeReady, NodeDone};
+ghost use Rattle.best.specs.Cells.{lastChildren};
+ghost use Rattle.best.specs.CellsArrays.{childrenIn, EachGood};
+ghost use Rattle.best.specs.LayChoices.{takes, lastMark};
+ghost use Rattle.best.specs.CellsPlan.{NodesPlanned};
+ghost use Rattle.best.specs.CellsRun.{countsOf, RunSums};
+ghost use Rattle.best.specs.CellsLevel.{levelFrom};
+ghost use Rattle.best.specs.CellsSums.{gainSlots};
+ghost use Rattle.best.specs.LayContracts.{SumReady, RunReady, RunDone, startOf, NodeReady, NodeDone};
 
 // Of a run's gains those above `gain` are taken, and of those at `gain` the earliest `times`.
-struct Level {
+struct GainLevel {
     gain: u16,
     times: u16,
 }
 
 // The level at which the sum of a run has room, from how many members have each gain.
-fn find_level(counts: &[u16; GAINS], top: u16, total: u32, limit: u32) -> Level
+fn find_level(counts: &[u16; GAINS], top: u16, total: u32, limit: u32) -> GainLevel
     requires { ⌜ (top ≤ limit) × (limit ≤ maxLimit) × ((h : ℕ) → getD (now counts) h 0 ≤ maxNodes) ⌝ }
     ensures { λ r. ⌜ (r .gain ≡ levelFrom top (countsOf (now (counts .entry))) limit total .gain) × (r .times ≡ levelFrom top (countsOf (now (counts .entry))) limit total .times) ⌝ }
 {
@@ -47,14 +47,14 @@ fn find_level(counts: &[u16; GAINS], top: u16, total: u32, limit: u32) -> Level
             times = 0;
         } else {
             if sum <= limit {
-                return Level { gain, times };
+                return GainLevel { gain, times };
             }
             left -= 1;
             sum -= gain as u32;
             times += 1;
         }
     }
-    Level { gain: 0, times: 0 }
+    GainLevel { gain: 0, times: 0 }
 }
 
 // The sums over the last `len` children up to `child`, and how many of them have each gain.
@@ -68,7 +68,7 @@ fn sum_run(
 ) -> Sums
     requires { ⌜ SumReady child len (now rests) (now gains) (now prevs) × (now counts ≡ replicate gainSlots 0) ⌝ }
     ensures { λ r. ⌜ ((K : ℕ) → EachGood K (now (rests .entry)) (now (gains .entry))
-        → Kept K (pulled len [] (frontOf (now (rests .entry)) (now (gains .entry)) (now (prevs .entry)) child)) len (r .total) (r .gained) (r .top) (now (counts .exit))) ⌝ }
+        → RunSums K (lastChildren len [] (childrenIn (now (rests .entry)) (now (gains .entry)) (now (prevs .entry)) child)) len (r .total) (r .gained) (r .top) (now (counts .exit))) ⌝ }
 {
     let mut sums = Sums {
         len: 0,
@@ -92,7 +92,7 @@ fn mark_of(before: u32) -> u8
 }
 
 // 1 where a member with this gain is taken, and `before` members at the level come before it.
-fn second_of(level: Level, before: u16, gain: u16) -> u8
+fn second_of(level: GainLevel, before: u16, gain: u16) -> u8
     ensures { λ r. ⌜ r ≡ pick (takes (level .gain) (level .times) before gain) 1 0 ⌝ }
 {
     if level.gain < gain {
@@ -196,8 +196,8 @@ pub fn lay_nodes(
     words: &[u32],
     marks: &mut [u8],
 )
-    requires { ⌜ ((g : Bool) × Planned (now table) g 0 (now rests) (now gains) (now prevs) (now lasts) (now words)) × (length (now marks) ≡ nodeCount (now table)) ⌝ }
-    ensures { λ r. ⌜ ((g : Bool) → Planned (now (table .entry)) g 0 (now (rests .entry)) (now (gains .entry)) (now (prevs .entry)) (now (lasts .entry)) (now (words .entry))
+    requires { ⌜ ((g : Bool) × NodesPlanned (now table) g 0 (now rests) (now gains) (now prevs) (now lasts) (now words)) × (length (now marks) ≡ nodeCount (now table)) ⌝ }
+    ensures { λ r. ⌜ ((g : Bool) → NodesPlanned (now (table .entry)) g 0 (now (rests .entry)) (now (gains .entry)) (now (prevs .entry)) (now (lasts .entry)) (now (words .entry))
         → now (marks .exit) ≡ layMarks g (limitOf (now (table .entry))) (treeOf (now (table .entry))) rootChoice) ⌝ }
 {
     let nodes = node_count(table);

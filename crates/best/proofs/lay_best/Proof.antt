@@ -3,7 +3,7 @@ use mathlib.Core.Path.{refl}
 use native.Mathlib.Omega.{arith}
 use denote.Ref.{now}
 use Rattle.model.specs.Table.{nodeCount, limitOf}
-use Rattle.best.proofs.NodeReady.{first-fits, starts-ready}
+use Rattle.best.proofs.NodeStart.{open-fits, starts-ready}
 use borrow.Author.Needs.{needs}
 use Rattle.best.proofs.lay_best.Statement.{statement}
 use Rattle.best.proofs.lay_best.Tie as tie
@@ -13,7 +13,7 @@ open-block-requires c κs =
     let b = c .before .before .before .before .before .before in
     let t = now (b .args .table) in
     let sound = b .pre .0 .sound in
-    (omega (arith, c .limit-of .ensures, sound .limit-high), omega (arith, c .limit-of .ensures, first-fits (nodeCount t) (limitOf t) (sound .count-low), b .pre .2))
+    (omega (arith, c .limit-of .ensures, sound .limit-high), omega (arith, c .limit-of .ensures, open-fits (nodeCount t) (limitOf t) (sound .count-low), b .pre .2))
 
 plan-nodes-requires : tie.Need-plan-nodes-requires
 plan-nodes-requires c κs =

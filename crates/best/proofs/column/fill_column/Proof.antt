@@ -16,7 +16,7 @@ use Rattle.best.proofs.ColumnRuns.{
   stretch-end,
   joins-fits,
   stretch-joins,
-  count-small,
+  counts-small,
   total-small,
   stay-ready,
   stay-fillable,
@@ -33,7 +33,7 @@ use Rattle.best.proofs.ColumnRuns.{
 use Rattle.best.specs.CellsRun.{blockAt, Fillable}
 use mathlib.Core.List.{List}
 use Rattle.best.specs.Cells.{Cell}
-use Rattle.best.specs.CellsFront.{Swept}
+use Rattle.best.specs.CellsArrays.{Swept}
 
 abbrev Inv-loop : tie.InvT-loop
 Inv-loop words rests gains prevs child start limit here first counts sums next sum₀ taken₀ gain₀ left₀ sum taken gain left =
@@ -135,7 +135,7 @@ loop-holds c = taking-start (longer c .2) (longer c .0)
 loop-less : tie.Need-loop-less Inv-loop μ-loop Inv-stretch μ-stretch
 loop-less c =
     let n = c .before .before .before .before in
-    omega (arith, count-small (longer n .2) (longer n .0) (c .before .before .before .loop .gain - 1))
+    omega (arith, counts-small (longer n .2) (longer n .0) (c .before .before .before .loop .gain - 1))
 
 loop-again : tie.Need-loop-again Inv-loop μ-loop Inv-stretch μ-stretch
 loop-again c =

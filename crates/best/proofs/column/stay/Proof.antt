@@ -7,7 +7,7 @@ use Prim.Native.Nat.{_+_, _-_, _≤_}
 use lib.ListN.{getD, length-set}
 use Rattle.model.specs.Table.{maxLimit}
 use Rattle.best.specs.Cells.{stayCell}
-use Rattle.best.specs.CellsFront.{Sweeping, sweep-none, sweep-end}
+use Rattle.best.specs.CellsArrays.{Sweeping, sweep-none, sweep-end}
 use mathlib.Core.Logic.{inl, inr, ⊎-elim}
 use Rattle.best.proofs.ColumnSweeps.{stay-turn}
 

@@ -12,7 +12,7 @@ use Rattle.best.proofs.LayNode.{
   Walking,
   Found,
   limit-small,
-  count-small,
+  nodes-small,
   walk-from,
   last-high,
   walk-high,
@@ -38,7 +38,7 @@ abbrev μ-loop : tie.MeasureT-loop
 high : (l : tie.At-loop Inv-loop μ-loop) → l .loop .child ≤ maxNodes
 high l =
     let b = l .before .before .before .before .before .before .before .before in
-    omega (arith, walk-high (b .pre) (l .loop .inv), count-small (b .pre))
+    omega (arith, walk-high (b .pre) (l .loop .inv), nodes-small (b .pre))
 
 -- the place of the run's length does not wrap
 place : (d : tie.After-block-at Inv-loop μ-loop) → let l = d .before .before in
@@ -78,7 +78,7 @@ start-of-requires c κs =
     let b = c .before .before .before .before .before in
     let lim = c .before .limit-of in (
       omega (arith, lim .ensures, limit-small (b .pre)),
-      omega (arith, b .pre .high, count-small (b .pre)),
+      omega (arith, b .pre .high, nodes-small (b .pre)),
       omega (arith, lim .ensures, b .pre .ready .good (b .args .v) .light),
     )
 
@@ -86,7 +86,7 @@ cast-child : tie.Need-cast-child Inv-loop μ-loop
 cast-child c =
     let b = c .before .before .before .before .before .before .before in
     let last = last-high (b .pre) in
-    let few = count-small (b .pre) in
+    let few = nodes-small (b .pre) in
     search needs
 
 loop-holds : tie.Need-loop-holds Inv-loop μ-loop

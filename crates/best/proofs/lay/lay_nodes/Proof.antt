@@ -31,7 +31,7 @@ loop-again c =
     let l = c .before .before .before .before .before .before in
     let p = c .before .before .before .before .before .before .before .before .before .before .before .pre .0 .1 in
     laying-turn (l .loop .inv) (laying-ready (l .loop .inv) p (omega (arith, c .before .before .before .before .before .loop-test .taken, l .before .node-count .ensures)))
-    (λ w low h. p .kin w (omega arith) h)
+    (λ w low h. p .last-child w (omega arith) h)
     (c .before .before .lay-children .ensures)
 
 same-length : tie.Need-same-length Inv-loop μ-loop

@@ -12,7 +12,7 @@ use Rattle.best.proofs.LayMarking.{
   Marking,
   Levelled,
   count-less,
-  run-sums,
+  sum-ready,
   counts-small,
   level-small,
   marking-start,
@@ -57,7 +57,7 @@ low : (i : tie.In-loop Inv-loop μ-loop) → 1 ≤ i .before .loop .next
 low i = marking-low (i .before .before .before .before .before .before .before .before .pre) (i .before .loop .inv) (i .loop-test .taken)
 
 sum-run-requires : tie.Need-sum-run-requires Inv-loop μ-loop
-sum-run-requires c κs = (run-sums (c .before .before .pre), refl)
+sum-run-requires c κs = (sum-ready (c .before .before .pre), refl)
 
 find-level-requires : tie.Need-find-level-requires Inv-loop μ-loop
 find-level-requires c κs =

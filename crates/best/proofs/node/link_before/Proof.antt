@@ -1,7 +1,7 @@
 -- `best::node::link_before` meets its contract. Assumes nothing.
 use Prim.Native.Nat.{_+_, _-_, _≤_}
 use native.Mathlib.Omega.{arith}
-use Rattle.best.proofs.NodeLinks.{Linking, linking-start, next-fits, linking-turn, linking-end}
+use Rattle.best.proofs.NodeLinks.{Linking, linking-start, link-fits, linking-turn, linking-end}
 use borrow.Author.Needs.{needs}
 use Rattle.best.proofs.node.link_before.Statement.{statement}
 use Rattle.best.proofs.node.link_before.Tie as tie
@@ -16,7 +16,7 @@ loop-holds : tie.Need-loop-holds Inv-loop μ-loop
 loop-holds c = (omega arith, linking-start _)
 
 array-write-prevs : tie.Need-array-write-prevs Inv-loop μ-loop
-array-write-prevs c = omega (arith, c .next-at .ensures, next-fits (c .before .before .before .before .before .pre) (c .before .before .loop .v + 1) (omega arith) (omega arith))
+array-write-prevs c = omega (arith, c .next-at .ensures, link-fits (c .before .before .before .before .before .pre) (c .before .before .loop .v + 1) (omega arith) (omega arith))
 
 loop-again : tie.Need-loop-again Inv-loop μ-loop
 loop-again c =

@@ -4,7 +4,7 @@ use mathlib.Core.List.{[]}
 use native.Mathlib.Omega.{arith}
 use lib.ListN.{length-set}
 use Rattle.best.specs.Cells.{cellAt}
-use Rattle.best.specs.CellsFront.{Sweeping, sweep-none, sweep-end}
+use Rattle.best.specs.CellsArrays.{Sweeping, sweep-none, sweep-end}
 use Rattle.best.proofs.NodeColumns.{open-turn}
 use borrow.Author.Needs.{needs}
 use Rattle.best.proofs.node.open_block.Statement.{statement}

@@ -4,14 +4,14 @@ use mathlib.Core.Path.{_≡_, refl, _∙_}
 use native.Mathlib.Omega.{arith}
 use lib.ListN.{length}
 use Rattle.model.specs.Table.{slots, nodeCount}
-use Rattle.best.specs.CellsPlan.{Planned, planned-none}
+use Rattle.best.specs.CellsPlan.{NodesPlanned, planned-none}
 use borrow.Author.Needs.{needs}
 use Rattle.best.proofs.node.plan_nodes.Statement.{statement}
 use Rattle.best.proofs.node.plan_nodes.Tie as tie
 
 abbrev Inv-loop : tie.InvT-loop
 Inv-loop table gainful prevs rests₀ gains₀ lasts₀ words₀ v₀ rests gains lasts words v =
-    (v ≤ nodeCount table) × (length words ≡ length words₀) × Planned table gainful v rests gains prevs lasts words
+    (v ≤ nodeCount table) × (length words ≡ length words₀) × NodesPlanned table gainful v rests gains prevs lasts words
     × (length rests ≡ slots) × (length gains ≡ slots) × (length lasts ≡ slots)
 
 abbrev μ-loop : tie.MeasureT-loop

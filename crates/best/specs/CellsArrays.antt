@@ -1,7 +1,7 @@
 -- A node's children as they stand in arrays of rests, gains and siblings before, and the cells of a child as they stand in a block
 -- of words: K + 1 words of cells, then K + 1 lengths of runs.
--- Defines listBack (a list from the last back), frontOf, cellIn, Swept, Sweeping. Proves list-cons, list-length, list-same; front-cons,
--- front-length, front-good; and sweep-none, sweep-turn, sweep-end: a sweep over the starts of a block, one store of a cell a turn. Assumes nothing.
+-- Defines listBack (a list from the last back), childrenIn, cellIn, Swept, Sweeping. Proves list-cons, list-length, list-same; children-cons,
+-- children-length, children-good; and sweep-none, sweep-turn, sweep-end: a sweep over the starts of a block, one store of a cell a turn. Assumes nothing.
 use Prim.Native.Nat.{ℕ, zero, suc, _+_, _*_, _≤_, _<_}
 use mathlib.Core.Path.{_≡_, refl, _∙_, ap, ap₂}
 use mathlib.Core.Bool.{Bool, true, false}
@@ -82,8 +82,8 @@ abbrev pub childIn : List ℕ → List ℕ → ℕ → Child
 childIn rests gains u = record { rest = getD rests u 0; gain = getD gains u 0 }
 
 -- the children up to u, the last first
-unfoldable pub frontOf : List ℕ → List ℕ → List ℕ → ℕ → List Child
-frontOf rests gains prevs u = listBack (childIn rests gains) (λ v. getD prevs v 0) u
+unfoldable pub childrenIn : List ℕ → List ℕ → List ℕ → ℕ → List Child
+childrenIn rests gains prevs u = listBack (childIn rests gains) (λ v. getD prevs v 0) u
 
 -- the sibling before a node comes before it
 abbrev pub Earlier : List ℕ → Type 0
@@ -94,28 +94,28 @@ abbrev pub EachGood : ℕ → List ℕ → List ℕ → Type 0
 EachGood K rests gains = (u : ℕ) → GoodChild K (childIn rests gains u)
 
 module _ (rests gains prevs : List ℕ) (earlier : Earlier prevs) where
-  pub front-none : frontOf rests gains prevs 0 ≡ []
-  unfolding frontOf
-  front-none = list-none (childIn rests gains) (λ v. getD prevs v 0)
+  pub children-none : childrenIn rests gains prevs 0 ≡ []
+  unfolding childrenIn
+  children-none = list-none (childIn rests gains) (λ v. getD prevs v 0)
 
-  pub front-cons : (u : ℕ) → 1 ≤ u
-      → frontOf rests gains prevs u ≡ childIn rests gains u ∷ frontOf rests gains prevs (getD prevs u 0)
-  unfolding frontOf
-  front-cons = list-cons (childIn rests gains) (λ v. getD prevs v 0) earlier
+  pub children-cons : (u : ℕ) → 1 ≤ u
+      → childrenIn rests gains prevs u ≡ childIn rests gains u ∷ childrenIn rests gains prevs (getD prevs u 0)
+  unfolding childrenIn
+  children-cons = list-cons (childIn rests gains) (λ v. getD prevs v 0) earlier
 
-  pub front-length : (u : ℕ) → length (frontOf rests gains prevs u) ≤ u
-  unfolding frontOf
-  front-length = list-length (childIn rests gains) (λ v. getD prevs v 0) earlier
+  pub children-length : (u : ℕ) → length (childrenIn rests gains prevs u) ≤ u
+  unfolding childrenIn
+  children-length = list-length (childIn rests gains) (λ v. getD prevs v 0) earlier
 
-front-good-from : (K : ℕ) (rests gains prevs : List ℕ) → EachGood K rests gains → (f u : ℕ) → Good K (backFrom f (childIn rests gains) (λ v. getD prevs v 0) u)
+children-good-from : (K : ℕ) (rests gains prevs : List ℕ) → EachGood K rests gains → (f u : ℕ) → Good K (backFrom f (childIn rests gains) (λ v. getD prevs v 0) u)
 unfolding backFrom Good
-front-good-from K rests gains prevs h zero u = tt
-front-good-from K rests gains prevs h (suc f) zero = tt
-front-good-from K rests gains prevs h (suc f) (suc u) = (h (suc u), front-good-from K rests gains prevs h f (getD prevs (suc u) 0))
+children-good-from K rests gains prevs h zero u = tt
+children-good-from K rests gains prevs h (suc f) zero = tt
+children-good-from K rests gains prevs h (suc f) (suc u) = (h (suc u), children-good-from K rests gains prevs h f (getD prevs (suc u) 0))
 
-pub front-good : (K : ℕ) (rests gains prevs : List ℕ) → EachGood K rests gains → (u : ℕ) → Good K (frontOf rests gains prevs u)
-unfolding frontOf listBack
-front-good K rests gains prevs h u = front-good-from K rests gains prevs h u u
+pub children-good : (K : ℕ) (rests gains prevs : List ℕ) → EachGood K rests gains → (u : ℕ) → Good K (childrenIn rests gains prevs u)
+unfolding childrenIn listBack
+children-good K rests gains prevs h u = children-good-from K rests gains prevs h u u
 
 -- ---- Cells in a block
 

@@ -1,6 +1,6 @@
 -- The choices of a run from its last child back: which members follow their second plan follows from the level, and from how many
 -- members at the level are still to the left.
--- Defines takes, backRun, levelling. Proves cutAt-snoc, back-run (the choices of a reduced run, the last first), run-level, count-back,
+-- Defines takes, backRun, levelling. Proves takeDownTo-snoc, back-run (the choices of a reduced run, the last first), run-level, count-back,
 -- and levelling-start, levelling-down, levelling-take, levelling-stop (the level, one choice a turn). Assumes nothing.
 use Prim.Native.Nat.{ℕ, zero, suc, _+_, _-_, _≤_, _<_}
 use mathlib.Core.Path.{_≡_, refl, sym, _∙_, ap, ap₂}
@@ -15,9 +15,9 @@ use Rattle.model.specs.Plan.{begins, continues}
 use Rattle.model.specs.Steps.{Member, Child, Choice, asMember, runChoices, runOf}
 use Rattle.theory.specs.Reduce.{sumOf}
 use Rattle.theory.specs.ReduceCount.{hasGain, countGain, countGain-cons}
-use Rattle.best.specs.ReduceLevel.{Level, takenOff, cutAt, cutAt-above, cutAt-under, cutAt-at, levelHere, levelFrom, cutBy, reduce-level}
-use Rattle.best.specs.Cells.{pulled}
-use Rattle.best.specs.CellsRun.{members, members-length, members-sound, Kept, countsOf}
+use Rattle.best.specs.CellsLevel.{GainLevel, takenOff, takeDownTo, takeDownTo-above, takeDownTo-under, takeDownTo-at, levelHere, levelFrom, takeByLevel, reduce-level}
+use Rattle.best.specs.Cells.{lastChildren}
+use Rattle.best.specs.CellsRun.{asMembers, members-length, members-sound, RunSums, countsOf}
 
 -- ---- The last member
 
@@ -25,18 +25,18 @@ use Rattle.best.specs.CellsRun.{members, members-length, members-sound, 
 abbrev pub takes : ℕ → ℕ → ℕ → ℕ → Bool
 takes g t n gain = ltb g gain || (eqb gain g && ltb n t)
 
-abbrev lastCut : ℕ → ℕ → ℕ → Member → Member
-lastCut g t n m = pick (takes g t n (m .gain)) (takenOff m) m
+abbrev takeLast : ℕ → ℕ → ℕ → Member → Member
+takeLast g t n m = pick (takes g t n (m .gain)) (takenOff m) m
 
-cut-one : (g t : ℕ) (m : Member) → cutAt g t (m ∷ []) ≡ lastCut g t 0 m ∷ []
-unfolding cutAt pick
-cut-one g zero m = go (ltb g (m .gain)) (eqb (m .gain) g)
+takeDownTo-one : (g t : ℕ) (m : Member) → takeDownTo g t (m ∷ []) ≡ takeLast g t 0 m ∷ []
+unfolding takeDownTo pick
+takeDownTo-one g zero m = go (ltb g (m .gain)) (eqb (m .gain) g)
   where
     go : (a b : Bool) → pick a (takenOff m) m ∷ [] ≡ pick (a || (b && false)) (takenOff m) m ∷ []
     go true b = refl
     go false true = refl
     go false false = refl
-cut-one g (suc t) m = rw (lt-ltb 0 (suc t) (omega arith)) (go (ltb g (m .gain)) (eqb (m .gain) g))
+takeDownTo-one g (suc t) m = rw (lt-ltb 0 (suc t) (omega arith)) (go (ltb g (m .gain)) (eqb (m .gain) g))
   where
     go : (a b : Bool) → pick a (takenOff m ∷ []) (pick b (takenOff m ∷ []) (m ∷ [])) ≡ pick (a || (b && true)) (takenOff m) m ∷ []
     go true b = refl
@@ -62,36 +62,36 @@ count-same : (g : ℕ) (x : Member) (ms : List Member) → x .gain ≡ g → cou
 unfolding pick
 count-same g x ms e = countGain-cons g x ms ∙ rw (eq-eqb (x .gain) g e) refl
 
-pub cutAt-snoc : (g t : ℕ) (ms : List Member) (m : Member) → cutAt g t (ms ++ (m ∷ [])) ≡ cutAt g t ms ++ (lastCut g t (countGain g ms) m ∷ [])
-unfolding cutAt countGain sumOf
-cutAt-snoc g zero [] m = cut-one g zero m
-cutAt-snoc g (suc t) [] m = cut-one g (suc t) m
-cutAt-snoc g zero (x ∷ ms) m =
+pub takeDownTo-snoc : (g t : ℕ) (ms : List Member) (m : Member) → takeDownTo g t (ms ++ (m ∷ [])) ≡ takeDownTo g t ms ++ (takeLast g t (countGain g ms) m ∷ [])
+unfolding takeDownTo countGain sumOf
+takeDownTo-snoc g zero [] m = takeDownTo-one g zero m
+takeDownTo-snoc g (suc t) [] m = takeDownTo-one g (suc t) m
+takeDownTo-snoc g zero (x ∷ ms) m =
     ap (λ l. pick (ltb g (x .gain)) (takenOff x) x ∷ l)
-    (cutAt-snoc g zero ms m ∙ ap (λ b. cutAt g zero ms ++ (pick b (takenOff m) m ∷ [])) (takes-none g (countGain g ms) (countGain g (x ∷ ms)) (m .gain)))
-cutAt-snoc g (suc t) (x ∷ ms) m = go (ltb g (x .gain)) (eqb (x .gain) g) refl refl (cutAt-snoc g (suc t) ms m) (cutAt-snoc g t ms m)
+    (takeDownTo-snoc g zero ms m ∙ ap (λ b. takeDownTo g zero ms ++ (pick b (takenOff m) m ∷ [])) (takes-none g (countGain g ms) (countGain g (x ∷ ms)) (m .gain)))
+takeDownTo-snoc g (suc t) (x ∷ ms) m = go (ltb g (x .gain)) (eqb (x .gain) g) refl refl (takeDownTo-snoc g (suc t) ms m) (takeDownTo-snoc g t ms m)
   where
     go : (a b : Bool) → ltb g (x .gain) ≡ a → eqb (x .gain) g ≡ b
-        → cutAt g (suc t) (ms ++ (m ∷ [])) ≡ cutAt g (suc t) ms ++ (lastCut g (suc t) (countGain g ms) m ∷ [])
-        → cutAt g t (ms ++ (m ∷ [])) ≡ cutAt g t ms ++ (lastCut g t (countGain g ms) m ∷ [])
-        → cutAt g (suc t) (x ∷ (ms ++ (m ∷ []))) ≡ cutAt g (suc t) (x ∷ ms) ++ (lastCut g (suc t) (countGain g (x ∷ ms)) m ∷ [])
+        → takeDownTo g (suc t) (ms ++ (m ∷ [])) ≡ takeDownTo g (suc t) ms ++ (takeLast g (suc t) (countGain g ms) m ∷ [])
+        → takeDownTo g t (ms ++ (m ∷ [])) ≡ takeDownTo g t ms ++ (takeLast g t (countGain g ms) m ∷ [])
+        → takeDownTo g (suc t) (x ∷ (ms ++ (m ∷ []))) ≡ takeDownTo g (suc t) (x ∷ ms) ++ (takeLast g (suc t) (countGain g (x ∷ ms)) m ∷ [])
     go true b p q h k =
         let l : g < x .gain = ltb-true g (x .gain) p in
         let n : x .gain ≡ g → ⊥ = λ e. omega arith in
-        cutAt-above g x (ms ++ (m ∷ [])) (suc t) l
+        takeDownTo-above g x (ms ++ (m ∷ [])) (suc t) l
         ∙ ap (λ l. takenOff x ∷ l) h
-        ∙ rw (cutAt-above g x ms (suc t) l, count-other g x ms n)
+        ∙ rw (takeDownTo-above g x ms (suc t) l, count-other g x ms n)
     go false true p q h k =
         let e : x .gain ≡ g = eqb-true (x .gain) g q in
-        cutAt-at g x (ms ++ (m ∷ [])) t e
+        takeDownTo-at g x (ms ++ (m ∷ [])) t e
         ∙ ap (λ l. takenOff x ∷ l) k
-        ∙ rw (cutAt-at g x ms t e, count-same g x ms e, takes-one g t (countGain g ms) (m .gain))
+        ∙ rw (takeDownTo-at g x ms t e, count-same g x ms e, takes-one g t (countGain g ms) (m .gain))
     go false false p q h k =
         let d : x .gain ≡ g → ⊥ = eqb-false (x .gain) g q in
         let l : x .gain < g = omega (arith, ltb-false g (x .gain) p, d) in
-        cutAt-under g x (ms ++ (m ∷ [])) (suc t) l
+        takeDownTo-under g x (ms ++ (m ∷ [])) (suc t) l
         ∙ ap (λ l. x ∷ l) h
-        ∙ rw (cutAt-under g x ms (suc t) l, count-other g x ms d)
+        ∙ rw (takeDownTo-under g x ms (suc t) l, count-other g x ms d)
 
 -- the mark of the last of a run
 abbrev pub lastMark : ℕ → ℕ
@@ -120,23 +120,23 @@ backRun g t n (suc r) [] = []
 backRun g t n (suc r) (k ∷ ks) =
     record { mark = lastMark r; second = takes g t (n - pick (eqb (k .gain) g) 1 0) (k .gain) } ∷ backRun g t (n - pick (eqb (k .gain) g) 1 0) r ks
 
-pub pulled-append : (r : ℕ) (run ks : List Child) → pulled r run ks ≡ pulled r [] ks ++ run
-unfolding pulled
-pulled-append zero run ks = refl
-pulled-append (suc r) run [] = refl
-pulled-append (suc r) run (k ∷ ks) =
-    pulled-append r (k ∷ run) ks ∙ sym (ap (λ l. l ++ run) (pulled-append r (k ∷ []) ks) ∙ append-assoc (pulled r [] ks) (k ∷ []) run)
+pub lastChildren-append : (r : ℕ) (run ks : List Child) → lastChildren r run ks ≡ lastChildren r [] ks ++ run
+unfolding lastChildren
+lastChildren-append zero run ks = refl
+lastChildren-append (suc r) run [] = refl
+lastChildren-append (suc r) run (k ∷ ks) =
+    lastChildren-append r (k ∷ run) ks ∙ sym (ap (λ l. l ++ run) (lastChildren-append r (k ∷ []) ks) ∙ append-assoc (lastChildren r [] ks) (k ∷ []) run)
 
-pub pulled-length : (r : ℕ) (ks : List Child) → r ≤ length ks → length (pulled r [] ks) ≡ r
-unfolding pulled
-pulled-length zero ks h = refl
-pulled-length (suc r) [] h = absurd (omega arith)
-pulled-length (suc r) (k ∷ ks) h =
-    ap length (pulled-append r (k ∷ []) ks)
-    ∙ length-append (pulled r [] ks) (k ∷ [])
-    ∙ omega (arith, pulled-length r ks (omega arith))
+pub lastChildren-length : (r : ℕ) (ks : List Child) → r ≤ length ks → length (lastChildren r [] ks) ≡ r
+unfolding lastChildren
+lastChildren-length zero ks h = refl
+lastChildren-length (suc r) [] h = absurd (omega arith)
+lastChildren-length (suc r) (k ∷ ks) h =
+    ap length (lastChildren-append r (k ∷ []) ks)
+    ∙ length-append (lastChildren r [] ks) (k ∷ [])
+    ∙ omega (arith, lastChildren-length r ks (omega arith))
 
-pub members-snoc : (run : List Child) (k : Child) → members (run ++ (k ∷ [])) ≡ members run ++ (asMember k ∷ [])
+pub members-snoc : (run : List Child) (k : Child) → asMembers (run ++ (k ∷ [])) ≡ asMembers run ++ (asMember k ∷ [])
 members-snoc [] k = refl
 members-snoc (x ∷ run) k = ap (λ l. asMember x ∷ l) (members-snoc run k)
 
@@ -145,45 +145,45 @@ unfolding countGain sumOf
 count-snoc g [] m = omega arith
 count-snoc g (x ∷ ms) m = omega (arith, count-snoc g ms m)
 
-cut-length : (g t : ℕ) (ms : List Member) → length (cutAt g t ms) ≡ length ms
-unfolding cutAt pick
-cut-length g zero [] = refl
-cut-length g (suc t) [] = refl
-cut-length g zero (m ∷ ms) = ap suc (cut-length g zero ms)
-cut-length g (suc t) (m ∷ ms) = go (ltb g (m .gain)) (eqb (m .gain) g) (cut-length g (suc t) ms) (cut-length g t ms)
+takeDownTo-length : (g t : ℕ) (ms : List Member) → length (takeDownTo g t ms) ≡ length ms
+unfolding takeDownTo pick
+takeDownTo-length g zero [] = refl
+takeDownTo-length g (suc t) [] = refl
+takeDownTo-length g zero (m ∷ ms) = ap suc (takeDownTo-length g zero ms)
+takeDownTo-length g (suc t) (m ∷ ms) = go (ltb g (m .gain)) (eqb (m .gain) g) (takeDownTo-length g (suc t) ms) (takeDownTo-length g t ms)
   where
-    go : (a b : Bool) → length (cutAt g (suc t) ms) ≡ length ms → length (cutAt g t ms) ≡ length ms
-        → length (pick a (takenOff m ∷ cutAt g (suc t) ms) (pick b (takenOff m ∷ cutAt g t ms) (m ∷ cutAt g (suc t) ms))) ≡ length (m ∷ ms)
+    go : (a b : Bool) → length (takeDownTo g (suc t) ms) ≡ length ms → length (takeDownTo g t ms) ≡ length ms
+        → length (pick a (takenOff m ∷ takeDownTo g (suc t) ms) (pick b (takenOff m ∷ takeDownTo g t ms) (m ∷ takeDownTo g (suc t) ms))) ≡ length (m ∷ ms)
     go true b h k = ap suc h
     go false true h k = ap suc k
     go false false h k = ap suc h
 
-cut-taken : (b : Bool) (k : Child) → pick b (takenOff (asMember k)) (asMember k) .taken ≡ b
+takeLast-taken : (b : Bool) (k : Child) → pick b (takenOff (asMember k)) (asMember k) .taken ≡ b
 unfolding asMember pick
-cut-taken true k = refl
-cut-taken false k = refl
+takeLast-taken true k = refl
+takeLast-taken false k = refl
 
 pub back-run : (g t r : ℕ) (ks : List Child) → r ≤ length ks
-    → backRun g t (countGain g (members (pulled r [] ks))) r ks ≡ reverse (runChoices begins (cutAt g t (members (pulled r [] ks))))
-unfolding backRun pulled cutAt runChoices asMember
+    → backRun g t (countGain g (asMembers (lastChildren r [] ks))) r ks ≡ reverse (runChoices begins (takeDownTo g t (asMembers (lastChildren r [] ks))))
+unfolding backRun lastChildren takeDownTo runChoices asMember
 back-run g t zero ks h = refl
 back-run g t (suc r) [] h = absurd (omega arith)
 back-run g t (suc r) (k ∷ ks) h =
-    let P : List Child = pulled r [] ks in
-    let n : ℕ = countGain g (members P) in
-    let ms : List Member = cutAt g t (members P) in
-    let last : Member = lastCut g t n (asMember k) in
-    let whole : members (pulled r (k ∷ []) ks) ≡ members P ++ (asMember k ∷ []) = ap members (pulled-append r (k ∷ []) ks) ∙ members-snoc P k in
-    let count : countGain g (members (pulled r (k ∷ []) ks)) - pick (eqb (k .gain) g) 1 0 ≡ n =
-    omega (arith, ap (countGain g) whole, count-snoc g (members P) (asMember k)) in
-    let long : length ms ≡ r = cut-length g t (members P) ∙ members-length P ∙ pulled-length r ks (omega arith) in
-    let cut : cutAt g t (members (pulled r (k ∷ []) ks)) ≡ ms ++ (last ∷ []) = ap (cutAt g t) whole ∙ cutAt-snoc g t (members P) (asMember k) in
-    let laid : reverse (runChoices begins (cutAt g t (members (pulled r (k ∷ []) ks))))
+    let P : List Child = lastChildren r [] ks in
+    let n : ℕ = countGain g (asMembers P) in
+    let ms : List Member = takeDownTo g t (asMembers P) in
+    let last : Member = takeLast g t n (asMember k) in
+    let whole : asMembers (lastChildren r (k ∷ []) ks) ≡ asMembers P ++ (asMember k ∷ []) = ap asMembers (lastChildren-append r (k ∷ []) ks) ∙ members-snoc P k in
+    let count : countGain g (asMembers (lastChildren r (k ∷ []) ks)) - pick (eqb (k .gain) g) 1 0 ≡ n =
+    omega (arith, ap (countGain g) whole, count-snoc g (asMembers P) (asMember k)) in
+    let long : length ms ≡ r = takeDownTo-length g t (asMembers P) ∙ members-length P ∙ lastChildren-length r ks (omega arith) in
+    let taken : takeDownTo g t (asMembers (lastChildren r (k ∷ []) ks)) ≡ ms ++ (last ∷ []) = ap (takeDownTo g t) whole ∙ takeDownTo-snoc g t (asMembers P) (asMember k) in
+    let laid : reverse (runChoices begins (takeDownTo g t (asMembers (lastChildren r (k ∷ []) ks))))
     ≡ record { mark = lastMark r; second = takes g t n (k .gain) } ∷ reverse (runChoices begins ms) =
-    ap (λ x. reverse (runChoices begins x)) cut
+    ap (λ x. reverse (runChoices begins x)) taken
     ∙ ap reverse (runChoices-snoc ms last)
     ∙ reverse-append (runChoices begins ms) (record { mark = lastMark (length ms); second = last .taken } ∷ [])
-    ∙ ap₂ (λ x y. record { mark = lastMark x; second = y } ∷ reverse (runChoices begins ms)) long (cut-taken (takes g t n (k .gain)) k) in
+    ∙ ap₂ (λ x y. record { mark = lastMark x; second = y } ∷ reverse (runChoices begins ms)) long (takeLast-taken (takes g t n (k .gain)) k) in
     ap (λ x. record { mark = lastMark r; second = takes g t x (k .gain) } ∷ backRun g t x r ks) count
     ∙ ap (λ l. record { mark = lastMark r; second = takes g t n (k .gain) } ∷ l) (back-run g t r ks (omega arith))
     ∙ sym laid
@@ -191,7 +191,7 @@ back-run g t (suc r) (k ∷ ks) h =
 -- ---- The level, one choice a turn
 
 -- the level where n more of the gain g are left and t of them were taken
-unfoldable pub levelling : ℕ → ℕ → ℕ → (ℕ → ℕ) → ℕ → ℕ → Level
+unfoldable pub levelling : ℕ → ℕ → ℕ → (ℕ → ℕ) → ℕ → ℕ → GainLevel
 levelling zero n t c room sum = record { gain = 0; times = 0 }
 levelling (suc g) n t c room sum = levelHere n t (suc g) room sum (λ s. levelFrom g c room s)
 
@@ -231,18 +231,18 @@ levelling-take (suc g) (suc n) t c room sum p q h =
 -- ---- Which members a run takes
 
 -- the members of a run, reduced, by the level that is found from what is kept of it
-pub run-level : {K len total gained top : ℕ} {run : List Child} {counts : List ℕ} → Kept K run len total gained top counts
-    → runOf K run ≡ cutBy (levelFrom top (countsOf counts) K total) (members run)
+pub run-level : {K len total gained top : ℕ} {run : List Child} {counts : List ℕ} → RunSums K run len total gained top counts
+    → runOf K run ≡ takeByLevel (levelFrom top (countsOf counts) K total) (asMembers run)
 unfolding runOf
 run-level {K} {top = top} {run = run} {counts = counts} kept =
-    reduce-level top (countsOf counts) K (members run)
+    reduce-level top (countsOf counts) K (asMembers run)
     (record { sound = members-sound K run (kept .good); below = kept .largest; counts = λ h p q. kept .counts-are h })
-    ∙ ap (λ s. cutBy (levelFrom top (countsOf counts) K s) (members run)) (kept .total-is)
+    ∙ ap (λ s. takeByLevel (levelFrom top (countsOf counts) K s) (asMembers run)) (kept .total-is)
 
 -- one step back: the last child of a run, and how many at the level come before it
 pub count-back : (g r : ℕ) (k : Child) (ks : List Child)
-    → countGain g (members (pulled (suc r) [] (k ∷ ks))) ≡ countGain g (members (pulled r [] ks)) + pick (eqb (k .gain) g) 1 0
-unfolding pulled asMember
+    → countGain g (asMembers (lastChildren (suc r) [] (k ∷ ks))) ≡ countGain g (asMembers (lastChildren r [] ks)) + pick (eqb (k .gain) g) 1 0
+unfolding lastChildren asMember
 count-back g r k ks =
-    ap (countGain g) (ap members (pulled-append r (k ∷ []) ks) ∙ members-snoc (pulled r [] ks) k)
-    ∙ count-snoc g (members (pulled r [] ks)) (asMember k)
+    ap (countGain g) (ap asMembers (lastChildren-append r (k ∷ []) ks) ∙ members-snoc (lastChildren r [] ks) k)
+    ∙ count-snoc g (asMembers (lastChildren r [] ks)) (asMember k)
