@@ -1,21 +1,21 @@
 -- A run's marks, from its last member back, one a turn. Defines Marking, Levelled. Proves count-less, sum-ready, counts-small, level-small,
 -- marking-start, marking-high, marking-low, marking-takes, marking-turn and marking-end.
 -- Assumes nothing.
-use Prim.Native.Nat.{ℕ, zero, suc, _+_, _-_, _≤_, _<_}
+use Prim.Native.Nat.{ℕ, suc, _+_, _-_, _≤_, _<_}
 use mathlib.Core.Path.{_≡_, refl, sym, _∙_, ap, ap₂}
 use mathlib.Core.Bool.{Bool, true, false, _&&_, _||_, false≢true}
 use mathlib.Core.Logic.{_⊎_, inl, inr}
 use mathlib.Core.List.{List, [], _∷_, _++_, reverse, append-assoc, append-nil}
 use native.Mathlib.Omega.{arith}
 use lib.ListN.{length, getD, set, length-set}
-use lib.Dec.{eqb, ltb, leb}
+use lib.Dec.{eqb, ltb}
 use borrow.Author.Tests.{eqb-true, eqb-false, eq-eqb, ne-eqb, ltb-true}
 use Rattle.model.specs.Basics.{pick}
 use Rattle.model.specs.Table.{maxNodes, maxLimit, slots}
 use Rattle.model.specs.Plan.{begins}
 use Rattle.model.specs.Steps.{Choice, runChoices}
 use Rattle.theory.specs.ReduceCount.{countGain}
-use Rattle.best.specs.CellsLevel.{GainLevel, levelHere, levelFrom, takeDownTo}
+use Rattle.best.specs.CellsLevel.{levelFrom, levelFrom-upTo, takeDownTo}
 use Rattle.best.specs.Cells.{lastChildren}
 use Rattle.best.specs.CellsArrays.{childrenIn, childIn, children-cons, children-length}
 use Rattle.best.specs.CellsRun.{asMembers, RunSums, countsOf, sums-count, nthPrev, nthPrev-le}
@@ -25,41 +25,6 @@ use Rattle.best.specs.LayContracts.{runBack, SecondsGain, SumReady, RunR
 use Rattle.best.proofs.LayRuns.{children-low, children-nodes, laid-none, laid-one, laid-then, seconds-gain-set}
 
 -- ---- A member that is taken has a gain
-
--- at the gain 0 none is taken
-abbrev NoneAtZero : GainLevel → Type 0
-NoneAtZero l = l .gain ≡ 0 → l .times ≡ 0
-
-level-here-none : (n t g room sum : ℕ) (next : ℕ → GainLevel) → ((s : ℕ) → NoneAtZero (next s)) → NoneAtZero (levelHere n t (suc g) room sum next)
-unfolding levelHere pick
-level-here-none zero t g room sum next h = h sum
-level-here-none (suc n) t g room sum next h = go (leb sum room) (level-here-none n (suc t) g room (sum - suc g) next h)
-  where
-    go : (b : Bool) → NoneAtZero (levelHere n (suc t) (suc g) room (sum - suc g) next)
-        → NoneAtZero (pick b (record { gain = suc g; times = t }) (levelHere n (suc t) (suc g) room (sum - suc g) next))
-    go true ih = λ e. absurd (omega arith)
-    go false ih = ih
-
-level-none : (g : ℕ) (c : ℕ → ℕ) (room sum : ℕ) → NoneAtZero (levelFrom g c room sum)
-unfolding levelFrom
-level-none zero c room sum = λ e. refl
-level-none (suc g) c room sum = level-here-none (c (suc g)) 0 g room sum (λ s. levelFrom g c room s) (λ s. level-none g c room s)
-
-here-le : (n t g m room sum : ℕ) (next : ℕ → GainLevel) → g ≤ m → ((s : ℕ) → next s .gain ≤ m) → levelHere n t g room sum next .gain ≤ m
-unfolding levelHere pick
-here-le zero t g m room sum next l h = h sum
-here-le (suc n) t g m room sum next l h = go (leb sum room) (here-le n (suc t) g m room (sum - g) next l h)
-  where
-    go : (b : Bool) → levelHere n (suc t) g room (sum - g) next .gain ≤ m
-        → pick b (record { gain = g; times = t }) (levelHere n (suc t) g room (sum - g) next) .gain ≤ m
-    go true ih = l
-    go false ih = ih
-
-level-le : (g : ℕ) (c : ℕ → ℕ) (room sum : ℕ) → levelFrom g c room sum .gain ≤ g
-unfolding levelFrom
-level-le zero c room sum = omega arith
-level-le (suc g) c room sum =
-    here-le (c (suc g)) 0 (suc g) (suc g) room sum (λ s. levelFrom g c room s) (omega arith) (λ s. omega (arith, level-le g c room s))
 
 takes-gain : (g t n gain : ℕ) → (g ≡ 0 → t ≡ 0) → takes g t n gain ≡ true → 1 ≤ gain
 takes-gain g t n gain h = go (ltb g gain) (eqb gain g) (ltb n t) refl refl refl
@@ -170,7 +135,7 @@ module _ {K c n : ℕ} {rests gains prevs marks seconds : List ℕ} (ready : Run
 
   module _ {g t : ℕ} {counts : List ℕ} (v : Levelled K c n rests gains prevs counts g t) where
     pub level-small : g ≤ maxLimit
-    level-small = omega (arith, v .gain-is, level-le (v .top) (countsOf counts) K (v .total), v .kept .top-high, ready .limit-high)
+    level-small = omega (arith, v .gain-is, levelFrom-upTo (v .top) (countsOf counts) K (v .total) .most, v .kept .top-high, ready .limit-high)
 
     pub marking-start : Marking rests gains prevs c n g t marks seconds marks seconds (getD counts g 0) n c
     unfolding nthPrev
@@ -211,7 +176,7 @@ module _ {K c n : ℕ} {rests gains prevs marks seconds : List ℕ} (ready : Run
           sym
           (ap₂ (backRun g t before) less (shape m some)
           ∙ ap (λ k. record { mark = lastMark (left - 1); second = takes g t k gain } ∷ backRun g t k (left - 1) (childrenIn rests gains prevs (getD prevs next 0))) (sym b)) in
-          let none : g ≡ 0 → t ≡ 0 = λ z. v .times-is ∙ level-none (v .top) (countsOf counts) K (v .total) (sym (v .gain-is) ∙ z) in
+          let none : g ≡ 0 → t ≡ 0 = λ z. v .times-is ∙ levelFrom-upTo (v .top) (countsOf counts) K (v .total) .none (sym (v .gain-is) ∙ z) in
           record {
             done = m .done + 1;
             choices = m .choices ++ (ch ∷ []);

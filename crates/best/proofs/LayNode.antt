@@ -129,9 +129,6 @@ module _ {t : List ℕ} {v : ℕ} {rests gains prevs lasts xs marks seconds : Li
       → Walking t v rests gains prevs lasts marks seconds marks seconds start (getD lasts v 0)
   walk-from K start e f = rw (f, e) walk-start
 
-  pub last-high : getD lasts v 0 ≤ nodeCount t
-  last-high = child-high t v (getD lasts v 0) (node .last-child)
-
   module _ {marks′ seconds′ : List ℕ} {start child : ℕ} (w : Walking t v rests gains prevs lasts marks seconds marks′ seconds′ start child) where
     walk-child : ChildOrNone t v child
     walk-child = rw (w .at) (child-nthPrev t prevs (node .ready .before) (node .ready .none) v (w .walked) (getD lasts v 0) (node .last-child))

@@ -1,4 +1,4 @@
--- What is read of a node from the block of its last child. Proves gain-none and gain-found (the gain by its tests), last-high, block-fits and
+-- What is read of a node from the block of its last child. Proves gain-none and gain-found (the gain by its tests), block-fits and
 -- rest-fits (the reads are within bounds), gain-fits and node-planned (one node more). Assumes nothing.
 use Prim.Native.Nat.{ℕ, _+_, _-_, _*_, _%_, _≤_}
 use mathlib.Core.Path.{_≡_, refl, _∙_, ap}
@@ -31,12 +31,9 @@ gain-found true K w W x e = rw (le-leb (w + (K - W) + 1) K (ltb-false K (w + (K 
 module _ {t rests gains prevs lasts xs ys : List ℕ} {g : Bool} {v r : ℕ} (low : 1 ≤ v) (high : v ≤ nodeCount t)
     (p : NodesPlanned t g v rests gains prevs lasts xs) (f : ColumnsFilled t rests gains prevs v r xs ys)
   where
-    pub last-high : r ≤ nodeCount t
-    last-high = child-high t v r (f .last-child)
-
     pub block-fits : blockAt (limitOf t) r + 2 * (limitOf t + 1) ≤ length ys
     block-fits =
-        omega (arith, block-apart (limitOf t) r (nodeCount t + 1) (omega (arith, last-high)), p .ready .room, f .long)
+        omega (arith, block-apart (limitOf t) r (nodeCount t + 1) (omega (arith, child-high t v r (f .last-child))), p .ready .room, f .long)
 
     module _ (K w here rest : ℕ) (limit : K ≡ limitOf t) (weight : w ≡ weightAt t v) (block : here ≡ blockAt K r)
         (is : rest ≡ getD ys (here + w) 0 % pageWord)

@@ -8,13 +8,13 @@ use lib.ListN.{getD}
 use native.Mathlib.Omega.{arith}
 use Rattle.model.specs.Table.{maxNodes, maxLimit, slots}
 use Rattle.best.specs.CellsRun.{blockAt}
+use Rattle.best.specs.CellsNode.{child-high}
 use Rattle.best.proofs.LayNode.{
   Walking,
   Found,
   limit-small,
   nodes-small,
   walk-from,
-  last-high,
   walk-high,
   walk-reads,
   block-small,
@@ -85,7 +85,7 @@ start-of-requires c κs =
 cast-child : tie.Need-cast-child Inv-loop μ-loop
 cast-child c =
     let b = c .before .before .before .before .before .before .before in
-    let last = last-high (b .pre) in
+    let last = child-high _ _ _ (b .pre .last-child) in
     let few = nodes-small (b .pre) in
     search needs
 

@@ -3,7 +3,8 @@ use Prim.Native.Nat.{_+_, _*_, _≤_}
 use mathlib.Core.Path.{refl}
 use native.Mathlib.Omega.{arith}
 use lib.ListN.{length, length-set}
-use Rattle.best.proofs.NodeGains.{last-high, block-fits, rest-fits, gain-fits, node-planned}
+use Rattle.best.specs.CellsNode.{child-high}
+use Rattle.best.proofs.NodeGains.{block-fits, rest-fits, gain-fits, node-planned}
 use borrow.Author.Needs.{needs}
 use Rattle.best.proofs.node.plan_node.Statement.{statement}
 use Rattle.best.proofs.node.plan_node.Tie as tie
@@ -27,7 +28,7 @@ block-at-requires c κs =
     let w = c .before .before .before .before .before .before in
     let b = w .before .before .before .before in
     let sound = b .pre .0 .ready .accepted .sound in
-    (omega (arith, w .before .limit-of .ensures, sound .limit-high), omega (arith, last-high (b .pre .1) (b .pre .2) (b .pre .0) (x .ensures), sound .count-high))
+    (omega (arith, w .before .limit-of .ensures, sound .limit-high), omega (arith, child-high _ _ _ (x .ensures .last-child), sound .count-high))
 
 add-rest : tie.Need-add-rest
 add-rest c =
