@@ -13,7 +13,7 @@ use borrow.Author.Tests.{eqb-true, eqb-false, eq-eqb, ne-eqb, ltb-true}
 use Rattle.model.specs.Basics.{pick}
 use Rattle.model.specs.Table.{maxNodes, maxLimit, slots}
 use Rattle.model.specs.Plan.{begins}
-use Rattle.model.specs.Steps.{Choice, runChoices}
+use Rattle.model.specs.Steps.{Child, Choice, runChoices}
 use Rattle.theory.specs.ReduceCount.{countGain}
 use Rattle.best.specs.CellsLevel.{levelFrom, levelFrom-upTo, takeDownTo}
 use Rattle.best.specs.Cells.{lastChildren}
@@ -101,7 +101,14 @@ pub record Levelled (K c n : ℕ) (rests gains prevs counts : List ℕ) (g t : �
   pub times-is : t ≡ levelFrom top (countsOf counts) K total .times
 
 module _ {K c n : ℕ} {rests gains prevs marks seconds : List ℕ} (ready : RunReady K c n rests gains prevs marks seconds) where
-  pub counts-small : {total gained top : ℕ} {counts : List ℕ} → RunSums K (lastChildren n [] (childrenIn rests gains prevs c)) n total gained top counts
+  abbrev children : ℕ → List Child
+  children u = childrenIn rests gains prevs u
+
+  -- the run
+  abbrev run : List Child
+  run = lastChildren n [] (children c)
+
+  pub counts-small : {total gained top : ℕ} {counts : List ℕ} → RunSums K run n total gained top counts
       → (h : ℕ) → getD counts h 0 ≤ maxNodes
   counts-small kept h =
       let few : n ≤ maxNodes = omega (arith, ready .within, children-length rests gains prevs (ready .earlier) c, ready .high, ready .short) in
@@ -116,16 +123,16 @@ module _ {K c n : ℕ} {rests gains prevs marks seconds : List ℕ} (ready : Run
       pub marking-low : 1 ≤ next
       marking-low = children-low rests gains prevs (ready .earlier) next (omega (arith, m .within))
 
-      shape : childrenIn rests gains prevs next ≡ childIn rests gains next ∷ childrenIn rests gains prevs (getD prevs next 0)
+      shape : children next ≡ childIn rests gains next ∷ children (getD prevs next 0)
       shape = children-cons rests gains prevs (ready .earlier) next marking-low
 
       -- how many at the level come before it
-      counted : before ≡ countGain g (asMembers (lastChildren (left - 1) [] (childrenIn rests gains prevs (getD prevs next 0)))) + pick (eqb (getD gains next 0) g) 1 0
+      counted : before ≡ countGain g (asMembers (lastChildren (left - 1) [] (children (getD prevs next 0)))) + pick (eqb (getD gains next 0) g) 1 0
       counted =
           let e : left ≡ suc (left - 1) = omega arith in
           m .count
           ∙ ap₂ (λ k ks. countGain g (asMembers (lastChildren k [] ks))) e shape
-          ∙ count-back g (left - 1) (childIn rests gains next) (childrenIn rests gains prevs (getD prevs next 0))
+          ∙ count-back g (left - 1) (childIn rests gains next) (children (getD prevs next 0))
 
       pub marking-takes : getD gains next 0 ≡ g → 1 ≤ before
       unfolding pick
@@ -140,7 +147,7 @@ module _ {K c n : ℕ} {rests gains prevs marks seconds : List ℕ} (ready : Run
     pub marking-start : Marking rests gains prevs c n g t marks seconds marks seconds (getD counts g 0) n c
     unfolding nthPrev
     marking-start =
-        let same : getD counts g 0 ≡ countGain g (asMembers (lastChildren n [] (childrenIn rests gains prevs c))) = sym (v .kept .counts-are g) in
+        let same : getD counts g 0 ≡ countGain g (asMembers run) = sym (v .kept .counts-are g) in
         record {
           done = 0;
           choices = [];
@@ -149,7 +156,7 @@ module _ {K c n : ℕ} {rests gains prevs marks seconds : List ℕ} (ready : Run
           within = ready .within;
           count = same;
           laid = laid-none prevs c marks seconds;
-          rest = ap (λ k. backRun g t k n (childrenIn rests gains prevs c)) same;
+          rest = ap (λ k. backRun g t k n (children c)) same;
           seconds-gain = ready .seconds-gain;
           wide = ready .wide;
         }
@@ -172,10 +179,10 @@ module _ {K c n : ℕ} {rests gains prevs marks seconds : List ℕ} (ready : Run
           let one : LaidRun prevs 1 next (ch ∷ []) marks′ seconds′ (set marks′ (next - 1) mark) (set seconds′ next second) = rw same at alone in
           let more : m .done + 1 ≡ suc (m .done) = omega arith in
           let less : left ≡ suc (left - 1) = omega arith in
-          let step : ch ∷ backRun g t before′ (left - 1) (childrenIn rests gains prevs (getD prevs next 0)) ≡ backRun g t before left (childrenIn rests gains prevs next) =
+          let step : ch ∷ backRun g t before′ (left - 1) (children (getD prevs next 0)) ≡ backRun g t before left (children next) =
           sym
           (ap₂ (backRun g t before) less (shape m some)
-          ∙ ap (λ k. record { mark = lastMark (left - 1); second = takes g t k gain } ∷ backRun g t k (left - 1) (childrenIn rests gains prevs (getD prevs next 0))) (sym b)) in
+          ∙ ap (λ k. record { mark = lastMark (left - 1); second = takes g t k gain } ∷ backRun g t k (left - 1) (children (getD prevs next 0))) (sym b)) in
           let none : g ≡ 0 → t ≡ 0 = λ z. v .times-is ∙ levelFrom-upTo (v .top) (countsOf counts) K (v .total) .none (sym (v .gain-is) ∙ z) in
           record {
             done = m .done + 1;
@@ -185,7 +192,7 @@ module _ {K c n : ℕ} {rests gains prevs marks seconds : List ℕ} (ready : Run
             within = omega (arith, m .within, ap length (shape m some));
             count = omega (arith, counted m some);
             laid = laid-then (ready .earlier) (λ j l. children-nodes rests gains prevs (ready .earlier) j c (omega (arith, m .sum, ready .within))) (m .at) (m .laid) one;
-            rest = append-assoc (m .choices) (ch ∷ []) (backRun g t before′ (left - 1) (childrenIn rests gains prevs (getD prevs next 0)))
+            rest = append-assoc (m .choices) (ch ∷ []) (backRun g t before′ (left - 1) (children (getD prevs next 0)))
                 ∙ ap (λ l. m .choices ++ l) step
                 ∙ m .rest;
             seconds-gain = seconds-gain-set gains seconds′ next second short (m .seconds-gain) (λ e. takes-gain g t before′ gain none (second-taken (takes g t before′ gain) (sym s ∙ e)));
@@ -196,12 +203,12 @@ module _ {K c n : ℕ} {rests gains prevs marks seconds : List ℕ} (ready : Run
       unfolding backRun
       marking-end z =
           let all : m .done ≡ n = omega (arith, m .sum) in
-          let whole : m .choices ≡ runBack K n (childrenIn rests gains prevs c) =
+          let whole : m .choices ≡ runBack K n (children c) =
           sym (append-nil (m .choices))
-          ∙ ap (λ k. m .choices ++ backRun g t before k (childrenIn rests gains prevs next)) (sym z)
+          ∙ ap (λ k. m .choices ++ backRun g t before k (children next)) (sym z)
           ∙ m .rest
-          ∙ back-run g t n (childrenIn rests gains prevs c) (ready .within)
-          ∙ ap₂ (λ x y. reverse (runChoices begins (takeDownTo x y (asMembers (lastChildren n [] (childrenIn rests gains prevs c)))))) (v .gain-is) (v .times-is)
+          ∙ back-run g t n (children c) (ready .within)
+          ∙ ap₂ (λ x y. reverse (runChoices begins (takeDownTo x y (asMembers run)))) (v .gain-is) (v .times-is)
           ∙ ap (λ ms. reverse (runChoices begins ms)) (sym (run-level (v .kept))) in
           record {
             laid = rw (all, whole) at (m .laid);

@@ -15,7 +15,7 @@ use Rattle.model.specs.Table.{maxNodes, maxLimit, slots, nodeCount, limitOf, we
 use Rattle.model.specs.Plan.{parentAt}
 use Rattle.model.specs.Steps.{Child, Choice, entryAt, secondStart}
 use Rattle.best.specs.Cells.{lastChildren, rebuilt, LengthFits, Agrees, stayChoice, cellAt, cell-entry}
-use Rattle.best.specs.CellsArrays.{childrenIn, children-none, children-cons, children-length, children-good}
+use Rattle.best.specs.CellsArrays.{childIn, childrenIn, children-none, children-cons, children-length, children-good}
 use Rattle.best.specs.CellsRun.{nthPrev, nthPrev-le, blockAt, block-apart}
 use Rattle.best.specs.CellsNode.{ChildOrNone, child-high, child-nthPrev, nthPrev-shift, SiblingsBefore}
 use Rattle.best.specs.LayMarks.{choicesBack, choices-back-none, choices-back-cons}
@@ -93,21 +93,31 @@ pub record Found (t xs : List ℕ) (K start child len : ℕ) : Type 0 where
   pub run-is : len ≡ getD xs (blockAt K child + (K + 1) + start) 0
 
 module _ {t : List ℕ} {v : ℕ} {rests gains prevs lasts xs marks seconds : List ℕ} (node : NodeReady t v rests gains prevs lasts xs marks seconds) where
-  pub limit-small : limitOf t ≤ maxLimit
+  abbrev children : ℕ → List Child
+  children u = childrenIn rests gains prevs u
+
+  abbrev limit : ℕ
+  limit = limitOf t
+
+  -- v's last child
+  abbrev last : ℕ
+  last = getD lasts v 0
+
+  pub limit-small : limit ≤ maxLimit
   limit-small = node .ready .accepted .sound .limit-high
 
   pub nodes-small : nodeCount t ≤ maxNodes
   nodes-small = node .ready .accepted .sound .count-high
 
   start-within : (b : Bool) → eqb (getD seconds v 0) 1 ≡ b
-      → (weightAt t v ≤ startOf (limitOf t) (weightAt t v) (getD rests v 0) b) × (startOf (limitOf t) (weightAt t v) (getD rests v 0) b ≤ limitOf t)
+      → (weightAt t v ≤ startOf limit (weightAt t v) (getD rests v 0) b) × (startOf limit (weightAt t v) (getD rests v 0) b ≤ limit)
   unfolding pick secondStart
   start-within true e =
       let s = node .second (node .seconds-gain v (eqb-true (getD seconds v 0) 1 e)) in
       (omega arith, s)
   start-within false e = (omega arith, node .ready .accepted .light v (node .low) (node .high))
 
-  walk-start : Walking t v rests gains prevs lasts marks seconds marks seconds (nodeStart t v rests seconds) (getD lasts v 0)
+  walk-start : Walking t v rests gains prevs lasts marks seconds marks seconds (nodeStart t v rests seconds) last
   unfolding nthPrev
   walk-start =
       let s = start-within (eqb (getD seconds v 0) 1) refl in
@@ -116,7 +126,7 @@ module _ {t : List ℕ} {v : ℕ} {rests gains prevs lasts xs marks seconds : Li
         choices = [];
         at = refl;
         within = omega arith;
-        laid = laid-none prevs (getD lasts v 0) marks seconds;
+        laid = laid-none prevs last marks seconds;
         rest = refl;
         low = s .0;
         high = s .1;
@@ -125,94 +135,94 @@ module _ {t : List ℕ} {v : ℕ} {rests gains prevs lasts xs marks seconds : Li
       }
 
   -- from the start as it is found
-  pub walk-from : (K start : ℕ) → K ≡ limitOf t → start ≡ startOf K (weightAt t v) (getD rests v 0) (eqb (getD seconds v 0) 1)
-      → Walking t v rests gains prevs lasts marks seconds marks seconds start (getD lasts v 0)
+  pub walk-from : (K start : ℕ) → K ≡ limit → start ≡ startOf K (weightAt t v) (getD rests v 0) (eqb (getD seconds v 0) 1)
+      → Walking t v rests gains prevs lasts marks seconds marks seconds start last
   walk-from K start e f = rw (f, e) walk-start
 
   module _ {marks′ seconds′ : List ℕ} {start child : ℕ} (w : Walking t v rests gains prevs lasts marks seconds marks′ seconds′ start child) where
     walk-child : ChildOrNone t v child
-    walk-child = rw (w .at) (child-nthPrev t prevs (node .ready .before) (node .ready .none) v (w .walked) (getD lasts v 0) (node .last-child))
+    walk-child = rw (w .at) (child-nthPrev t prevs (node .ready .before) (node .ready .none) v (w .walked) last (node .last-child))
 
     pub walk-high : child ≤ nodeCount t
     walk-high = child-high t v child walk-child
 
     -- the length of the run is within the words
-    pub walk-reads : (K block : ℕ) → K ≡ limitOf t → block ≡ blockAt K child → block + (K + 1) + start < length xs
+    pub walk-reads : (K block : ℕ) → K ≡ limit → block ≡ blockAt K child → block + (K + 1) + start < length xs
     walk-reads K block e f =
-        let here : block ≡ blockAt (limitOf t) child = f ∙ ap (λ k. blockAt k child) e in
-        omega (arith, block-apart (limitOf t) child (nodeCount t + 1) (omega (arith, walk-high)), node .ready .room, w .high, here, e)
+        let here : block ≡ blockAt limit child = f ∙ ap (λ k. blockAt k child) e in
+        omega (arith, block-apart limit child (nodeCount t + 1) (omega (arith, walk-high)), node .ready .room, w .high, here, e)
 
-    pub block-small : (K block : ℕ) → K ≡ limitOf t → block ≡ blockAt K child → block + (K + 1) + start < blockAt maxLimit slots
+    pub block-small : (K block : ℕ) → K ≡ limit → block ≡ blockAt K child → block + (K + 1) + start < blockAt maxLimit slots
     block-small K block e f =
-        let here : block ≡ blockAt (limitOf t) child = f ∙ ap (λ k. blockAt k child) e in
-        let most : child * (2 * (limitOf t + 1)) ≤ maxNodes * (2 * (maxLimit + 1)) =
-        mul-le-mul {n₁ = child} {m₁ = 2 * (limitOf t + 1)} {n₂ = maxNodes} {m₂ = 2 * (maxLimit + 1)} (omega (arith, walk-high, nodes-small)) (omega (arith, limit-small)) in
+        let here : block ≡ blockAt limit child = f ∙ ap (λ k. blockAt k child) e in
+        let most : child * (2 * (limit + 1)) ≤ maxNodes * (2 * (maxLimit + 1)) =
+        mul-le-mul {n₁ = child} {m₁ = 2 * (limit + 1)} {n₂ = maxNodes} {m₂ = 2 * (maxLimit + 1)} (omega (arith, walk-high, nodes-small)) (omega (arith, limit-small)) in
         omega (arith, here, e, most, w .high, limit-small)
 
-    are-nodes : (k : ℕ) → w .walked + k ≤ length (childrenIn rests gains prevs (getD lasts v 0)) → AllNodes prevs (w .walked + k) (getD lasts v 0)
-    are-nodes k h j l = children-nodes rests gains prevs (node .ready .earlier) j (getD lasts v 0) (omega arith)
+    are-nodes : (k : ℕ) → w .walked + k ≤ length (children last) → AllNodes prevs (w .walked + k) last
+    are-nodes k h j l = children-nodes rests gains prevs (node .ready .earlier) j last (omega arith)
 
-    left-long : length (childrenIn rests gains prevs child) + w .walked ≡ length (childrenIn rests gains prevs (getD lasts v 0))
+    left-long : length (children child) + w .walked ≡ length (children last)
     left-long =
-        let e : childrenIn rests gains prevs child ≡ drop (w .walked) (childrenIn rests gains prevs (getD lasts v 0)) =
-        ap (childrenIn rests gains prevs) (w .at) ∙ children-nthPrev rests gains prevs (node .ready .earlier) (w .walked) (getD lasts v 0) (w .within) in
-        omega (arith, ap length e, length-drop (w .walked) (childrenIn rests gains prevs (getD lasts v 0)), w .within)
+        let e : children child ≡ drop (w .walked) (children last) =
+        ap children (w .at) ∙ children-nthPrev rests gains prevs (node .ready .earlier) (w .walked) last (w .within) in
+        omega (arith, ap length e, length-drop (w .walked) (children last), w .within)
 
     module _ {K len : ℕ} (found : Found t xs K start child len) where
-      is : len ≡ getD xs (blockAt (limitOf t) child + (limitOf t + 1) + start) 0
+      is : len ≡ getD xs (blockAt limit child + (limit + 1) + start) 0
       is = found .run-is ∙ ap (λ k. getD xs (blockAt k child + (k + 1) + start) 0) (found .limit-is)
 
       one : 1 ≤ child
       one = omega (arith, found .some)
 
-      agrees : Agrees (limitOf t) start (childrenIn rests gains prevs child) (entryAt (limitOf t) (childrenIn rests gains prevs child) start) (cellAt (limitOf t) (childrenIn rests gains prevs child) start)
+      agrees : Agrees limit start (children child) (entryAt limit (children child) start) (cellAt limit (children child) start)
       agrees =
-          cell-entry (limitOf t) (omega (arith, limit-small)) (childrenIn rests gains prevs child) start (w .high)
-          (children-good (limitOf t) rests gains prevs (node .ready .good) child)
+          cell-entry limit (omega (arith, limit-small)) (children child) start (w .high)
+          (children-good limit rests gains prevs (node .ready .good) child)
           (omega (arith, children-length rests gains prevs (node .ready .earlier) child, walk-high, nodes-small))
 
-      len-is : cellAt (limitOf t) (childrenIn rests gains prevs child) start .run ≡ len
+      len-is : cellAt limit (children child) start .run ≡ len
       len-is =
           sym
           (is
-          ∙ ap (λ u. getD xs (blockAt (limitOf t) u + (limitOf t + 1) + start) 0) (w .at)
+          ∙ ap (λ u. getD xs (blockAt limit u + (limit + 1) + start) 0) (w .at)
           ∙ ap (λ c. c .run) (node .columns (w .walked) start (w .low) (w .high))
-          ∙ ap (λ u. cellAt (limitOf t) (childrenIn rests gains prevs u) start .run) (sym (w .at)))
+          ∙ ap (λ u. cellAt limit (children u) start .run) (sym (w .at)))
 
-      chosen : entryAt (limitOf t) (childrenIn rests gains prevs child) start .choices ≡ rebuilt (limitOf t) len (childrenIn rests gains prevs child) start
-      chosen = agrees .choices ∙ ap (λ r. rebuilt (limitOf t) r (childrenIn rests gains prevs child) start) len-is
+      chosen : entryAt limit (children child) start .choices ≡ rebuilt limit len (children child) start
+      chosen = agrees .choices ∙ ap (λ r. rebuilt limit r (children child) start) len-is
 
-      length-fits : LengthFits (limitOf t) start (childrenIn rests gains prevs child) len
+      length-fits : LengthFits limit start (children child) len
       length-fits = rw len-is at (agrees .length-fits)
 
-      shape : childrenIn rests gains prevs child ≡ record { rest = getD rests child 0; gain = getD gains child 0 } ∷ childrenIn rests gains prevs (getD prevs child 0)
+      shape : children child ≡ childIn rests gains child ∷ children (getD prevs child 0)
       shape = children-cons rests gains prevs (node .ready .earlier) child one
 
       pub prev-less : getD prevs child 0 < child
       prev-less = node .ready .earlier child one
 
       module _ (zeroed : len ≡ 0) where
-        pub stay-fits : start + getD rests child 0 ≤ limitOf t
+        pub stay-fits : start + getD rests child 0 ≤ limit
         stay-fits =
-            stay-within (limitOf t) start (record { rest = getD rests child 0; gain = getD gains child 0 }) (childrenIn rests gains prevs (getD prevs child 0))
+            stay-within limit start (childIn rests gains child) (children (getD prevs child 0))
             (rw (zeroed, shape) at length-fits)
 
         pub walk-stay : Walking t v rests gains prevs lasts marks seconds (set marks′ (child - 1) 0) (set seconds′ child 0) (start + getD rests child 0) (getD prevs child 0)
         unfolding nthPrev
         walk-stay =
             let more : w .walked + 1 ≡ suc (w .walked) = omega arith in
-            let X : List Choice = entryAt (limitOf t) (childrenIn rests gains prevs (getD prevs child 0)) (start + getD rests child 0) .choices in
-            let here : stayChoice ∷ X ≡ entryAt (limitOf t) (childrenIn rests gains prevs child) start .choices =
+            let X : List Choice = entryAt limit (children (getD prevs child 0)) (start + getD rests child 0) .choices in
+            let here : stayChoice ∷ X ≡ entryAt limit (children child) start .choices =
             sym
             (chosen
-            ∙ ap₂ (λ r ks. rebuilt (limitOf t) r ks start) zeroed shape
-            ∙ rebuilt-stay (limitOf t) start (record { rest = getD rests child 0; gain = getD gains child 0 }) (childrenIn rests gains prevs (getD prevs child 0))) in
+            ∙ ap₂ (λ r ks. rebuilt limit r ks start) zeroed shape
+            ∙ rebuilt-stay limit start (childIn rests gains child) (children (getD prevs child 0))) in
             let short : child < length seconds′ = omega (arith, walk-high, nodes-small, w .wide) in
-            let fits : w .walked + 1 ≤ length (childrenIn rests gains prevs (getD lasts v 0)) = omega (arith, left-long, ap length shape) in
+            let fits : w .walked + 1 ≤ length (children last) = omega (arith, left-long, ap length shape) in
             record {
               walked = w .walked + 1;
               choices = w .choices ++ (stayChoice ∷ []);
-              at = ap (λ u. getD prevs u 0) (w .at) ∙ sym (ap (λ k. nthPrev prevs k (getD lasts v 0)) more);
+              at = ap (λ u. getD prevs u 0) (w .at) ∙ sym (ap (λ k. nthPrev prevs k last) more);
               within = fits;
               laid =
                   laid-then (node .ready .earlier) (are-nodes 1 fits) (w .at) (w .laid)
@@ -225,8 +235,8 @@ module _ {t : List ℕ} {v : ℕ} {rests gains prevs lasts xs marks seconds : Li
             }
 
       module _ (run : len ≡ 0 → ⊥) where
-        run-within : len ≤ length (childrenIn rests gains prevs child)
-        run-within = length-within (limitOf t) start len (childrenIn rests gains prevs child) length-fits run
+        run-within : len ≤ length (children child)
+        run-within = length-within limit start len (children child) length-fits run
 
         pub walk-ready : RunReady K child len rests gains prevs marks′ seconds′
         walk-ready =
@@ -244,7 +254,7 @@ module _ {t : List ℕ} {v : ℕ} {rests gains prevs lasts xs marks seconds : Li
             }
 
         module _ {marks″ seconds″ : List ℕ} {r : ℕ} (given : RunDone K child len rests gains prevs marks′ seconds′ marks″ seconds″ r) where
-          done : RunDone (limitOf t) child len rests gains prevs marks′ seconds′ marks″ seconds″ r
+          done : RunDone limit child len rests gains prevs marks′ seconds′ marks″ seconds″ r
           done = rw (found .limit-is) at given
 
           pub walk-less : r < child
@@ -255,22 +265,22 @@ module _ {t : List ℕ} {v : ℕ} {rests gains prevs lasts xs marks seconds : Li
 
           pub walk-run : Walking t v rests gains prevs lasts marks seconds marks″ seconds″ start r
           walk-run =
-              let X : List Choice = entryAt (limitOf t) (childrenIn rests gains prevs r) start .choices in
-              let before : drop len (childrenIn rests gains prevs child) ≡ childrenIn rests gains prevs r =
-              sym (ap (childrenIn rests gains prevs) (done .next) ∙ children-nthPrev rests gains prevs (node .ready .earlier) len child run-within) in
-              let here : runBack (limitOf t) len (childrenIn rests gains prevs child) ++ X ≡ entryAt (limitOf t) (childrenIn rests gains prevs child) start .choices =
+              let X : List Choice = entryAt limit (children r) start .choices in
+              let before : drop len (children child) ≡ children r =
+              sym (ap children (done .next) ∙ children-nthPrev rests gains prevs (node .ready .earlier) len child run-within) in
+              let here : runBack limit len (children child) ++ X ≡ entryAt limit (children child) start .choices =
               sym
               (chosen
-              ∙ rebuilt-run (limitOf t) start len (childrenIn rests gains prevs child) run-within run
-              ∙ ap (λ ks. runBack (limitOf t) len (childrenIn rests gains prevs child) ++ entryAt (limitOf t) ks start .choices) before) in
-              let fits : w .walked + len ≤ length (childrenIn rests gains prevs (getD lasts v 0)) = omega (arith, left-long, run-within) in
+              ∙ rebuilt-run limit start len (children child) run-within run
+              ∙ ap (λ ks. runBack limit len (children child) ++ entryAt limit ks start .choices) before) in
+              let fits : w .walked + len ≤ length (children last) = omega (arith, left-long, run-within) in
               record {
                 walked = w .walked + len;
-                choices = w .choices ++ runBack (limitOf t) len (childrenIn rests gains prevs child);
-                at = done .next ∙ ap (nthPrev prevs len) (w .at) ∙ nthPrev-add prevs (w .walked) len (getD lasts v 0);
+                choices = w .choices ++ runBack limit len (children child);
+                at = done .next ∙ ap (nthPrev prevs len) (w .at) ∙ nthPrev-add prevs (w .walked) len last;
                 within = fits;
                 laid = laid-then (node .ready .earlier) (are-nodes len fits) (w .at) (w .laid) (done .laid);
-                rest = append-assoc (w .choices) (runBack (limitOf t) len (childrenIn rests gains prevs child)) X ∙ ap (λ l. w .choices ++ l) here ∙ w .rest;
+                rest = append-assoc (w .choices) (runBack limit len (children child)) X ∙ ap (λ l. w .choices ++ l) here ∙ w .rest;
                 low = w .low;
                 high = w .high;
                 seconds-gain = done .seconds-gain;
@@ -279,20 +289,20 @@ module _ {t : List ℕ} {v : ℕ} {rests gains prevs lasts xs marks seconds : Li
 
     pub walk-end : child ≡ 0 → NodeDone t v rests gains prevs lasts marks seconds marks′ seconds′
     walk-end z =
-        let none : entryAt (limitOf t) (childrenIn rests gains prevs child) start .choices ≡ [] =
-        ap (λ ks. entryAt (limitOf t) ks start .choices) (ap (childrenIn rests gains prevs) z ∙ children-none rests gains prevs (node .ready .earlier))
-        ∙ no-choices (limitOf t) start in
-        let all : choicesFor prevs (chosenIn marks′ seconds′) (w .walked) (getD lasts v 0) ≡ choicesBack t (chosenIn marks′ seconds′) (getD lasts v 0) =
-        choices-all t prevs (chosenIn marks′ seconds′) v (node .ready .before) (node .ready .none) (w .walked) (getD lasts v 0) (node .last-child) (sym (w .at) ∙ z)
-        (λ j l. children-nodes rests gains prevs (node .ready .earlier) j (getD lasts v 0) (omega (arith, w .within))) in
+        let none : entryAt limit (children child) start .choices ≡ [] =
+        ap (λ ks. entryAt limit ks start .choices) (ap children z ∙ children-none rests gains prevs (node .ready .earlier))
+        ∙ no-choices limit start in
+        let all : choicesFor prevs (chosenIn marks′ seconds′) (w .walked) last ≡ choicesBack t (chosenIn marks′ seconds′) last =
+        choices-all t prevs (chosenIn marks′ seconds′) v (node .ready .before) (node .ready .none) (w .walked) last (node .last-child) (sym (w .at) ∙ z)
+        (λ j l. children-nodes rests gains prevs (node .ready .earlier) j last (omega (arith, w .within))) in
         record {
           long = w .laid .long;
           wide = w .wide;
           seconds-gain = w .seconds-gain;
           chosen = sym all ∙ w .laid .chosen ∙ sym (append-nil (w .choices)) ∙ ap (λ l. w .choices ++ l) (sym none) ∙ w .rest;
-          others = λ u low h. w .laid .others u low (λ i l e. h (parent u low i (child-nthPrev t prevs (node .ready .before) (node .ready .none) v i (getD lasts v 0) (node .last-child)) e));
+          others = λ u low h. w .laid .others u low (λ i l e. h (parent u low i (child-nthPrev t prevs (node .ready .before) (node .ready .none) v i last (node .last-child)) e));
         }
       where
-        parent : (u : ℕ) → 1 ≤ u → (i : ℕ) → ChildOrNone t v (nthPrev prevs i (getD lasts v 0)) → u ≡ nthPrev prevs i (getD lasts v 0) → parentAt t u ≡ v
+        parent : (u : ℕ) → 1 ≤ u → (i : ℕ) → ChildOrNone t v (nthPrev prevs i last) → u ≡ nthPrev prevs i last → parentAt t u ≡ v
         parent u low i (inl y) e = absurd (omega arith)
         parent u low i (inr q) e = rw e (q .2)

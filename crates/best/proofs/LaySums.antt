@@ -6,6 +6,7 @@ use mathlib.Core.List.{List, [], _∷_}
 use native.Mathlib.Omega.{arith}
 use lib.ListN.{length, getD, set, drop, replicate, length-set, length-replicate}
 use Rattle.model.specs.Table.{maxNodes, maxLimit}
+use Rattle.model.specs.Steps.{Child}
 use Rattle.best.specs.Cells.{lastChildren, lastChildren-one}
 use Rattle.best.specs.CellsArrays.{childrenIn, EachGood, childIn, children-cons, children-length}
 use Rattle.best.specs.CellsRun.{RunSums, sums-none, sums-more, sums-count, sums-gained, sums-total, nthPrev, nthPrev-le}
@@ -31,6 +32,9 @@ pub record Joinable (rests gains : List ℕ) (len total gained : ℕ) (counts : 
   pub gained-high : gained + getD gains next 0 < 4294967296
 
 module _ {rests gains prevs : List ℕ} {c n : ℕ} (ready : SumReady c n rests gains prevs) where
+  abbrev children : ℕ → List Child
+  children u = childrenIn rests gains prevs u
+
   pub summing-start : (counts : List ℕ) → counts ≡ replicate gainSlots 0 → Summing rests gains prevs c n 0 0 0 0 counts c
   unfolding lastChildren nthPrev
   summing-start counts e =
@@ -43,7 +47,7 @@ module _ {rests gains prevs : List ℕ} {c n : ℕ} (ready : SumReady c n rests 
       })
 
   module _ {len total gained top : ℕ} {counts : List ℕ} {next : ℕ} (s : Summing rests gains prevs c n len total gained top counts next) where
-    children-high : length (childrenIn rests gains prevs c) ≤ maxNodes
+    children-high : length (children c) ≤ maxNodes
     children-high = omega (arith, children-length rests gains prevs (ready .earlier) c, ready .high)
 
     pub summing-high : next ≤ maxNodes
@@ -74,22 +78,22 @@ module _ {rests gains prevs : List ℕ} {c n : ℕ} (ready : SumReady c n rests 
     summing-turn h =
         let r = joinable h in
         let one : len + 1 ≡ suc len = omega arith in
-        let children : drop len (childrenIn rests gains prevs c) ≡ childIn rests gains next ∷ childrenIn rests gains prevs (getD prevs next 0) =
+        let shape : drop len (children c) ≡ childIn rests gains next ∷ children (getD prevs next 0) =
         sym (children-nthPrev rests gains prevs (ready .earlier) len c (omega (arith, ready .within)))
-        ∙ ap (childrenIn rests gains prevs) (sym (s .at))
+        ∙ ap children (sym (s .at))
         ∙ children-cons rests gains prevs (ready .earlier) next (r .low) in
-        let pull : lastChildren (suc len) [] (childrenIn rests gains prevs c) ≡ childIn rests gains next ∷ lastChildren len [] (childrenIn rests gains prevs c) =
-        lastChildren-one len [] (childrenIn rests gains prevs c) (childIn rests gains next) (childrenIn rests gains prevs (getD prevs next 0)) children .0 in
+        let pull : lastChildren (suc len) [] (children c) ≡ childIn rests gains next ∷ lastChildren len [] (children c) =
+        lastChildren-one len [] (children c) (childIn rests gains next) (children (getD prevs next 0)) shape .0 in
         record {
           at = rw one (ap (λ u. getD prevs u 0) (s .at));
           below = omega arith;
           wide = simp length-set (s .wide);
           kept = λ K good.
               let more = sums-more (s .kept K good) (childIn rests gains next) (good next) (omega (arith, r .gain-high, s .wide)) in
-              rw (ap (λ k. lastChildren k [] (childrenIn rests gains prevs c)) one ∙ pull) more;
+              rw (ap (λ k. lastChildren k [] (children c)) one ∙ pull) more;
         }
 
-    pub summing-end : n ≤ len → (K : ℕ) → EachGood K rests gains → RunSums K (lastChildren n [] (childrenIn rests gains prevs c)) n total gained top counts
+    pub summing-end : n ≤ len → (K : ℕ) → EachGood K rests gains → RunSums K (lastChildren n [] (children c)) n total gained top counts
     summing-end h K good = let e : n ≡ len = omega (arith, s .below) in rw e (s .kept K good)
 
   pub summing-next : (sums sums′ : Sums) (counts counts′ : List ℕ) (next : ℕ)

@@ -15,7 +15,7 @@ use borrow.Author.Tests.{eqb-true, eqb-false, leb-true}
 use Rattle.model.specs.Basics.{pick}
 use Rattle.model.specs.Table.{maxNodes, maxLimit, slots, nodeCount, limitOf, weightAt, firstAt}
 use Rattle.model.specs.Plan.{parentAt}
-use Rattle.model.specs.Steps.{entryAt, secondStart, gainOf, childOf, childrenOf}
+use Rattle.model.specs.Steps.{Child, entryAt, secondStart, gainOf, childOf, childrenOf}
 use Rattle.theory.specs.TableLinks.{parentAt-none}
 use Rattle.theory.specs.TableChain.{chainAt}
 use Rattle.best.specs.Cells.{pageWord, wordOf, cellAt, GoodChild, Good, cell-entry}
@@ -70,17 +70,24 @@ second-later K w W = omega arith
 module _ {t rests gains prevs lasts xs ys : List ℕ} {g : Bool} {v r : ℕ} (low : 1 ≤ v) (high : v ≤ nodeCount t)
     (p : NodesPlanned t g v rests gains prevs lasts xs) (f : ColumnsFilled t rests gains prevs v r xs ys)
   where
-    light : weightAt t v ≤ limitOf t
+    abbrev K : ℕ
+    K = limitOf t
+
+    -- v's children, as the table has them
+    abbrev kids : List Child
+    kids = childrenOf g K (chainAt t (firstAt t v))
+
+    light : weightAt t v ≤ K
     light = p .ready .accepted .light v low high
 
-    small : limitOf t ≤ maxLimit
+    small : K ≤ maxLimit
     small = p .ready .accepted .sound .limit-high
 
     same-children : (u : ℕ) → ChildOrNone t v u → childrenIn rests gains prevs u ≡ childrenUpTo t g u
     same-children = children-same t rests gains prevs g v (p .ready .before) (p .figures)
 
-    good-children : Good (limitOf t) (childrenUpTo t g r)
-    good-children = rw (same-children r (f .last-child)) at (children-good (limitOf t) rests gains prevs (p .ready .good) r)
+    good-children : Good K (childrenUpTo t g r)
+    good-children = rw (same-children r (f .last-child)) at (children-good K rests gains prevs (p .ready .good) r)
 
     short-children : length (childrenUpTo t g r) ≤ maxNodes
     short-children =
@@ -88,32 +95,32 @@ module _ {t rests gains prevs lasts xs ys : List ℕ} {g : Bool} {v r : ℕ} (lo
         let m : length (childrenUpTo t g r) ≤ r = rw (same-children r (f .last-child)) at l in
         omega (arith, child-high t v r (f .last-child), p .ready .accepted .sound .count-high)
 
-    rest-at : (s : ℕ) → weightAt t v ≤ s → s ≤ limitOf t
-        → getD ys (blockAt (limitOf t) r + s) 0 % pageWord ≡ entryAt (limitOf t) (childrenOf g (limitOf t) (chainAt t (firstAt t v))) s .rest
+    rest-at : (s : ℕ) → weightAt t v ≤ s → s ≤ K
+        → getD ys (blockAt K r + s) 0 % pageWord ≡ entryAt K kids s .rest
     unfolding nthPrev
     rest-at s a b =
-        let e = cell-entry (limitOf t) (omega (arith, small)) (childrenUpTo t g r) s b good-children short-children in
-        let c : getD ys (blockAt (limitOf t) r + s) 0 ≡ cellAt (limitOf t) (childrenUpTo t g r) s .word =
-        ap (λ x. x .word) (f .columns 0 s a b) ∙ ap (λ ks. cellAt (limitOf t) ks s .word) (same-children r (f .last-child)) in
-        let d : wordOf (entryAt (limitOf t) (childrenUpTo t g r) s) % pageWord ≡ entryAt (limitOf t) (childrenUpTo t g r) s .rest =
-        word-rest (entryAt (limitOf t) (childrenUpTo t g r) s .count) (entryAt (limitOf t) (childrenUpTo t g r) s .rest) (omega (arith, e .high, small)) in
-        ap (λ x. x % pageWord) (c ∙ e .word) ∙ d ∙ ap (λ ks. entryAt (limitOf t) ks s .rest) (sym (f .kids g))
+        let e = cell-entry K (omega (arith, small)) (childrenUpTo t g r) s b good-children short-children in
+        let c : getD ys (blockAt K r + s) 0 ≡ cellAt K (childrenUpTo t g r) s .word =
+        ap (λ x. x .word) (f .columns 0 s a b) ∙ ap (λ ks. cellAt K ks s .word) (same-children r (f .last-child)) in
+        let d : wordOf (entryAt K (childrenUpTo t g r) s) % pageWord ≡ entryAt K (childrenUpTo t g r) s .rest =
+        word-rest (entryAt K (childrenUpTo t g r) s .count) (entryAt K (childrenUpTo t g r) s .rest) (omega (arith, e .high, small)) in
+        ap (λ x. x % pageWord) (c ∙ e .word) ∙ d ∙ ap (λ ks. entryAt K ks s .rest) (sym (f .kids g))
 
     -- from the words at the node's own start and at the second
-    pub node-figures : (rest gain : ℕ) → rest ≡ getD ys (blockAt (limitOf t) r + weightAt t v) 0 % pageWord
-        → gain ≡ gainFrom g (limitOf t) (weightAt t v) rest (getD ys (blockAt (limitOf t) r + secondStart (limitOf t) (weightAt t v) rest) 0 % pageWord)
+    pub node-figures : (rest gain : ℕ) → rest ≡ getD ys (blockAt K r + weightAt t v) 0 % pageWord
+        → gain ≡ gainFrom g K (weightAt t v) rest (getD ys (blockAt K r + secondStart K (weightAt t v) rest) 0 % pageWord)
         → record { rest = rest; gain = gain } ≡ figureAt t g v
     unfolding figureAt childOf gainOf
     node-figures rest gain d e =
-        let W : ℕ = entryAt (limitOf t) (childrenOf g (limitOf t) (chainAt t (firstAt t v))) (weightAt t v) .rest in
+        let W : ℕ = entryAt K kids (weightAt t v) .rest in
         let same : rest ≡ W = d ∙ rest-at (weightAt t v) (omega arith) light in
-        let second : ℕ = secondStart (limitOf t) (weightAt t v) W in
+        let second : ℕ = secondStart K (weightAt t v) W in
         ap₂ (λ x y. record { rest = x; gain = y }) same
         (e
-        ∙ ap (λ x. gainFrom g (limitOf t) (weightAt t v) x (getD ys (blockAt (limitOf t) r + secondStart (limitOf t) (weightAt t v) x) 0 % pageWord)) same
-        ∙ same-gain g (limitOf t) (weightAt t v) W (getD ys (blockAt (limitOf t) r + second) 0 % pageWord)
-        (entryAt (limitOf t) (childrenOf g (limitOf t) (chainAt t (firstAt t v))) second .rest)
-        (λ h. rest-at second (second-later (limitOf t) (weightAt t v) W) h))
+        ∙ ap (λ x. gainFrom g K (weightAt t v) x (getD ys (blockAt K r + secondStart K (weightAt t v) x) 0 % pageWord)) same
+        ∙ same-gain g K (weightAt t v) W (getD ys (blockAt K r + second) 0 % pageWord)
+        (entryAt K kids second .rest)
+        (λ h. rest-at second (second-later K (weightAt t v) W) h))
 
 -- ---- One node more
 
