@@ -1,4 +1,5 @@
--- `best::column::fill_column` meets its contract: each run that was tried leads to the cells that are sought. Assumes nothing.
+-- `best::column::fill_column` meets its contract: each run that was tried leads to the cells that are sought.
+-- Assumes nothing.
 use Rattle.best.proofs.column.fill_column.Statement.{statement}
 use Rattle.best.proofs.column.fill_column.Tie as tie
 use borrow.Author.Needs.{needs}
@@ -36,11 +37,13 @@ use Rattle.best.specs.Cells.{Cell}
 use Rattle.best.specs.CellsArrays.{Swept}
 
 abbrev Inv-loop : tie.InvT-loop
-Inv-loop words rests gains prevs child start limit here first counts sums next sum₀ taken₀ gain₀ left₀ sum taken gain left =
+Inv-loop words rests gains prevs child start limit here first counts sums next sum₀ taken₀ gain₀ left₀
+    sum taken gain left =
     Taking limit child rests gains prevs counts sums sum taken gain left
 
 abbrev μ-loop : tie.MeasureT-loop
-μ-loop words rests gains prevs child start limit here first counts sums next sum₀ taken₀ gain₀ left₀ sum taken gain left =
+μ-loop words rests gains prevs child start limit here first counts sums next sum₀ taken₀ gain₀ left₀
+    sum taken gain left =
     gain * slots + left
 
 abbrev Inv-stretch : tie.InvT-stretch
@@ -51,7 +54,8 @@ abbrev μ-stretch : tie.MeasureT-stretch
 μ-stretch words₀ rests gains prevs child start limit here first counts₀ sums₀ next₀ words counts sums next =
     next
 
--- the state at entry, where the blocks of the child and of the sibling before it were found, and the words once the child stays
+-- the state at entry, where the blocks of the child and of the sibling before it were found, and the words once
+-- the child stays
 abbrev entry :
     tie.After-slice-known2 Inv-loop μ-loop Inv-stretch μ-stretch → tie.Start Inv-loop μ-loop Inv-stretch μ-stretch
 entry c = c .before .before .before .before .before .before .before .before .before
@@ -65,7 +69,8 @@ abbrev stayed : tie.After-slice-known2 Inv-loop μ-loop Inv-stretch μ-stretch �
 stayed c = c .before .before .stay .last .0
 
 -- the state at the turn's begin, where a new member was joined
-abbrev turn : tie.After-next Inv-loop μ-loop Inv-stretch μ-stretch → tie.At-stretch Inv-loop μ-loop Inv-stretch μ-stretch
+abbrev turn :
+    tie.After-next Inv-loop μ-loop Inv-stretch μ-stretch → tie.At-stretch Inv-loop μ-loop Inv-stretch μ-stretch
 turn c = c .before .before .before .before .before .before
 
 -- the siblings' columns still stand after the child stays
@@ -189,7 +194,8 @@ relax-requires c κs =
     let b = c .before in
     let l = b .before .before in
     let n = longer (l .before) in
-    relax-ready (n .2) (n .0) (l .loop .inv) (b .before .loop-test .left) (n .1) _ _ (n .4) (b .block-at3 .ensures) (n .3)
+    relax-ready (n .2) (n .0) (l .loop .inv) (b .before .loop-test .left) (n .1) _ _ (n .4)
+    (b .block-at3 .ensures) (n .3)
 
 cast-if3 : tie.Need-cast-if3 Inv-loop μ-loop Inv-stretch μ-stretch
 cast-if3 c = omega (arith, longer (c .before .before .before .before .before .before .before) .2 .limit-high)
@@ -224,7 +230,8 @@ returns-2 : tie.Need-returns-2 Inv-loop μ-loop Inv-stretch μ-stretch
 returns-2 c =
     let l = c .before .before in
     let n = longer (l .before) in
-    whole (turn (l .before) .before) (over-end (n .2) (n .0) (l .loop .inv) (c .if1 .taken) (c .before .loop-test .taken))
+    whole (turn (l .before) .before)
+    (over-end (n .2) (n .0) (l .loop .inv) (c .if1 .taken) (c .before .loop-test .taken))
 
 returns-3 : tie.Need-returns-3 Inv-loop μ-loop Inv-stretch μ-stretch
 returns-3 c =

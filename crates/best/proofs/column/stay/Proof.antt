@@ -13,7 +13,8 @@ use Rattle.best.proofs.ColumnSweeps.{stay-turn}
 
 abbrev Inv-loop : tie.InvT-loop
 Inv-loop words₀ here before start limit rest s₀ words s =
-    (start ≤ s) × (s ≤ maxLimit + 1) × Sweeping limit start here s (λ u. stayCell limit u rest (getD words₀ (before + (u + rest)) 0)) words₀ words
+    (start ≤ s) × (s ≤ maxLimit + 1)
+    × Sweeping limit start here s (λ u. stayCell limit u rest (getD words₀ (before + (u + rest)) 0)) words₀ words
 
 abbrev μ-loop : tie.MeasureT-loop
 μ-loop words₀ here before start limit rest s₀ words s = limit + 1 - s

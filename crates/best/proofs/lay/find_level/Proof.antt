@@ -7,7 +7,8 @@ use mathlib.Core.Path.{_≡_, sym, _∙_, ap}
 use native.Mathlib.Omega.{arith}
 use Rattle.best.specs.CellsRun.{countsOf}
 use Rattle.best.specs.CellsLevel.{levelFrom}
-use Rattle.best.specs.LayChoices.{levelling, levelling-start, levelling-down, levelling-stop, levelling-take, levelling-none}
+use Rattle.best.specs.LayChoices.{levelling, levelling-start, levelling-down}
+use Rattle.best.specs.LayChoices.{levelling-stop, levelling-take, levelling-none}
 
 abbrev Inv-loop : tie.InvT-loop
 Inv-loop counts top total limit gain₀ left₀ times₀ sum₀ gain left times sum =

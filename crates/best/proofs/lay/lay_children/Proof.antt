@@ -102,7 +102,8 @@ loop-holds : tie.Need-loop-holds Inv-loop μ-loop
 loop-holds c =
     let x = c .before .start-of in
     let lim = c .before .before .before .limit-of in
-    walk-from (c .before .before .before .before .before .before .before .pre) (lim .result) (x .result) (lim .ensures) (x .ensures)
+    let p = c .before .before .before .before .before .before .before .pre in
+    walk-from p (lim .result) (x .result) (lim .ensures) (x .ensures)
 
 block-at-requires : tie.Need-block-at-requires Inv-loop μ-loop
 block-at-requires c κs =

@@ -51,18 +51,21 @@ cast-next : tie.Need-cast-next Inv-loop μ-loop
 cast-next c =
     let l = c .before .before .before .before .before .before .before in
     let r = joinable (l .before .pre .0) (l .loop .inv) (c .before .before .before .before .before .if1 .taken) in
-    let small : getD (l .before .args .prevs .now) (l .loop .next) 0 < l .loop .next = l .before .pre .0 .earlier (l .loop .next) (r .low) in
+    let small : getD (l .before .args .prevs .now) (l .loop .next) 0 < l .loop .next =
+    l .before .pre .0 .earlier (l .loop .next) (r .low) in
     let h = high l in
     search needs
 
 loop-less : tie.Need-loop-less Inv-loop μ-loop
-loop-less c = omega (arith, ap (λ x. x .len) (c .before .join .ensures .0), c .before .before .before .before .before .if1 .taken)
+loop-less c =
+    omega (arith, ap (λ x. x .len) (c .before .join .ensures .0), c .before .before .before .before .before .if1 .taken)
 
 loop-again : tie.Need-loop-again Inv-loop μ-loop
 loop-again c =
     let l = c .before .before .before .before .before .before .before in
-    summing-next (l .before .pre .0) (l .loop .sums) (c .before .join .result) (l .loop .counts) _ (l .loop .next) (l .loop .inv) (c .before .before .before .before .before .if1 .taken)
-    (c .before .join .ensures .0) (c .before .join .ensures .1)
+    let j = c .before .join in
+    summing-next (l .before .pre .0) (l .loop .sums) (j .result) (l .loop .counts) _ (l .loop .next) (l .loop .inv)
+    (c .before .before .before .before .before .if1 .taken) (j .ensures .0) (j .ensures .1)
 
 returns : tie.Need-returns Inv-loop μ-loop
 returns c = summing-end (c .before .before .before .pre .0) (c .before .before .loop .inv) (c .if1 .left)

@@ -3,13 +3,15 @@ use Prim.Native.Nat.{_-_, _≤_}
 use native.Mathlib.Omega.{arith}
 use Rattle.model.specs.Table.{nodeCount}
 use Rattle.best.specs.CellsNode.{NextChild}
-use Rattle.best.proofs.NodeColumns.{Filling, filling-start, filling-next, later, filling-column, filling-turn, filling-end}
+use Rattle.best.proofs.NodeColumns.{Filling, filling-start, filling-next, later, filling-column}
+use Rattle.best.proofs.NodeColumns.{filling-turn, filling-end}
 use borrow.Author.Needs.{needs}
 use Rattle.best.proofs.node.fill_columns.Statement.{statement}
 use Rattle.best.proofs.node.fill_columns.Tie as tie
 
 abbrev Inv-loop : tie.InvT-loop
-Inv-loop table prevs rests gains words₀ v limit start last₀ child₀ words last child = Filling table rests gains prevs v last child words₀ words
+Inv-loop table prevs rests gains words₀ v limit start last₀ child₀ words last child =
+    Filling table rests gains prevs v last child words₀ words
 
 abbrev μ-loop : tie.MeasureT-loop
 μ-loop table prevs rests gains words₀ v limit start last₀ child₀ words last child = nodeCount table - last
@@ -22,9 +24,9 @@ entry l = l .before .before .before .before .before .before
 next : (i : tie.In-loop Inv-loop μ-loop) → let l = i .before in
     NextChild (entry l .args .table .now) (entry l .args .v) (l .loop .child) (l .loop .last)
 next i =
-    let l = i .before in
-    let b = entry l in
-    filling-next (b .pre .0) (b .args .v) (b .pre .1) (b .pre .2) (l .loop .last) (l .loop .child) (l .loop .words) (l .loop .inv)
+    let l = i .before .loop in
+    let b = entry (i .before) in
+    filling-next (b .pre .0) (b .args .v) (b .pre .1) (b .pre .2) (l .last) (l .child) (l .words) (l .inv)
     (i .loop-test .taken)
 
 loop-holds : tie.Need-loop-holds Inv-loop μ-loop
@@ -40,14 +42,14 @@ cast-fill-column c =
 fill-column-requires : tie.Need-fill-column-requires Inv-loop μ-loop
 fill-column-requires c κs =
     let i = c .before in
-    let l = i .before in
-    let w = l .before .before in
+    let l = i .before .loop in
+    let w = i .before .before .before in
     let b = w .before .before .before .before in
     let limit = w .before .limit-of .ensures in
     let light : w .weight-at .result ≤ w .before .limit-of .result =
     omega (arith, limit, w .weight-at .ensures, b .pre .0 .accepted .light (b .args .v) (b .pre .1) (b .pre .2)) in
     let column =
-    filling-column (b .pre .0) (b .args .v) (b .pre .1) (b .pre .2) (l .loop .last) (l .loop .child) (l .loop .words) (l .loop .inv)
+    filling-column (b .pre .0) (b .args .v) (b .pre .1) (b .pre .2) (l .last) (l .child) (l .words) (l .inv)
     (i .loop-test .taken) in
     (light, rw (limit, w .weight-at .ensures) column)
 
@@ -56,12 +58,10 @@ loop-less c =
     let i = c .before .before .before .before .before in
     let l = i .before .loop in
     let b = entry (i .before) in
-    omega (
-      arith,
-      next i .high,
-      later (b .pre .0) (b .args .v) (b .pre .1) (b .pre .2) (l .last) (l .child) (l .words) (l .inv)
-          (i .loop-test .taken),
-    )
+    let after =
+    later (b .pre .0) (b .args .v) (b .pre .1) (b .pre .2) (l .last) (l .child) (l .words) (l .inv)
+    (i .loop-test .taken) in
+    omega (arith, next i .high, after)
 
 loop-again : tie.Need-loop-again Inv-loop μ-loop
 loop-again c =
@@ -71,8 +71,8 @@ loop-again c =
     let w = i .before .before .before in
     let b = w .before .before .before .before in
     rw (c .next-at .ensures)
-    (filling-turn (b .pre .0) (b .args .v) (b .pre .1) (b .pre .2) (l .last) (l .child) (l .words) (l .inv) (i .loop-test .taken)
-    _ (rw (w .before .limit-of .ensures, w .weight-at .ensures) at (x .ensures)))
+    (filling-turn (b .pre .0) (b .args .v) (b .pre .1) (b .pre .2) (l .last) (l .child) (l .words) (l .inv)
+    (i .loop-test .taken) _ (rw (w .before .limit-of .ensures, w .weight-at .ensures) at (x .ensures)))
 
 returns : tie.Need-returns Inv-loop μ-loop
 returns c =
