@@ -1,6 +1,7 @@
--- The runs that end at a child, each by one member longer than the one before. Defines lastChildrenIn (a run's members), Stretch (what holds while
--- the runs are tried) and Taking (while second plans are taken). Proves the turns of both loops and the ways out: stretch-start, stretch-joins,
--- stretch-again, stretch-end, taking-start, taking-down, taking-more, over-end, stops-end; and what the calls ask for. Assumes nothing.
+-- The runs that end at a child, each by one member longer than the one before. Defines lastChildrenIn (a run's
+-- members), Stretch (what holds while the runs are tried) and Taking (while second plans are taken). Proves the
+-- turns of both loops and the ways out: stretch-start, stretch-joins, stretch-again, stretch-end, taking-start,
+-- taking-down, taking-more, over-end, stops-end; and what the calls ask for. Assumes nothing.
 use Prim.Native.Nat.{ℕ, zero, suc, _+_, _-_, _*_, _≤_, _<_}
 use mathlib.Core.Path.{_≡_, refl, sym, _∙_, ap}
 use mathlib.Core.Bool.{Bool, true, false}
@@ -15,58 +16,37 @@ use Rattle.model.specs.Table.{maxNodes, maxLimit}
 use Rattle.model.specs.Steps.{Child, runOf}
 use Rattle.theory.specs.ReduceCount.{figuresOf}
 use Rattle.best.specs.Cells.{Cell, pageWord, noWord, lower, tryRun, stayCell, cellAt, longerRuns}
-use Rattle.best.specs.CellsArrays.{childIn, childrenIn, children-none, children-cons, children-good, children-length, cellIn, Swept}
-use Rattle.best.specs.CellsRun.{
-  RunSums,
-  sums-none,
-  sums-count,
-  sums-gained,
-  sums-total,
-  sums-more,
-  choosing,
-  choosing-down,
-  choosing-take,
-  choosing-room,
-  choosing-none,
-  countsOf,
-  run-figures,
-  run-stops,
-  run-taken-le,
-  run-fits,
-  run-over,
-  over-stops,
-  joins,
-  longer-stops,
-  longer-goes,
-  nthPrev,
-  blockAt,
-  nthPrev-le,
-  block-apart,
-  ColumnWords,
-  wordEnd,
-  cell-word-small,
-  Fillable,
-}
+use Rattle.best.specs.CellsArrays.{childIn, childrenIn, children-none, children-cons, children-good}
+use Rattle.best.specs.CellsArrays.{children-length, cellIn, Swept}
+use Rattle.best.specs.CellsRun.{RunSums, sums-none, sums-count, sums-gained, sums-total, sums-more, choosing}
+use Rattle.best.specs.CellsRun.{choosing-down, choosing-take, choosing-room, choosing-none, countsOf}
+use Rattle.best.specs.CellsRun.{run-figures, run-stops, run-taken-le, run-fits, run-over, over-stops, joins}
+use Rattle.best.specs.CellsRun.{longer-stops, longer-goes, nthPrev, blockAt, nthPrev-le, block-apart}
+use Rattle.best.specs.CellsRun.{ColumnWords, wordEnd, cell-word-small, Fillable}
 use Rattle.best.specs.declared.run.Sums.{Sums}
 use Rattle.best.specs.CellsSums.{gainSlots, joinedSums}
 
 -- the last n of the children up to node c, the earliest first
 unfoldable pub lastChildrenIn : List ℕ → List ℕ → List ℕ → ℕ → ℕ → List Child
 lastChildrenIn rests gains prevs zero c = []
-lastChildrenIn rests gains prevs (suc n) c = childIn rests gains (nthPrev prevs n c) ∷ lastChildrenIn rests gains prevs n c
+lastChildrenIn rests gains prevs (suc n) c =
+    childIn rests gains (nthPrev prevs n c) ∷ lastChildrenIn rests gains prevs n c
 
--- The run of so many children up to c, where `next` is the child before it: its sums, and words that differ from those at entry in the
--- block of c only, where each cell leads to the one that is sought.
-pub record Stretch (K start c : ℕ) (rests gains prevs xs : List ℕ) (leads : List Child → ℕ → List Child → ℕ → Cell → Cell) (ys counts : List ℕ) (sums : Sums) (next : ℕ) : Type 0 where
+-- The run of so many children up to c, where `next` is the child before it: its sums, and words that differ from
+-- those at entry in the block of c only, where each cell leads to the one that is sought.
+pub record Stretch (K start c : ℕ) (rests gains prevs xs : List ℕ)
+    (leads : List Child → ℕ → List Child → ℕ → Cell → Cell) (ys counts : List ℕ) (sums : Sums) (next : ℕ) : Type 0 where
   pub next-is : next ≡ nthPrev prevs (sums .len) c
   pub short : sums .len + next ≤ c
-  pub kept : RunSums K (lastChildrenIn rests gains prevs (sums .len) c) (sums .len) (sums .total) (sums .gained) (sums .top) counts
+  pub kept : RunSums K (lastChildrenIn rests gains prevs (sums .len) c) (sums .len) (sums .total) (sums .gained)
+      (sums .top) counts
   pub wide : length counts ≡ gainSlots
   pub long : length ys ≡ length xs
   pub below : (i : ℕ) → i < blockAt K c → getD ys i 0 ≡ getD xs i 0
   pub above : (i : ℕ) → blockAt K c + 2 * (K + 1) ≤ i → getD ys i 0 ≡ getD xs i 0
   pub cells : (s : ℕ) → start ≤ s → s ≤ K
-      → leads (lastChildrenIn rests gains prevs (sums .len) c) (sums .len) (childrenIn rests gains prevs next) s (cellIn ys K (blockAt K c) s)
+      → leads (lastChildrenIn rests gains prevs (sums .len) c) (sums .len) (childrenIn rests gains prevs next) s
+      (cellIn ys K (blockAt K c) s)
       ≡ cellAt K (childrenIn rests gains prevs c) s
 
 -- the child before the run is to join it; the run is to be tried; it was tried
@@ -81,7 +61,8 @@ Tried K run len ks s cell = longerRuns K s run len ks cell
 
 -- second plans are being taken: the choices left lead to the run's figures
 pub record Taking (K c : ℕ) (rests gains prevs counts : List ℕ) (sums : Sums) (sum taken gain left : ℕ) : Type 0 where
-  pub figures : figuresOf (runOf K (lastChildrenIn rests gains prevs (sums .len) c)) ≡ choosing gain left (countsOf counts) K (record { sum = sum; count = taken })
+  pub figures : figuresOf (runOf K (lastChildrenIn rests gains prevs (sums .len) c))
+      ≡ choosing gain left (countsOf counts) K (record { sum = sum; count = taken })
   pub gain-high : gain ≤ K
   pub taken-high : taken + sum ≤ sums .total
 
@@ -116,7 +97,8 @@ module _ {K start c : ℕ} {rests gains prevs xs : List ℕ} (f : Fillable K sta
           omega (arith, f .earlier (nthPrev prevs n c) (omega arith))
 
   pub stay-ready : (here first : ℕ) → here ≡ blockAt K c → first ≡ blockAt K (getD prevs c 0) → start ≤ K
-      → (K ≤ maxLimit) × (getD rests c 0 ≤ maxLimit) × (start ≤ maxLimit) × (first + 2 * (K + 1) ≤ here) × (here + 2 * (K + 1) ≤ length xs)
+      → (K ≤ maxLimit) × (getD rests c 0 ≤ maxLimit) × (start ≤ maxLimit) × (first + 2 * (K + 1) ≤ here)
+      × (here + 2 * (K + 1) ≤ length xs)
   stay-ready here first e d h = (
     f .limit-high,
     omega (arith, f .good c .light, f .limit-high),
@@ -140,10 +122,14 @@ module _ {K start c : ℕ} {rests gains prevs xs : List ℕ} (f : Fillable K sta
             earlier = f .earlier;
             none = f .none;
             good = f .good;
-            columns = λ n s p q. w .below (blockAt K (nthPrev prevs (suc n) c) + s) (omega (arith, block-apart K (nthPrev prevs (suc n) c) c (nthPrev-less n))) ∙ f .columns n s p q;
+            columns = λ n s p q.
+                w .below (blockAt K (nthPrev prevs (suc n) c) + s)
+                (omega (arith, block-apart K (nthPrev prevs (suc n) c) c (nthPrev-less n)))
+                ∙ f .columns n s p q;
           }
 
-      pub stretch-start : Stretch K start c rests gains prevs ys (Joins K) ys (replicate gainSlots 0) (record { len = 0; total = 0; gained = 0; top = 0 }) c
+      pub stretch-start : Stretch K start c rests gains prevs ys (Joins K) ys (replicate gainSlots 0)
+          (record { len = 0; total = 0; gained = 0; top = 0 }) c
       unfolding lastChildrenIn nthPrev joins cellAt
       stretch-start =
           let w = rw (e, d) at swept in
@@ -155,10 +141,13 @@ module _ {K start c : ℕ} {rests gains prevs xs : List ℕ} (f : Fillable K sta
             long = refl;
             below = λ i p. refl;
             above = λ i p. refl;
-            cells = λ s p q. rw (w .cells s p q, stay-words s p, children-cons rests gains prevs (f .earlier) c (f .node-low)) refl;
+            cells = λ s p q.
+                let shape = children-cons rests gains prevs (f .earlier) c (f .node-low) in
+                rw (w .cells s p q, stay-words s p, shape) refl;
           }
 
-      pub stay-then : {zs : List ℕ} {g : ℕ → Cell} → Swept K start (blockAt K c) g ys zs → Swept K start (blockAt K c) g xs zs
+      pub stay-then : {zs : List ℕ} {g : ℕ → Cell} → Swept K start (blockAt K c) g ys zs
+          → Swept K start (blockAt K c) g xs zs
       stay-then z =
           let w = rw (e, d) at swept in
           record {
@@ -169,7 +158,8 @@ module _ {K start c : ℕ} {rests gains prevs xs : List ℕ} (f : Fillable K sta
           }
 
   -- the next child joins the run
-  module _ {ys counts : List ℕ} {sums : Sums} {next : ℕ} (t : Stretch K start c rests gains prevs xs (Joins K) ys counts sums next) where
+  module _ {ys counts : List ℕ} {sums : Sums} {next : ℕ}
+      (t : Stretch K start c rests gains prevs xs (Joins K) ys counts sums next) where
     pub stretch-end : next ≡ 0 → Swept K start (blockAt K c) (λ s. cellAt K (children c) s) xs ys
     unfolding joins
     stretch-end e =
@@ -181,7 +171,8 @@ module _ {K start c : ℕ} {rests gains prevs xs : List ℕ} (f : Fillable K sta
         }
 
     module _ (low : 1 ≤ next) where
-      pub joins-fits : (getD gains next 0 ≤ maxLimit) × (getD counts (getD gains next 0) 0 < 65535) × (sums .len < 4294967295)
+      pub joins-fits : (getD gains next 0 ≤ maxLimit) × (getD counts (getD gains next 0) 0 < 65535)
+          × (sums .len < 4294967295)
           × (sums .total + getD rests next 0 < 4294967296) × (sums .gained + getD gains next 0 < 4294967296)
       joins-fits =
           let good = f .good next in
@@ -212,7 +203,8 @@ module _ {K start c : ℕ} {rests gains prevs xs : List ℕ} (f : Fillable K sta
               above = t .above;
               cells =
                   λ s p q. rw (add-one (sums .len), ← t .next-is)
-                  (ap (λ ks. joins K s (run (sums .len)) (sums .len) ks (cellIn ys K (blockAt K c) s)) (sym (children-cons rests gains prevs (f .earlier) next low))
+                  (ap (λ ks. joins K s (run (sums .len)) (sums .len) ks (cellIn ys K (blockAt K c) s))
+                  (sym (children-cons rests gains prevs (f .earlier) next low))
                   ∙ t .cells s p q);
             },
             omega arith,
@@ -223,7 +215,8 @@ module _ {K start c : ℕ} {rests gains prevs xs : List ℕ} (f : Fillable K sta
   columns-at (suc n) p = f .columns n
 
   -- the run is tried
-  module _ {ys counts : List ℕ} {sums : Sums} {next : ℕ} (t : Stretch K start c rests gains prevs xs (Tries K) ys counts sums next) where
+  module _ {ys counts : List ℕ} {sums : Sums} {next : ℕ}
+      (t : Stretch K start c rests gains prevs xs (Tries K) ys counts sums next) where
     pub counts-small : (h : ℕ) → getD counts h 0 ≤ maxNodes
     counts-small h = omega (arith, sums-count (t .kept) h, t .short, f .node-high)
 
@@ -236,19 +229,23 @@ module _ {K start c : ℕ} {rests gains prevs xs : List ℕ} (f : Fillable K sta
     taking-start = record { figures = run-figures (t .kept); gain-high = t .kept .top-high; taken-high = omega arith }
 
     module _ {sum taken gain left : ℕ} (w : Taking K c rests gains prevs counts sums sum taken gain left) where
-      pub taking-down : (gain ≡ 0 → ⊥) → left ≡ 0 → Taking K c rests gains prevs counts sums sum taken (gain - 1) (getD counts (gain - 1) 0)
+      pub taking-down : (gain ≡ 0 → ⊥) → left ≡ 0
+          → Taking K c rests gains prevs counts sums sum taken (gain - 1) (getD counts (gain - 1) 0)
       taking-down n e =
           let figures = rw e at (w .figures) in
           record {
-            figures = figures ∙ choosing-down gain (countsOf counts) K (record { sum = sum; count = taken }) (omega arith);
+            figures = figures ∙ choosing-down gain (countsOf counts) K (record { sum = sum; count = taken })
+                (omega arith);
             gain-high = omega (arith, w .gain-high);
             taken-high = w .taken-high;
           }
 
-      pub taking-more : (gain ≡ 0 → ⊥) → (left ≡ 0 → ⊥) → K < sum → Taking K c rests gains prevs counts sums (sum - gain) (taken + 1) gain (left - 1)
+      pub taking-more : (gain ≡ 0 → ⊥) → (left ≡ 0 → ⊥) → K < sum
+          → Taking K c rests gains prevs counts sums (sum - gain) (taken + 1) gain (left - 1)
       taking-more n m over =
           record {
-            figures = w .figures ∙ choosing-take gain left (countsOf counts) K sum taken (omega arith) (omega arith) over;
+            figures = w .figures ∙ choosing-take gain left (countsOf counts) K sum taken (omega arith)
+                (omega arith) over;
             gain-high = w .gain-high;
             taken-high = omega (arith, w .taken-high, w .gain-high);
           }
@@ -262,7 +259,8 @@ module _ {K start c : ℕ} {rests gains prevs xs : List ℕ} (f : Fillable K sta
           record {
             long = t .long;
             cells =
-                λ s p q. sym (run-over (t .kept) sum taken last over (sums .len) (cellAt K (children next) s .word) (cellIn ys K (blockAt K c) s))
+                λ s p q. sym (run-over (t .kept) sum taken last over (sums .len) (cellAt K (children next) s .word)
+                (cellIn ys K (blockAt K c) s))
                 ∙ sym (longer-stops K s (run (sums .len)) (sums .len) (children next) _ stops) ∙ t .cells s p q;
             below = t .below;
             above = t .above;
@@ -270,7 +268,8 @@ module _ {K start c : ℕ} {rests gains prevs xs : List ℕ} (f : Fillable K sta
 
       module _ (high : sum ≤ K) (low : 1 ≤ sums .len) where
         last-figures : figuresOf (runOf K (run (sums .len))) ≡ record { sum = sum; count = taken }
-        last-figures = w .figures ∙ choosing-room gain left (countsOf counts) K (record { sum = sum; count = taken }) high
+        last-figures = w .figures ∙ choosing-room gain left (countsOf counts) K
+            (record { sum = sum; count = taken }) high
 
         pub taken-small : taken ≤ maxNodes
         taken-small = omega (arith, run-taken-le (t .kept) sum taken last-figures, t .short, f .node-high)
@@ -284,7 +283,8 @@ module _ {K start c : ℕ} {rests gains prevs xs : List ℕ} (f : Fillable K sta
             t .below (blockAt K next + s) (omega (arith, apart)) ∙ words s p q
 
         module _ (here before : ℕ) (e : here ≡ blockAt K c) (d : before ≡ blockAt K next) where
-          pub relax-ready : start ≤ K → (K ≤ maxLimit) × (start ≤ maxLimit) × (before + 2 * (K + 1) ≤ here) × (here + 2 * (K + 1) ≤ length ys)
+          pub relax-ready : start ≤ K → (K ≤ maxLimit) × (start ≤ maxLimit) × (before + 2 * (K + 1) ≤ here)
+              × (here + 2 * (K + 1) ≤ length ys)
               × ((s : ℕ) → start ≤ s → s ≤ K → getD ys (before + s) 0 + (1 + taken) * pageWord < 4294967296)
           relax-ready h = (
             f .limit-high,
@@ -296,11 +296,13 @@ module _ {K start c : ℕ} {rests gains prevs xs : List ℕ} (f : Fillable K sta
             where
               small : (s : ℕ) → s ≤ K → cellAt K (children next) s .word < wordEnd
               small s q =
-                  cell-word-small K (f .limit-high) (children next) s q (children-good K rests gains prevs (f .good) next)
+                  cell-word-small K (f .limit-high) (children next) s q
+                  (children-good K rests gains prevs (f .good) next)
                   (omega (arith, children-length rests gains prevs (f .earlier) next, t .short, f .node-high))
 
           module _ (zs : List ℕ)
-              (swept : Swept K start here (λ s. lower (getD ys (before + s) 0 + (1 + taken) * pageWord) (sums .len) (cellIn ys K here s)) ys zs)
+              (swept : Swept K start here (λ s. lower (getD ys (before + s) 0 + (1 + taken) * pageWord) (sums .len)
+              (cellIn ys K here s)) ys zs)
             where
               tried : Stretch K start c rests gains prevs xs (Tried K) zs counts sums next
               tried =
@@ -315,22 +317,28 @@ module _ {K start c : ℕ} {rests gains prevs xs : List ℕ} (f : Fillable K sta
                     above = λ i p. z .above i p ∙ t .above i p;
                     cells =
                         λ s p q. ap (λ cell. longerRuns K s (run (sums .len)) (sums .len) (children next) cell)
-                        (z .cells s p q ∙ ap (λ x. lower (x + (1 + taken) * pageWord) (sums .len) (cellIn ys K (blockAt K c) s)) (word-is s p q)
-                        ∙ sym (run-fits (t .kept) sum taken last-figures high (sums .len) (cellAt K (children next) s .word) (cellIn ys K (blockAt K c) s)))
+                        (z .cells s p q
+                        ∙ ap (λ x. lower (x + (1 + taken) * pageWord) (sums .len) (cellIn ys K (blockAt K c) s))
+                        (word-is s p q)
+                        ∙ sym (run-fits (t .kept) sum taken last-figures high (sums .len)
+                        (cellAt K (children next) s .word) (cellIn ys K (blockAt K c) s)))
                         ∙ t .cells s p q;
                   }
 
-              pub stops-end : K ≤ sums .total - sums .gained → Swept K start (blockAt K c) (λ s. cellAt K (children c) s) xs zs
+              pub stops-end : K ≤ sums .total - sums .gained
+                  → Swept K start (blockAt K c) (λ s. cellAt K (children c) s) xs zs
               stops-end h =
                   let stops = run-stops (t .kept) ∙ le-leb K (sums .total - sums .gained) h in
                   record {
                     long = tried .long;
-                    cells = λ s p q. sym (longer-stops K s (run (sums .len)) (sums .len) (children next) _ stops) ∙ tried .cells s p q;
+                    cells = λ s p q. sym (longer-stops K s (run (sums .len)) (sums .len) (children next) _ stops)
+                        ∙ tried .cells s p q;
                     below = tried .below;
                     above = tried .above;
                   }
 
-              pub stretch-again : sums .total - sums .gained < K → Stretch K start c rests gains prevs xs (Joins K) zs counts sums next
+              pub stretch-again : sums .total - sums .gained < K
+                  → Stretch K start c rests gains prevs xs (Joins K) zs counts sums next
               stretch-again h =
                   let goes = run-stops (t .kept) ∙ lt-leb K (sums .total - sums .gained) h in
                   record {
@@ -341,5 +349,6 @@ module _ {K start c : ℕ} {rests gains prevs xs : List ℕ} (f : Fillable K sta
                     long = tried .long;
                     below = tried .below;
                     above = tried .above;
-                    cells = λ s p q. sym (longer-goes K s (run (sums .len)) (sums .len) (children next) _ goes) ∙ tried .cells s p q;
+                    cells = λ s p q. sym (longer-goes K s (run (sums .len)) (sums .len) (children next) _ goes)
+                        ∙ tried .cells s p q;
                   }

@@ -1,5 +1,5 @@
--- The marks of all nodes, parents before children. Defines Laying. Proves laying-start, laying-ready, laying-turn and laying-end.
--- Assumes nothing.
+-- The marks of all nodes, parents before children. Defines Laying. Proves laying-start, laying-ready, laying-turn
+-- and laying-end. Assumes nothing.
 use Prim.Native.Nat.{ℕ, _+_, _≤_, _<_}
 use mathlib.Core.Path.{_≡_, refl, sym, _∙_, ap, ap₂}
 use mathlib.Core.Bool.{Bool, true, false}
@@ -35,12 +35,14 @@ gain-starts true K w W x h = go (leb (secondStart K w W) K) refl h
     go true e p = leb-true (secondStart K w W) K e
     go false e p = absurd (omega arith)
 
-figure-starts : (t : List ℕ) (g : Bool) (v : ℕ) → 1 ≤ figureAt t g v .gain → secondStart (limitOf t) (weightAt t v) (figureAt t g v .rest) ≤ limitOf t
+figure-starts : (t : List ℕ) (g : Bool) (v : ℕ) → 1 ≤ figureAt t g v .gain
+    → secondStart (limitOf t) (weightAt t v) (figureAt t g v .rest) ≤ limitOf t
 unfolding figureAt childOf gainOf
 figure-starts t g v h = gain-starts g (limitOf t) (weightAt t v) _ _ h
 
 figure-rest : (t : List ℕ) (g : Bool) (v : ℕ)
-    → figureAt t g v .rest ≡ entryAt (limitOf t) (childrenOf g (limitOf t) (chainAt t (firstAt t v))) (weightAt t v) .rest
+    → figureAt t g v .rest ≡ entryAt (limitOf t) (childrenOf g (limitOf t) (chainAt t (firstAt t v)))
+    (weightAt t v) .rest
 unfolding figureAt childOf
 figure-rest t g v = refl
 
@@ -64,12 +66,14 @@ laying-start t rests gains prevs lasts marks long low =
       long = simp length-set long;
       wide = length-replicate {A = ℕ} slots 0;
       high = omega arith;
-      root = ap₂ (λ x y. record { mark = x; second = eqb y 1 }) (getD-set-same marks 0 1 0 (omega (arith, long))) (zeros slots 1);
+      root = ap₂ (λ x y. record { mark = x; second = eqb y 1 }) (getD-set-same marks 0 1 0 (omega (arith, long)))
+          (zeros slots 1);
       seconds-gain = λ u e. absurd (omega (arith, zeros slots u));
       done = λ w p q. absurd (omega arith);
     }
 
-module _ {t rests gains prevs lasts xs marks seconds : List ℕ} {v : ℕ} (l : Laying t rests gains prevs lasts marks seconds v) where
+module _ {t rests gains prevs lasts xs marks seconds : List ℕ} {v : ℕ}
+    (l : Laying t rests gains prevs lasts marks seconds v) where
   module _ {g : Bool} (p : NodesPlanned t g 0 rests gains prevs lasts xs) where
     -- the children of node w
     children-are : (w u : ℕ) → ChildOrNone t w u → childrenIn rests gains prevs u ≡ childrenUpTo t g u
@@ -89,7 +93,9 @@ module _ {t rests gains prevs lasts xs marks seconds : List ℕ} {v : ℕ} (l : 
           columns = λ n s a b.
               p .columns w here inside n s a b
               ∙ ap (λ ks. cellAt (limitOf t) ks s)
-              (sym (children-are w (nthPrev prevs n (getD lasts w 0)) (child-nthPrev t prevs (p .ready .before) (p .ready .none) w n (getD lasts w 0) (p .last-child w here inside))));
+              (sym (children-are w (nthPrev prevs n (getD lasts w 0))
+              (child-nthPrev t prevs (p .ready .before) (p .ready .none) w n (getD lasts w 0)
+              (p .last-child w here inside))));
           second = λ q.
               let some : 1 ≤ figureAt t g w .gain = omega (arith, ap (λ k. k .gain) figure) in
               rw (ap (λ k. k .rest) figure) (figure-starts t g w some);
@@ -105,21 +111,26 @@ module _ {t rests gains prevs lasts xs marks seconds : List ℕ} {v : ℕ} (l : 
         let w : ℕ = weightAt t u in
         let ks : List Child = childrenOf g K (chainAt t (firstAt t u)) in
         let last-child = p .last-child u (omega arith) high in
-        let kids : ks ≡ childrenIn rests gains prevs (getD lasts u 0) = p .kids u (omega arith) high g ∙ sym (children-are u (getD lasts u 0) last-child) in
-        let rest : entryAt K ks w .rest ≡ getD rests u 0 = sym (ap (λ k. k .rest) (p .figures u (omega arith) high) ∙ figure-rest t g u) in
+        let kids : ks ≡ childrenIn rests gains prevs (getD lasts u 0) =
+        p .kids u (omega arith) high g ∙ sym (children-are u (getD lasts u 0) last-child) in
+        let rest : entryAt K ks w .rest ≡ getD rests u 0 =
+        sym (ap (λ k. k .rest) (p .figures u (omega arith) high) ∙ figure-rest t g u) in
         record {
           chosen = reverse (choicesBack t (chosenIn marks seconds) (getD lasts u 0));
-          along = back-along (p .ready .accepted .sound) (chosenIn marks seconds) u low (getD lasts u 0) last-child (p .link u (omega arith) high);
+          along = back-along (p .ready .accepted .sound) (chosenIn marks seconds) u low (getD lasts u 0) last-child
+              (p .link u (omega arith) high);
           same =
               ap (λ W. reverse (entryAt K ks (startOf K w W (chosenIn marks seconds u .second)) .choices)) rest
-              ∙ ap (λ l. reverse (entryAt K l (startOf K w (getD rests u 0) (chosenIn marks seconds u .second)) .choices)) kids
+              ∙ ap (λ l. reverse (entryAt K l (startOf K w (getD rests u 0)
+              (chosenIn marks seconds u .second)) .choices)) kids
               ∙ ap reverse (sym (l .done u low (omega arith)));
         }
 
     pub laying-end : nodeCount t ≤ v → marks ≡ layMarks g (limitOf t) (treeOf t) rootChoice
     laying-end full =
         sym
-        (marks-laid t g (chosenIn marks seconds) marks (l .long) (λ u h. ap (λ i. getD marks i 0) (omega arith)) (laid-below full)
+        (marks-laid t g (chosenIn marks seconds) marks (l .long) (λ u h. ap (λ i. getD marks i 0) (omega arith))
+        (laid-below full)
         (p .ready .accepted .sound)
         (l .root)
         (p .ready .accepted .sound .root-alone))
@@ -148,7 +159,8 @@ module _ {t rests gains prevs lasts xs marks seconds : List ℕ} {v : ℕ} (l : 
             done = λ w low h. go w low h (eqb w (v + 1)) refl;
           }
         where
-          go : (w : ℕ) → 1 ≤ w → w ≤ v + 1 → (b : Bool) → eqb w (v + 1) ≡ b → choicesBack t (chosenIn marks′ seconds′) (getD lasts w 0)
+          go : (w : ℕ) → 1 ≤ w → w ≤ v + 1 → (b : Bool) → eqb w (v + 1) ≡ b
+              → choicesBack t (chosenIn marks′ seconds′) (getD lasts w 0)
               ≡ entryAt (limitOf t) (childrenIn rests gains prevs (getD lasts w 0))
               (startOf (limitOf t) (weightAt t w) (getD rests w 0) (chosenIn marks′ seconds′ w .second)) .choices
           go w low h true e =
@@ -156,7 +168,9 @@ module _ {t rests gains prevs lasts xs marks seconds : List ℕ} {v : ℕ} (l : 
               rw (start-same w low h, q) (d .chosen)
           go w low h false e =
               let n : w ≡ v + 1 → ⊥ = eqb-false w (v + 1) e in
-              choices-back-same t (chosenIn marks′ seconds′) (chosenIn marks seconds) w (λ x one f. d .others x one (λ y. n (sym f ∙ y)))
+              choices-back-same t (chosenIn marks′ seconds′) (chosenIn marks seconds) w
+              (λ x one f. d .others x one (λ y. n (sym f ∙ y)))
               (getD lasts w 0) (last-children w low (omega (arith, node .high)))
               ∙ l .done w low (omega arith)
-              ∙ ap (λ s. entryAt (limitOf t) (childrenIn rests gains prevs (getD lasts w 0)) s .choices) (sym (start-same w low h))
+              ∙ ap (λ s. entryAt (limitOf t) (childrenIn rests gains prevs (getD lasts w 0)) s .choices)
+              (sym (start-same w low h))

@@ -1,5 +1,5 @@
--- A run's marks, from its last member back, one a turn. Defines Marking, Levelled. Proves count-less, sum-ready, counts-small, level-small,
--- marking-start, marking-high, marking-low, marking-takes, marking-turn and marking-end.
+-- A run's marks, from its last member back, one a turn. Defines Marking, Levelled. Proves count-less, sum-ready,
+-- counts-small, level-small, marking-start, marking-high, marking-low, marking-takes, marking-turn and marking-end.
 -- Assumes nothing.
 use Prim.Native.Nat.{ℕ, suc, _+_, _-_, _≤_, _<_}
 use mathlib.Core.Path.{_≡_, refl, sym, _∙_, ap, ap₂}
@@ -58,14 +58,16 @@ choice-is : (mark second m : ℕ) (b : Bool) → mark ≡ m → second ≡ pick 
 choice-is mark second m b p q = ap₂ (λ x y. record { mark = x; second = y }) p (ap (λ x. eqb x 1) q ∙ second-is b)
 
 -- one less where the member is at the level
-pub count-less : (gain g before before′ : ℕ) → ((gain ≡ g) × (before′ ≡ before - 1)) ⊎ ((gain ≡ g → ⊥) × (before′ ≡ before))
+pub count-less : (gain g before before′ : ℕ)
+    → ((gain ≡ g) × (before′ ≡ before - 1)) ⊎ ((gain ≡ g → ⊥) × (before′ ≡ before))
     → before′ ≡ before - pick (eqb gain g) 1 0
 unfolding pick
 count-less gain g before before′ (inl w) = rw (eq-eqb gain g (w .0)) (w .1)
 count-less gain g before before′ (inr w) = rw (ne-eqb gain g (w .0)) (omega (arith, w .1))
 
 -- what the sums of a run ask for
-pub sum-ready : {K c n : ℕ} {rests gains prevs marks seconds : List ℕ} → RunReady K c n rests gains prevs marks seconds → SumReady c n rests gains prevs
+pub sum-ready : {K c n : ℕ} {rests gains prevs marks seconds : List ℕ}
+    → RunReady K c n rests gains prevs marks seconds → SumReady c n rests gains prevs
 sum-ready r =
     record {
       high = omega (arith, r .high, r .short);
@@ -78,7 +80,8 @@ sum-ready r =
 -- ---- One member a turn
 
 -- `left` members are left, of which `before` have the level's gain g; the level takes the earliest t of those
-pub record Marking (rests gains prevs : List ℕ) (c n g t : ℕ) (marks seconds marks′ seconds′ : List ℕ) (before left next : ℕ) : Type 0 where
+pub record Marking (rests gains prevs : List ℕ) (c n g t : ℕ) (marks seconds marks′ seconds′ : List ℕ)
+    (before left next : ℕ) : Type 0 where
   pub done : ℕ
   pub choices : List Choice
   pub sum : done + left ≡ n
@@ -87,7 +90,8 @@ pub record Marking (rests gains prevs : List ℕ) (c n g t : ℕ) (marks seconds
   pub count : before ≡ countGain g (asMembers (lastChildren left [] (childrenIn rests gains prevs next)))
   pub laid : LaidRun prevs done c choices marks seconds marks′ seconds′
   pub rest : choices ++ backRun g t before left (childrenIn rests gains prevs next)
-      ≡ backRun g t (countGain g (asMembers (lastChildren n [] (childrenIn rests gains prevs c)))) n (childrenIn rests gains prevs c)
+      ≡ backRun g t (countGain g (asMembers (lastChildren n [] (childrenIn rests gains prevs c)))) n
+      (childrenIn rests gains prevs c)
   pub seconds-gain : SecondsGain gains seconds′
   pub wide : length seconds′ ≡ slots
 
@@ -100,7 +104,8 @@ pub record Levelled (K c n : ℕ) (rests gains prevs counts : List ℕ) (g t : �
   pub gain-is : g ≡ levelFrom top (countsOf counts) K total .gain
   pub times-is : t ≡ levelFrom top (countsOf counts) K total .times
 
-module _ {K c n : ℕ} {rests gains prevs marks seconds : List ℕ} (ready : RunReady K c n rests gains prevs marks seconds) where
+module _ {K c n : ℕ} {rests gains prevs marks seconds : List ℕ}
+    (ready : RunReady K c n rests gains prevs marks seconds) where
   abbrev children : ℕ → List Child
   children u = childrenIn rests gains prevs u
 
@@ -111,11 +116,13 @@ module _ {K c n : ℕ} {rests gains prevs marks seconds : List ℕ} (ready : Run
   pub counts-small : {total gained top : ℕ} {counts : List ℕ} → RunSums K run n total gained top counts
       → (h : ℕ) → getD counts h 0 ≤ maxNodes
   counts-small kept h =
-      let few : n ≤ maxNodes = omega (arith, ready .within, children-length rests gains prevs (ready .earlier) c, ready .high, ready .short) in
+      let few : n ≤ maxNodes =
+      omega (arith, ready .within, children-length rests gains prevs (ready .earlier) c, ready .high, ready .short) in
       omega (arith, sums-count kept h)
 
   -- the member that is next
-  module _ {g t : ℕ} {marks′ seconds′ : List ℕ} {before left next : ℕ} (m : Marking rests gains prevs c n g t marks seconds marks′ seconds′ before left next) where
+  module _ {g t : ℕ} {marks′ seconds′ : List ℕ} {before left next : ℕ}
+      (m : Marking rests gains prevs c n g t marks seconds marks′ seconds′ before left next) where
     pub marking-high : next ≤ length marks
     marking-high = omega (arith, m .at, nthPrev-le prevs (ready .earlier) (ready .none) (m .done) c, ready .high)
 
@@ -127,7 +134,8 @@ module _ {K c n : ℕ} {rests gains prevs marks seconds : List ℕ} (ready : Run
       shape = children-cons rests gains prevs (ready .earlier) next marking-low
 
       -- how many at the level come before it
-      counted : before ≡ countGain g (asMembers (lastChildren (left - 1) [] (children (getD prevs next 0)))) + pick (eqb (getD gains next 0) g) 1 0
+      counted : before ≡ countGain g (asMembers (lastChildren (left - 1) [] (children (getD prevs next 0))))
+          + pick (eqb (getD gains next 0) g) 1 0
       counted =
           let e : left ≡ suc (left - 1) = omega arith in
           m .count
@@ -142,7 +150,9 @@ module _ {K c n : ℕ} {rests gains prevs marks seconds : List ℕ} (ready : Run
 
   module _ {g t : ℕ} {counts : List ℕ} (v : Levelled K c n rests gains prevs counts g t) where
     pub level-small : g ≤ maxLimit
-    level-small = omega (arith, v .gain-is, levelFrom-upTo (v .top) (countsOf counts) K (v .total) .most, v .kept .top-high, ready .limit-high)
+    level-small =
+        let most = levelFrom-upTo (v .top) (countsOf counts) K (v .total) .most in
+        omega (arith, v .gain-is, most, v .kept .top-high, ready .limit-high)
 
     pub marking-start : Marking rests gains prevs c n g t marks seconds marks seconds (getD counts g 0) n c
     unfolding nthPrev
@@ -161,10 +171,13 @@ module _ {K c n : ℕ} {rests gains prevs marks seconds : List ℕ} (ready : Run
           wide = ready .wide;
         }
 
-    module _ {marks′ seconds′ : List ℕ} {before left next : ℕ} (m : Marking rests gains prevs c n g t marks seconds marks′ seconds′ before left next) where
-      pub marking-turn : (left ≡ 0 → ⊥) → (before′ mark second : ℕ) → before′ ≡ before - pick (eqb (getD gains next 0) g) 1 0 → mark ≡ lastMark (left - 1)
+    module _ {marks′ seconds′ : List ℕ} {before left next : ℕ}
+        (m : Marking rests gains prevs c n g t marks seconds marks′ seconds′ before left next) where
+      pub marking-turn : (left ≡ 0 → ⊥) → (before′ mark second : ℕ)
+          → before′ ≡ before - pick (eqb (getD gains next 0) g) 1 0 → mark ≡ lastMark (left - 1)
           → second ≡ pick (takes g t before′ (getD gains next 0)) 1 0
-          → Marking rests gains prevs c n g t marks seconds (set marks′ (next - 1) mark) (set seconds′ next second) before′ (left - 1) (getD prevs next 0)
+          → Marking rests gains prevs c n g t marks seconds (set marks′ (next - 1) mark)
+          (set seconds′ next second) before′ (left - 1) (getD prevs next 0)
       unfolding nthPrev backRun
       marking-turn some before′ mark second b a s =
           let gain : ℕ = getD gains next 0 in
@@ -174,16 +187,21 @@ module _ {K c n : ℕ} {rests gains prevs marks seconds : List ℕ} (ready : Run
           let laid-ch : Choice = record { mark = mark; second = eqb second 1 } in
           let short : next < length seconds′ = omega (arith, m .wide, high, ready .short) in
           let same : laid-ch ≡ ch = choice-is mark second (lastMark (left - 1)) (takes g t before′ gain) a s in
-          let alone : LaidRun prevs 1 next (laid-ch ∷ []) marks′ seconds′ (set marks′ (next - 1) mark) (set seconds′ next second) =
+          let alone : LaidRun prevs 1 next (laid-ch ∷ []) marks′ seconds′ (set marks′ (next - 1) mark)
+          (set seconds′ next second) =
           laid-one prevs next marks′ seconds′ mark second low (omega (arith, m .laid .long, high)) short in
-          let one : LaidRun prevs 1 next (ch ∷ []) marks′ seconds′ (set marks′ (next - 1) mark) (set seconds′ next second) = rw same at alone in
+          let one : LaidRun prevs 1 next (ch ∷ []) marks′ seconds′ (set marks′ (next - 1) mark)
+          (set seconds′ next second) = rw same at alone in
           let more : m .done + 1 ≡ suc (m .done) = omega arith in
           let less : left ≡ suc (left - 1) = omega arith in
-          let step : ch ∷ backRun g t before′ (left - 1) (children (getD prevs next 0)) ≡ backRun g t before left (children next) =
+          let step : ch ∷ backRun g t before′ (left - 1) (children (getD prevs next 0))
+          ≡ backRun g t before left (children next) =
           sym
           (ap₂ (backRun g t before) less (shape m some)
-          ∙ ap (λ k. record { mark = lastMark (left - 1); second = takes g t k gain } ∷ backRun g t k (left - 1) (children (getD prevs next 0))) (sym b)) in
-          let none : g ≡ 0 → t ≡ 0 = λ z. v .times-is ∙ levelFrom-upTo (v .top) (countsOf counts) K (v .total) .none (sym (v .gain-is) ∙ z) in
+          ∙ ap (λ k. record { mark = lastMark (left - 1); second = takes g t k gain }
+          ∷ backRun g t k (left - 1) (children (getD prevs next 0))) (sym b)) in
+          let none : g ≡ 0 → t ≡ 0 =
+          λ z. v .times-is ∙ levelFrom-upTo (v .top) (countsOf counts) K (v .total) .none (sym (v .gain-is) ∙ z) in
           record {
             done = m .done + 1;
             choices = m .choices ++ (ch ∷ []);
@@ -191,11 +209,14 @@ module _ {K c n : ℕ} {rests gains prevs marks seconds : List ℕ} (ready : Run
             at = ap (λ u. getD prevs u 0) (m .at) ∙ sym (ap (λ k. nthPrev prevs k c) more);
             within = omega (arith, m .within, ap length (shape m some));
             count = omega (arith, counted m some);
-            laid = laid-then (ready .earlier) (λ j l. children-nodes rests gains prevs (ready .earlier) j c (omega (arith, m .sum, ready .within))) (m .at) (m .laid) one;
+            laid = laid-then (ready .earlier)
+                (λ j l. children-nodes rests gains prevs (ready .earlier) j c (omega (arith, m .sum, ready .within)))
+                (m .at) (m .laid) one;
             rest = append-assoc (m .choices) (ch ∷ []) (backRun g t before′ (left - 1) (children (getD prevs next 0)))
                 ∙ ap (λ l. m .choices ++ l) step
                 ∙ m .rest;
-            seconds-gain = seconds-gain-set gains seconds′ next second short (m .seconds-gain) (λ e. takes-gain g t before′ gain none (second-taken (takes g t before′ gain) (sym s ∙ e)));
+            seconds-gain = seconds-gain-set gains seconds′ next second short (m .seconds-gain)
+                (λ e. takes-gain g t before′ gain none (second-taken (takes g t before′ gain) (sym s ∙ e)));
             wide = simp length-set (m .wide);
           }
 

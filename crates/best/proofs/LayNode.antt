@@ -15,17 +15,20 @@ use Rattle.model.specs.Table.{maxNodes, maxLimit, slots, nodeCount, limitOf, we
 use Rattle.model.specs.Plan.{parentAt}
 use Rattle.model.specs.Steps.{Child, Choice, entryAt, secondStart}
 use Rattle.best.specs.Cells.{lastChildren, rebuilt, LengthFits, Agrees, stayChoice, cellAt, cell-entry}
-use Rattle.best.specs.CellsArrays.{childIn, childrenIn, children-none, children-cons, children-length, children-good}
+use Rattle.best.specs.CellsArrays.{childIn, childrenIn, children-none, children-cons, children-length}
+use Rattle.best.specs.CellsArrays.{children-good}
 use Rattle.best.specs.CellsRun.{nthPrev, nthPrev-le, blockAt, block-apart}
 use Rattle.best.specs.CellsNode.{ChildOrNone, child-high, child-nthPrev, nthPrev-shift, SiblingsBefore}
 use Rattle.best.specs.LayMarks.{choicesBack, choices-back-none, choices-back-cons}
 use Rattle.best.specs.LayChosen.{chosenIn, choicesFor, LaidRun}
 use Rattle.best.specs.LayContracts.{runBack, SecondsGain, RunReady, RunDone, startOf, NodeReady, NodeDone}
-use Rattle.best.proofs.LayRuns.{children-nthPrev, children-nodes, nthPrev-add, AllNodes, laid-none, laid-one, laid-then, seconds-gain-set}
+use Rattle.best.proofs.LayRuns.{children-nthPrev, children-nodes, nthPrev-add, AllNodes, laid-none, laid-one}
+use Rattle.best.proofs.LayRuns.{laid-then, seconds-gain-set}
 
 -- ---- An entry's choices from the length of the run that won
 
-rebuilt-stay : (K s : ℕ) (k : Child) (ks : List Child) → rebuilt K 0 (k ∷ ks) s ≡ stayChoice ∷ entryAt K ks (s + k .rest) .choices
+rebuilt-stay : (K s : ℕ) (k : Child) (ks : List Child)
+    → rebuilt K 0 (k ∷ ks) s ≡ stayChoice ∷ entryAt K ks (s + k .rest) .choices
 unfolding rebuilt
 rebuilt-stay K s k ks = refl
 
@@ -52,7 +55,8 @@ no-choices K s = refl
 
 -- ---- All siblings
 
-choices-all : (t prevs : List ℕ) (ch : ℕ → Choice) (v : ℕ) → SiblingsBefore t prevs → getD prevs 0 0 ≡ 0 → (n u : ℕ) → ChildOrNone t v u → nthPrev prevs n u ≡ 0
+choices-all : (t prevs : List ℕ) (ch : ℕ → Choice) (v : ℕ) → SiblingsBefore t prevs → getD prevs 0 0 ≡ 0 → (n u : ℕ)
+    → ChildOrNone t v u → nthPrev prevs n u ≡ 0
     → AllNodes prevs n u → choicesFor prevs ch n u ≡ choicesBack t ch u
 unfolding choicesFor nthPrev
 choices-all t prevs ch v before none zero u k e are-nodes = sym (ap (choicesBack t ch) e ∙ choices-back-none t ch)
@@ -73,7 +77,8 @@ abbrev nodeStart : List ℕ → ℕ → List ℕ → List ℕ → ℕ
 nodeStart t v rests seconds = startOf (limitOf t) (weightAt t v) (getD rests v 0) (eqb (getD seconds v 0) 1)
 
 -- `child` comes before those that were walked; what is left is chosen from the start on
-pub record Walking (t : List ℕ) (v : ℕ) (rests gains prevs lasts marks seconds marks′ seconds′ : List ℕ) (start child : ℕ) : Type 0 where
+pub record Walking (t : List ℕ) (v : ℕ) (rests gains prevs lasts marks seconds marks′ seconds′ : List ℕ)
+    (start child : ℕ) : Type 0 where
   pub walked : ℕ
   pub choices : List Choice
   pub at : child ≡ nthPrev prevs walked (getD lasts v 0)
@@ -92,7 +97,8 @@ pub record Found (t xs : List ℕ) (K start child len : ℕ) : Type 0 where
   pub some : child ≡ 0 → ⊥
   pub run-is : len ≡ getD xs (blockAt K child + (K + 1) + start) 0
 
-module _ {t : List ℕ} {v : ℕ} {rests gains prevs lasts xs marks seconds : List ℕ} (node : NodeReady t v rests gains prevs lasts xs marks seconds) where
+module _ {t : List ℕ} {v : ℕ} {rests gains prevs lasts xs marks seconds : List ℕ}
+    (node : NodeReady t v rests gains prevs lasts xs marks seconds) where
   abbrev children : ℕ → List Child
   children u = childrenIn rests gains prevs u
 
@@ -110,7 +116,8 @@ module _ {t : List ℕ} {v : ℕ} {rests gains prevs lasts xs marks seconds : Li
   nodes-small = node .ready .accepted .sound .count-high
 
   start-within : (b : Bool) → eqb (getD seconds v 0) 1 ≡ b
-      → (weightAt t v ≤ startOf limit (weightAt t v) (getD rests v 0) b) × (startOf limit (weightAt t v) (getD rests v 0) b ≤ limit)
+      → (weightAt t v ≤ startOf limit (weightAt t v) (getD rests v 0) b)
+      × (startOf limit (weightAt t v) (getD rests v 0) b ≤ limit)
   unfolding pick secondStart
   start-within true e =
       let s = node .second (node .seconds-gain v (eqb-true (getD seconds v 0) 1 e)) in
@@ -135,13 +142,16 @@ module _ {t : List ℕ} {v : ℕ} {rests gains prevs lasts xs marks seconds : Li
       }
 
   -- from the start as it is found
-  pub walk-from : (K start : ℕ) → K ≡ limit → start ≡ startOf K (weightAt t v) (getD rests v 0) (eqb (getD seconds v 0) 1)
+  pub walk-from : (K start : ℕ) → K ≡ limit
+      → start ≡ startOf K (weightAt t v) (getD rests v 0) (eqb (getD seconds v 0) 1)
       → Walking t v rests gains prevs lasts marks seconds marks seconds start last
   walk-from K start e f = rw (f, e) walk-start
 
-  module _ {marks′ seconds′ : List ℕ} {start child : ℕ} (w : Walking t v rests gains prevs lasts marks seconds marks′ seconds′ start child) where
+  module _ {marks′ seconds′ : List ℕ} {start child : ℕ}
+      (w : Walking t v rests gains prevs lasts marks seconds marks′ seconds′ start child) where
     walk-child : ChildOrNone t v child
-    walk-child = rw (w .at) (child-nthPrev t prevs (node .ready .before) (node .ready .none) v (w .walked) last (node .last-child))
+    walk-child = rw (w .at) (child-nthPrev t prevs (node .ready .before) (node .ready .none) v (w .walked) last
+        (node .last-child))
 
     pub walk-high : child ≤ nodeCount t
     walk-high = child-high t v child walk-child
@@ -150,13 +160,16 @@ module _ {t : List ℕ} {v : ℕ} {rests gains prevs lasts xs marks seconds : Li
     pub walk-reads : (K block : ℕ) → K ≡ limit → block ≡ blockAt K child → block + (K + 1) + start < length xs
     walk-reads K block e f =
         let here : block ≡ blockAt limit child = f ∙ ap (λ k. blockAt k child) e in
-        omega (arith, block-apart limit child (nodeCount t + 1) (omega (arith, walk-high)), node .ready .room, w .high, here, e)
+        let apart = block-apart limit child (nodeCount t + 1) (omega (arith, walk-high)) in
+        omega (arith, apart, node .ready .room, w .high, here, e)
 
-    pub block-small : (K block : ℕ) → K ≡ limit → block ≡ blockAt K child → block + (K + 1) + start < blockAt maxLimit slots
+    pub block-small : (K block : ℕ) → K ≡ limit → block ≡ blockAt K child
+        → block + (K + 1) + start < blockAt maxLimit slots
     block-small K block e f =
         let here : block ≡ blockAt limit child = f ∙ ap (λ k. blockAt k child) e in
         let most : child * (2 * (limit + 1)) ≤ maxNodes * (2 * (maxLimit + 1)) =
-        mul-le-mul {n₁ = child} {m₁ = 2 * (limit + 1)} {n₂ = maxNodes} {m₂ = 2 * (maxLimit + 1)} (omega (arith, walk-high, nodes-small)) (omega (arith, limit-small)) in
+        mul-le-mul {n₁ = child} {m₁ = 2 * (limit + 1)} {n₂ = maxNodes} {m₂ = 2 * (maxLimit + 1)}
+        (omega (arith, walk-high, nodes-small)) (omega (arith, limit-small)) in
         omega (arith, here, e, most, w .high, limit-small)
 
     are-nodes : (k : ℕ) → w .walked + k ≤ length (children last) → AllNodes prevs (w .walked + k) last
@@ -175,7 +188,8 @@ module _ {t : List ℕ} {v : ℕ} {rests gains prevs lasts xs marks seconds : Li
       one : 1 ≤ child
       one = omega (arith, found .some)
 
-      agrees : Agrees limit start (children child) (entryAt limit (children child) start) (cellAt limit (children child) start)
+      agrees : Agrees limit start (children child) (entryAt limit (children child) start)
+          (cellAt limit (children child) start)
       agrees =
           cell-entry limit (omega (arith, limit-small)) (children child) start (w .high)
           (children-good limit rests gains prevs (node .ready .good) child)
@@ -207,7 +221,8 @@ module _ {t : List ℕ} {v : ℕ} {rests gains prevs lasts xs marks seconds : Li
             stay-within limit start (childIn rests gains child) (children (getD prevs child 0))
             (rw (zeroed, shape) at length-fits)
 
-        pub walk-stay : Walking t v rests gains prevs lasts marks seconds (set marks′ (child - 1) 0) (set seconds′ child 0) (start + getD rests child 0) (getD prevs child 0)
+        pub walk-stay : Walking t v rests gains prevs lasts marks seconds (set marks′ (child - 1) 0)
+            (set seconds′ child 0) (start + getD rests child 0) (getD prevs child 0)
         unfolding nthPrev
         walk-stay =
             let more : w .walked + 1 ≡ suc (w .walked) = omega arith in
@@ -226,11 +241,13 @@ module _ {t : List ℕ} {v : ℕ} {rests gains prevs lasts xs marks seconds : Li
               within = fits;
               laid =
                   laid-then (node .ready .earlier) (are-nodes 1 fits) (w .at) (w .laid)
-                  (laid-one prevs child marks′ seconds′ 0 0 one (omega (arith, walk-high, node .long, w .laid .long)) short);
+                  (laid-one prevs child marks′ seconds′ 0 0 one
+                  (omega (arith, walk-high, node .long, w .laid .long)) short);
               rest = append-assoc (w .choices) (stayChoice ∷ []) X ∙ ap (λ l. w .choices ++ l) here ∙ w .rest;
               low = omega (arith, w .low);
               high = stay-fits;
-              seconds-gain = seconds-gain-set gains seconds′ child 0 short (w .seconds-gain) (λ e. absurd (omega arith));
+              seconds-gain = seconds-gain-set gains seconds′ child 0 short (w .seconds-gain)
+                  (λ e. absurd (omega arith));
               wide = simp length-set (w .wide);
             }
 
@@ -253,21 +270,26 @@ module _ {t : List ℕ} {v : ℕ} {rests gains prevs lasts xs marks seconds : Li
               seconds-gain = w .seconds-gain;
             }
 
-        module _ {marks″ seconds″ : List ℕ} {r : ℕ} (given : RunDone K child len rests gains prevs marks′ seconds′ marks″ seconds″ r) where
+        module _ {marks″ seconds″ : List ℕ} {r : ℕ}
+            (given : RunDone K child len rests gains prevs marks′ seconds′ marks″ seconds″ r) where
           done : RunDone limit child len rests gains prevs marks′ seconds′ marks″ seconds″ r
           done = rw (found .limit-is) at given
 
           pub walk-less : r < child
           walk-less =
               let e : len ≡ suc (len - 1) = omega arith in
-              let l : nthPrev prevs (len - 1) (getD prevs child 0) ≤ getD prevs child 0 = nthPrev-le prevs (node .ready .earlier) (node .ready .none) (len - 1) (getD prevs child 0) in
-              omega (arith, done .next ∙ ap (λ k. nthPrev prevs k child) e ∙ nthPrev-shift prevs (len - 1) child, l, prev-less)
+              let l : nthPrev prevs (len - 1) (getD prevs child 0) ≤ getD prevs child 0 =
+              nthPrev-le prevs (node .ready .earlier) (node .ready .none) (len - 1) (getD prevs child 0) in
+              let r-is = done .next ∙ ap (λ k. nthPrev prevs k child) e ∙ nthPrev-shift prevs (len - 1) child in
+              omega (arith, r-is, l, prev-less)
 
           pub walk-run : Walking t v rests gains prevs lasts marks seconds marks″ seconds″ start r
           walk-run =
               let X : List Choice = entryAt limit (children r) start .choices in
               let before : drop len (children child) ≡ children r =
-              sym (ap children (done .next) ∙ children-nthPrev rests gains prevs (node .ready .earlier) len child run-within) in
+              sym
+              (ap children (done .next)
+              ∙ children-nthPrev rests gains prevs (node .ready .earlier) len child run-within) in
               let here : runBack limit len (children child) ++ X ≡ entryAt limit (children child) start .choices =
               sym
               (chosen
@@ -280,7 +302,8 @@ module _ {t : List ℕ} {v : ℕ} {rests gains prevs lasts xs marks seconds : Li
                 at = done .next ∙ ap (nthPrev prevs len) (w .at) ∙ nthPrev-add prevs (w .walked) len last;
                 within = fits;
                 laid = laid-then (node .ready .earlier) (are-nodes len fits) (w .at) (w .laid) (done .laid);
-                rest = append-assoc (w .choices) (runBack limit len (children child)) X ∙ ap (λ l. w .choices ++ l) here ∙ w .rest;
+                rest = append-assoc (w .choices) (runBack limit len (children child)) X
+                    ∙ ap (λ l. w .choices ++ l) here ∙ w .rest;
                 low = w .low;
                 high = w .high;
                 seconds-gain = done .seconds-gain;
@@ -290,19 +313,26 @@ module _ {t : List ℕ} {v : ℕ} {rests gains prevs lasts xs marks seconds : Li
     pub walk-end : child ≡ 0 → NodeDone t v rests gains prevs lasts marks seconds marks′ seconds′
     walk-end z =
         let none : entryAt limit (children child) start .choices ≡ [] =
-        ap (λ ks. entryAt limit ks start .choices) (ap children z ∙ children-none rests gains prevs (node .ready .earlier))
+        ap (λ ks. entryAt limit ks start .choices)
+        (ap children z ∙ children-none rests gains prevs (node .ready .earlier))
         ∙ no-choices limit start in
-        let all : choicesFor prevs (chosenIn marks′ seconds′) (w .walked) last ≡ choicesBack t (chosenIn marks′ seconds′) last =
-        choices-all t prevs (chosenIn marks′ seconds′) v (node .ready .before) (node .ready .none) (w .walked) last (node .last-child) (sym (w .at) ∙ z)
+        let all : choicesFor prevs (chosenIn marks′ seconds′) (w .walked) last
+        ≡ choicesBack t (chosenIn marks′ seconds′) last =
+        choices-all t prevs (chosenIn marks′ seconds′) v (node .ready .before) (node .ready .none) (w .walked) last
+        (node .last-child) (sym (w .at) ∙ z)
         (λ j l. children-nodes rests gains prevs (node .ready .earlier) j last (omega (arith, w .within))) in
         record {
           long = w .laid .long;
           wide = w .wide;
           seconds-gain = w .seconds-gain;
-          chosen = sym all ∙ w .laid .chosen ∙ sym (append-nil (w .choices)) ∙ ap (λ l. w .choices ++ l) (sym none) ∙ w .rest;
-          others = λ u low h. w .laid .others u low (λ i l e. h (parent u low i (child-nthPrev t prevs (node .ready .before) (node .ready .none) v i last (node .last-child)) e));
+          chosen = sym all ∙ w .laid .chosen ∙ sym (append-nil (w .choices)) ∙ ap (λ l. w .choices ++ l) (sym none)
+              ∙ w .rest;
+          others = λ u low h. w .laid .others u low
+              (λ i l e. h (parent u low i (child-nthPrev t prevs (node .ready .before) (node .ready .none) v i last
+              (node .last-child)) e));
         }
       where
-        parent : (u : ℕ) → 1 ≤ u → (i : ℕ) → ChildOrNone t v (nthPrev prevs i last) → u ≡ nthPrev prevs i last → parentAt t u ≡ v
+        parent : (u : ℕ) → 1 ≤ u → (i : ℕ) → ChildOrNone t v (nthPrev prevs i last) → u ≡ nthPrev prevs i last
+            → parentAt t u ≡ v
         parent u low i (inl y) e = absurd (omega arith)
         parent u low i (inr q) e = rw e (q .2)

@@ -1,6 +1,6 @@
 -- Runs laid one after the other, from a node back to its siblings before.
--- Proves children-low, children-nthPrev, children-nodes (siblings before a node, by the children up to it), nthPrev-add, laid-none, laid-one, laid-then and seconds-gain-set.
--- Assumes nothing.
+-- Proves children-low, children-nthPrev, children-nodes (siblings before a node, by the children up to it),
+-- nthPrev-add, laid-none, laid-one, laid-then and seconds-gain-set. Assumes nothing.
 use Prim.Native.Nat.{ℕ, zero, suc, _+_, _-_, _≤_, _<_}
 use mathlib.Core.Path.{_≡_, refl, sym, _∙_, ap, ap₂}
 use mathlib.Core.Bool.{Bool, true, false}
@@ -27,7 +27,8 @@ module _ (rests gains prevs : List ℕ) (earlier : Earlier prevs) where
       go : (b : Bool) → eqb c 0 ≡ b → 1 ≤ c
       go true e =
           let z : c ≡ 0 = eqb-true c 0 e in
-          let none : childrenIn rests gains prevs c ≡ [] = ap (childrenIn rests gains prevs) z ∙ children-none rests gains prevs earlier in
+          let none : childrenIn rests gains prevs c ≡ [] =
+          ap (childrenIn rests gains prevs) z ∙ children-none rests gains prevs earlier in
           absurd (omega (arith, ap length none))
       go false e = let d : c ≡ 0 → ⊥ = eqb-false c 0 e in omega arith
 
@@ -60,15 +61,18 @@ nthPrev-add prevs n (suc j) c =
 abbrev pub AllNodes : List ℕ → ℕ → ℕ → Type 0
 AllNodes prevs m c = (j : ℕ) → j < m → 1 ≤ nthPrev prevs j c
 
-nthPrev-less : (prevs : List ℕ) → Earlier prevs → (m c : ℕ) → AllNodes prevs m c → (n i : ℕ) → n < m → i < n → nthPrev prevs n c < nthPrev prevs i c
+nthPrev-less : (prevs : List ℕ) → Earlier prevs → (m c : ℕ) → AllNodes prevs m c → (n i : ℕ) → n < m → i < n
+    → nthPrev prevs n c < nthPrev prevs i c
 unfolding nthPrev
 nthPrev-less prevs earlier m c are-nodes zero i h l = absurd (omega arith)
-nthPrev-less prevs earlier m c are-nodes (suc n) i h l = go (eqb i n) refl (λ q. nthPrev-less prevs earlier m c are-nodes n i (omega arith) q)
+nthPrev-less prevs earlier m c are-nodes (suc n) i h l =
+    go (eqb i n) refl (λ q. nthPrev-less prevs earlier m c are-nodes n i (omega arith) q)
   where
     step : getD prevs (nthPrev prevs n c) 0 < nthPrev prevs n c
     step = earlier (nthPrev prevs n c) (are-nodes n (omega arith))
 
-    go : (b : Bool) → eqb i n ≡ b → (i < n → nthPrev prevs n c < nthPrev prevs i c) → getD prevs (nthPrev prevs n c) 0 < nthPrev prevs i c
+    go : (b : Bool) → eqb i n ≡ b → (i < n → nthPrev prevs n c < nthPrev prevs i c)
+        → getD prevs (nthPrev prevs n c) 0 < nthPrev prevs i c
     go true e ih = let q : i ≡ n = eqb-true i n e in rw q step
     go false e ih =
         let d : i ≡ n → ⊥ = eqb-false i n e in
@@ -81,8 +85,10 @@ unfolding choicesFor
 laid-none prevs c marks seconds = record { long = refl; chosen = refl; others = λ u p q. refl }
 
 -- one node
-pub laid-one : (prevs : List ℕ) (c : ℕ) (marks seconds : List ℕ) (mark second : ℕ) → 1 ≤ c → c ≤ length marks → c < length seconds
-    → LaidRun prevs 1 c (record { mark = mark; second = eqb second 1 } ∷ []) marks seconds (set marks (c - 1) mark) (set seconds c second)
+pub laid-one : (prevs : List ℕ) (c : ℕ) (marks seconds : List ℕ) (mark second : ℕ) → 1 ≤ c → c ≤ length marks
+    → c < length seconds
+    → LaidRun prevs 1 c (record { mark = mark; second = eqb second 1 } ∷ []) marks seconds (set marks (c - 1) mark)
+    (set seconds c second)
 unfolding choicesFor nthPrev
 laid-one prevs c marks seconds mark second low high short =
     record {
@@ -100,15 +106,18 @@ laid-one prevs c marks seconds mark second low high short =
     }
 
 -- a run, and one before it
-laid-join : {prevs m s m₁ s₁ m₂ s₂ : List ℕ} {n k c : ℕ} {cs ds : List Choice} → Earlier prevs → AllNodes prevs (n + k) c
-    → LaidRun prevs n c cs m s m₁ s₁ → LaidRun prevs k (nthPrev prevs n c) ds m₁ s₁ m₂ s₂ → LaidRun prevs (n + k) c (cs ++ ds) m s m₂ s₂
+laid-join : {prevs m s m₁ s₁ m₂ s₂ : List ℕ} {n k c : ℕ} {cs ds : List Choice} → Earlier prevs
+    → AllNodes prevs (n + k) c
+    → LaidRun prevs n c cs m s m₁ s₁ → LaidRun prevs k (nthPrev prevs n c) ds m₁ s₁ m₂ s₂
+    → LaidRun prevs (n + k) c (cs ++ ds) m s m₂ s₂
 laid-join {prevs} {m₁ = m₁} {s₁ = s₁} {m₂ = m₂} {s₂ = s₂} {n = n} {k = k} {c = c} earlier are-nodes a b =
     record {
       long = b .long ∙ a .long;
       chosen =
           choices-for-more prevs (chosenIn m₂ s₂) n k c
           ∙ ap₂ _++_
-          (choices-for-same prevs (chosenIn m₂ s₂) (chosenIn m₁ s₁) n c (λ i l. b .others (nthPrev prevs i c) (are-nodes i (omega arith)) (apart i l)) ∙ a .chosen)
+          (choices-for-same prevs (chosenIn m₂ s₂) (chosenIn m₁ s₁) n c
+          (λ i l. b .others (nthPrev prevs i c) (are-nodes i (omega arith)) (apart i l)) ∙ a .chosen)
           (b .chosen);
       others = λ u low h.
           b .others u low (λ j l e. h (n + j) (omega arith) (e ∙ nthPrev-add prevs n j c))
@@ -117,15 +126,19 @@ laid-join {prevs} {m₁ = m₁} {s₁ = s₁} {m₂ = m₂} {s₂ = s₂} {n = n
   where
     apart : (i : ℕ) → i < n → (j : ℕ) → j < k → nthPrev prevs i c ≡ nthPrev prevs j (nthPrev prevs n c) → ⊥
     apart i l j q e =
-        omega (arith, nthPrev-less prevs earlier (n + k) c are-nodes (n + j) i (omega arith) (omega arith), e, nthPrev-add prevs n j c)
+        let less = nthPrev-less prevs earlier (n + k) c are-nodes (n + j) i (omega arith) (omega arith) in
+        omega (arith, less, e, nthPrev-add prevs n j c)
 
-pub laid-then : {prevs m s m₁ s₁ m₂ s₂ : List ℕ} {n k c u : ℕ} {cs ds : List Choice} → Earlier prevs → AllNodes prevs (n + k) c
-    → u ≡ nthPrev prevs n c → LaidRun prevs n c cs m s m₁ s₁ → LaidRun prevs k u ds m₁ s₁ m₂ s₂ → LaidRun prevs (n + k) c (cs ++ ds) m s m₂ s₂
+pub laid-then : {prevs m s m₁ s₁ m₂ s₂ : List ℕ} {n k c u : ℕ} {cs ds : List Choice} → Earlier prevs
+    → AllNodes prevs (n + k) c
+    → u ≡ nthPrev prevs n c → LaidRun prevs n c cs m s m₁ s₁ → LaidRun prevs k u ds m₁ s₁ m₂ s₂
+    → LaidRun prevs (n + k) c (cs ++ ds) m s m₂ s₂
 laid-then earlier are-nodes e a b = laid-join earlier are-nodes a (rw e at b)
 
 -- ---- Second plans
 
-pub seconds-gain-set : (gains seconds : List ℕ) (c x : ℕ) → c < length seconds → SecondsGain gains seconds → (x ≡ 1 → 1 ≤ getD gains c 0)
+pub seconds-gain-set : (gains seconds : List ℕ) (c x : ℕ) → c < length seconds → SecondsGain gains seconds
+    → (x ≡ 1 → 1 ≤ getD gains c 0)
     → SecondsGain gains (set seconds c x)
 seconds-gain-set gains seconds c x short g h u e = go (eqb u c) refl
   where

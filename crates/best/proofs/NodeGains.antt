@@ -1,5 +1,5 @@
--- What is read of a node from the block of its last child. Proves gain-none and gain-found (the gain by its tests), block-fits and
--- rest-fits (the reads are within bounds), gain-fits and node-planned (one node more). Assumes nothing.
+-- What is read of a node from the block of its last child. Proves gain-none and gain-found (the gain by its tests),
+-- block-fits and rest-fits (the reads are within bounds), gain-fits and node-planned (one node more). Assumes nothing.
 use Prim.Native.Nat.{ℕ, _+_, _-_, _*_, _%_, _≤_}
 use mathlib.Core.Path.{_≡_, refl, _∙_, ap}
 use mathlib.Core.Bool.{Bool, true, false, not, _||_, true≢false}
@@ -23,7 +23,8 @@ gain-none false K w W x e = refl
 gain-none true K w W x e = rw (lt-leb (w + (K - W) + 1) K (ltb-true K (w + (K - W) + 1) e))
 
 -- there is one
-pub gain-found : (g : Bool) (K w W x : ℕ) → (not g || ltb K (w + (K - W) + 1)) ≡ false → W - (x - (K - W + 1)) ≡ gainFrom g K w W x
+pub gain-found : (g : Bool) (K w W x : ℕ) → (not g || ltb K (w + (K - W) + 1)) ≡ false
+    → W - (x - (K - W + 1)) ≡ gainFrom g K w W x
 unfolding pick secondStart
 gain-found false K w W x e = absurd (true≢false e)
 gain-found true K w W x e = rw (le-leb (w + (K - W) + 1) K (ltb-false K (w + (K - W) + 1) e))
@@ -33,7 +34,13 @@ module _ {t rests gains prevs lasts xs ys : List ℕ} {g : Bool} {v r : ℕ} (lo
   where
     pub block-fits : blockAt (limitOf t) r + 2 * (limitOf t + 1) ≤ length ys
     block-fits =
-        omega (arith, block-apart (limitOf t) r (nodeCount t + 1) (omega (arith, child-high t v r (f .last-child))), p .ready .room, f .long)
+        omega (
+          arith,
+          block-apart (limitOf t) r (nodeCount t + 1)
+              (omega (arith, child-high t v r (f .last-child))),
+          p .ready .room,
+          f .long,
+        )
 
     module _ (K w here rest : ℕ) (limit : K ≡ limitOf t) (weight : w ≡ weightAt t v) (block : here ≡ blockAt K r)
         (is : rest ≡ getD ys (here + w) 0 % pageWord)

@@ -1,5 +1,5 @@
--- The sibling before each node, from the links to the sibling after. Defines Linking. Proves linking-start, linking-turn and linking-end:
--- one store a node. Assumes nothing.
+-- The sibling before each node, from the links to the sibling after. Defines Linking. Proves linking-start,
+-- linking-turn and linking-end: one store a node. Assumes nothing.
 use Prim.Native.Nat.{ℕ, _+_, _≤_, _<_}
 use mathlib.Core.Path.{_≡_, refl, sym, _∙_, ap}
 use mathlib.Core.Bool.{Bool, true, false}
@@ -57,7 +57,8 @@ module _ {t : List ℕ} (a : AcceptedFacts t) where
           same u is ∙ sym (next-prev (a .sound) (v + 1) u (omega arith) (omega arith) low (sym (is ∙ e)))
       seen u low high h false q =
           let other : u ≡ x → ⊥ = eqb-false u x q in
-          let not-this : prevAt t u ≡ v + 1 → ⊥ = λ z. other (sym (prevAt-next t u (omega arith)) ∙ ap (nextAt t) z ∙ sym e) in
+          let not-this : prevAt t u ≡ v + 1 → ⊥ =
+          λ z. other (sym (prevAt-next t u (omega arith)) ∙ ap (nextAt t) z ∙ sym e) in
           getD-set-other prevs x u (v + 1) 0 other ∙ l .seen u low high (omega arith)
 
       early : (u : ℕ) → 1 ≤ u → (b : Bool) → eqb u x ≡ b → getD (set prevs x (v + 1)) u 0 < u
@@ -67,7 +68,8 @@ module _ {t : List ℕ} (a : AcceptedFacts t) where
       early u low false q = omega (arith, getD-set-other prevs x u (v + 1) 0 (eqb-false u x q), l .earlier u low)
 
 -- and 0 has none before it
-pub linking-end : {t : List ℕ} (v : ℕ) (prevs : List ℕ) → nodeCount t ≤ v → Linking t v prevs → SiblingsLinked t (set prevs 0 0)
+pub linking-end : {t : List ℕ} (v : ℕ) (prevs : List ℕ) → nodeCount t ≤ v → Linking t v prevs
+    → SiblingsLinked t (set prevs 0 0)
 linking-end {t} v prevs high l =
     record {
       before = λ u low up. other u low ∙ l .seen u low up (omega (arith, prevAt-less t u low));

@@ -1,5 +1,5 @@
--- Arrays of zeros, the siblings before, and a scratch with the column of no child are ready for the nodes. Proves scratch-fits,
--- open-fits and starts-ready. Assumes nothing.
+-- Arrays of zeros, the siblings before, and a scratch with the column of no child are ready for the nodes. Proves
+-- scratch-fits, open-fits and starts-ready. Assumes nothing.
 use Prim.Native.Nat.{ℕ, _+_, _*_, _≤_}
 use mathlib.Core.Path.{_≡_}
 use mathlib.Core.List.{List, []}
@@ -27,7 +27,8 @@ open-fits N K low =
     mul-le-mul {n₁ = 1} {m₁ = 2 * (K + 1)} {n₂ = N + 1} {m₂ = 2 * (K + 1)} (omega arith) (omega arith) in
     omega (arith, m, scratch-fits N K low)
 
-pub starts-ready : {t prevs xs ys : List ℕ} (K : ℕ) → AcceptedFacts t → scratchWords (nodeCount t) (limitOf t) ≤ length xs → SiblingsLinked t prevs → K ≡ limitOf t
+pub starts-ready : {t prevs xs ys : List ℕ} (K : ℕ) → AcceptedFacts t
+    → scratchWords (nodeCount t) (limitOf t) ≤ length xs → SiblingsLinked t prevs → K ≡ limitOf t
     → Swept K 0 0 (λ s. cellAt K [] s) xs ys → ColumnsReady t (replicate slots 0) (replicate slots 0) prevs ys
 starts-ready {t} K a words l limit w =
     record {
@@ -37,5 +38,6 @@ starts-ready {t} K a words l limit w =
       earlier = l .earlier;
       none = l .none;
       room = omega (arith, scratch-fits (nodeCount t) (limitOf t) (a .sound .count-low), words, w .long);
-      root = λ s h. let z : 0 * (2 * (K + 1)) ≡ 0 = omega arith in rw (← limit, z) (w .cells s (omega arith) (omega arith));
+      root = λ s h. let z : 0 * (2 * (K + 1)) ≡ 0 =
+          omega arith in rw (← limit, z) (w .cells s (omega arith) (omega arith));
     }

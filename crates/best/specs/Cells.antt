@@ -1,8 +1,8 @@
--- The entries of a node's children without their lists of choices: a cell has the count and the rest in one word, and the length
--- of the run that won, 0 where the last child stays. A smaller word is a smaller count, or the same count and a smaller rest.
--- Defines Cell, wordOf, lower, tryRun, stayCell, cellAt, longerRuns, lastChildren, rebuilt, GoodChild, Agrees.
--- Proves word-order, entry-within (bounds of an entry) and cell-entry: a cell has its entry's word, and the entry's choices are
--- rebuilt from the run's length. Assumes nothing.
+-- The entries of a node's children without their lists of choices: a cell has the count and the rest in one word,
+-- and the length of the run that won, 0 where the last child stays. A smaller word is a smaller count, or the same
+-- count and a smaller rest. Defines Cell, wordOf, lower, tryRun, stayCell, cellAt, longerRuns, lastChildren,
+-- rebuilt, GoodChild, Agrees. Proves word-order, entry-within (bounds of an entry) and cell-entry: a cell has its
+-- entry's word, and the entry's choices are rebuilt from the run's length. Assumes nothing.
 use Prim.Native.Nat.{ℕ, zero, suc, _+_, _*_, _≤_, _<_}
 use mathlib.Core.Path.{_≡_, refl, _∙_, ap}
 use mathlib.Core.Bool.{Bool, true, false, _&&_, _||_}
@@ -15,25 +15,8 @@ use borrow.Author.Tests.{ltb-true, ltb-false, leb-true, eqb-true, eqb-false, lt-
 use Rattle.model.specs.Basics.{pick}
 use Rattle.model.specs.Table.{maxNodes}
 use Rattle.model.specs.Plan.{stays, begins}
-use Rattle.model.specs.Steps.{
-  Member,
-  Child,
-  Choice,
-  Entry,
-  restSum,
-  takenCount,
-  better,
-  leastOf,
-  winner,
-  staying,
-  asMember,
-  runChoices,
-  running,
-  runOf,
-  stopsAt,
-  entryAt,
-  stretched,
-}
+use Rattle.model.specs.Steps.{Member, Child, Choice, Entry, restSum, takenCount, better, leastOf, winner, staying}
+use Rattle.model.specs.Steps.{asMember, runChoices, running, runOf, stopsAt, entryAt, stretched}
 use Rattle.theory.specs.Reduce.{reduce-length}
 use Rattle.theory.specs.ReduceCount.{reduce-stop}
 use Rattle.theory.specs.BestCandidates.{AllOf, all-append, least-all, stayed, ran, staying-all, running-all}
@@ -58,12 +41,21 @@ pub word-order : (c d x y : ℕ) → x < pageWord → y < pageWord
 word-order c d x y p q = go (ltb c d) (eqb c d) refl refl
   where
     go : (a b : Bool) → ltb c d ≡ a → eqb c d ≡ b → ltb (c * pageWord + x) (d * pageWord + y) ≡ (a || (b && ltb x y))
-    go true b e f = let l : c < d = ltb-true c d e in let m : c * pageWord + x < d * pageWord + y = omega arith in lt-ltb (c * pageWord + x) (d * pageWord + y) m
+    go true b e f =
+        let l : c < d = ltb-true c d e in
+        let m : c * pageWord + x < d * pageWord + y = omega arith in
+        lt-ltb (c * pageWord + x) (d * pageWord + y) m
     go false true e f = let same : c ≡ d = eqb-true c d f in last (ltb x y) refl same
       where
         last : (t : Bool) → ltb x y ≡ t → c ≡ d → ltb (c * pageWord + x) (d * pageWord + y) ≡ t
-        last true g s = let l : x < y = ltb-true x y g in let m : c * pageWord + x < d * pageWord + y = omega arith in lt-ltb (c * pageWord + x) (d * pageWord + y) m
-        last false g s = let l : y ≤ x = ltb-false x y g in let m : d * pageWord + y ≤ c * pageWord + x = omega arith in le-ltb (c * pageWord + x) (d * pageWord + y) m
+        last true g s =
+            let l : x < y = ltb-true x y g in
+            let m : c * pageWord + x < d * pageWord + y = omega arith in
+            lt-ltb (c * pageWord + x) (d * pageWord + y) m
+        last false g s =
+            let l : y ≤ x = ltb-false x y g in
+            let m : d * pageWord + y ≤ c * pageWord + x = omega arith in
+            le-ltb (c * pageWord + x) (d * pageWord + y) m
     go false false e f =
         let l : d ≤ c = ltb-false c d e in
         let n : c ≡ d → ⊥ = eqb-false c d f in
@@ -92,8 +84,8 @@ tryRun K ms len before c = pick (leb (restSum ms) K) (lower (runWord ms before) 
 unfoldable pub stayCell : ℕ → ℕ → ℕ → ℕ → Cell
 stayCell K s a before = record { word = pick (leb (s + a) K) before noWord; run = 0 }
 
--- The cell at start s after the children of the list, the last child first; and what the longer runs make of a cell, where the run
--- of so many was already tried.
+-- The cell at start s after the children of the list, the last child first; and what the longer runs make of a cell,
+-- where the run of so many was already tried.
 unfoldable mutual
   pub cellAt : ℕ → List Child → ℕ → Cell
   cellAt K [] s = record { word = s; run = 0 }
@@ -131,7 +123,8 @@ pub record Within (K n : ℕ) (e : Entry) : Type 0 where
   pub rest-high : e .rest ≤ K
   pub count-high : e .count ≤ 2 * n
 
-winner-keeps : (P : Entry → Type 0) (s : ℕ) (es : List Entry) → P (record { count = 0; rest = s; choices = [] }) → AllOf P es → P (winner s es)
+winner-keeps : (P : Entry → Type 0) (s : ℕ) (es : List Entry) → P (record { count = 0; rest = s; choices = [] })
+    → AllOf P es → P (winner s es)
 unfolding winner
 winner-keeps P s [] p q = p
 winner-keeps P s (e ∷ es) p q = least-all P e es (q .0) (q .1)
@@ -151,7 +144,8 @@ unfolding runOf
 run-taken K run =
     omega (arith, taken-le-length (runOf K run), reduce-length K (map asMember run), length-map run asMember)
 
-staying-within : (K s : ℕ) (k : Child) (ks : List Child) → (s + k .rest ≤ K → Within K (length ks) (entryAt K ks (s + k .rest)))
+staying-within : (K s : ℕ) (k : Child) (ks : List Child)
+    → (s + k .rest ≤ K → Within K (length ks) (entryAt K ks (s + k .rest)))
     → AllOf (Within K (suc (length ks))) (staying K s k (entryAt K ks (s + k .rest)))
 staying-within K s k ks h =
     staying-all (Within K (suc (length ks))) K s k (entryAt K ks (s + k .rest))
@@ -168,7 +162,8 @@ EntriesWithin K ks = (s : ℕ) → s ≤ K → Within K (length ks) (entryAt K k
 
 abbrev StretchesWithin : ℕ → List Child → Type 0
 StretchesWithin K ks =
-    (s : ℕ) (k : Child) (run : List Child) → s ≤ K → AllOf (Within K (length (k ∷ run) + length ks)) (stretched K s (k ∷ run) ks)
+    (s : ℕ) (k : Child) (run : List Child) → s ≤ K
+    → AllOf (Within K (length (k ∷ run) + length ks)) (stretched K s (k ∷ run) ks)
 
 within-at : (K n m : ℕ) (es : List Entry) → n ≡ m → AllOf (Within K n) es → AllOf (Within K m) es
 within-at K n m es q h = rw q at h
@@ -187,13 +182,15 @@ both-within K (j ∷ ks) = (entries (both-within K ks), stretches (both-within K
         winner-keeps (Within K n) s (stay ++ (one ++ more)) (record { rest-high = h; count-high = omega arith })
         (all-append (Within K n) stay (one ++ more) (staying-within K s j ks (λ l. ih .0 (s + j .rest) l))
         (all-append (Within K n) one more
-        (within-at K (1 + length ks) n one (omega arith) (running-within K (length ks) (j ∷ []) (entryAt K ks s) (ih .0 s h) (omega arith)))
+        (within-at K (1 + length ks) n one (omega arith)
+        (running-within K (length ks) (j ∷ []) (entryAt K ks s) (ih .0 s h) (omega arith)))
         (within-at K (1 + length ks) n more (omega arith) (ih .1 s j [] h))))
 
     stretches : EntriesWithin K ks × StretchesWithin K ks → StretchesWithin K (j ∷ ks)
     stretches ih s k run h = go (stopsAt K (k ∷ run)) refl
       where
-        go : (b : Bool) → stopsAt K (k ∷ run) ≡ b → AllOf (Within K (length (k ∷ run) + length (j ∷ ks))) (stretched K s (k ∷ run) (j ∷ ks))
+        go : (b : Bool) → stopsAt K (k ∷ run) ≡ b
+            → AllOf (Within K (length (k ∷ run) + length (j ∷ ks))) (stretched K s (k ∷ run) (j ∷ ks))
         go true q = rw q tt
         go false q =
             let one : List Entry = running K (runOf K (j ∷ k ∷ run)) (entryAt K ks s) in
@@ -202,7 +199,8 @@ both-within K (j ∷ ks) = (entries (both-within K ks), stretches (both-within K
             let n′ : ℕ = length (j ∷ k ∷ run) + length ks in
             rw q
             (all-append (Within K n) one more
-            (within-at K n′ n one (omega arith) (running-within K (length ks) (j ∷ k ∷ run) (entryAt K ks s) (ih .0 s h) (omega arith)))
+            (within-at K n′ n one (omega arith)
+            (running-within K (length ks) (j ∷ k ∷ run) (entryAt K ks s) (ih .0 s h) (omega arith)))
             (within-at K n′ n more (omega arith) (ih .1 s j (k ∷ run) h)))
 
 pub entry-within : (K : ℕ) (ks : List Child) (s : ℕ) → s ≤ K → Within K (length ks) (entryAt K ks s)
@@ -245,10 +243,12 @@ pick-agrees K s all e d c len a q h n true = record { word = refl; choices = q; 
 pick-agrees K s all e d c len a q h n false = a
 
 lower-agrees : (K s : ℕ) (all : List Child) (e d : Entry) (c : Cell) (len : ℕ) → K < pageWord → Agrees K s all e c
-    → d .choices ≡ rebuilt K len all s → d .rest ≤ K → LengthFits K s all len → Agrees K s all (better e d) (lower (wordOf d) len c)
+    → d .choices ≡ rebuilt K len all s → d .rest ≤ K → LengthFits K s all len
+    → Agrees K s all (better e d) (lower (wordOf d) len c)
 unfolding better lower
 lower-agrees K s all e d c len small a q h n =
-    let same : ltb (wordOf d) (c .word) ≡ (ltb (d .count) (e .count) || (eqb (d .count) (e .count) && ltb (d .rest) (e .rest))) =
+    let same : ltb (wordOf d) (c .word)
+    ≡ (ltb (d .count) (e .count) || (eqb (d .count) (e .count) && ltb (d .rest) (e .rest))) =
     rw (a .word) (word-order (d .count) (e .count) (d .rest) (e .rest) (omega arith) (omega (arith, a .high))) in
     rw same (pick-agrees K s all e d c len a q h n _)
 
@@ -260,14 +260,20 @@ module _ (K s : ℕ) (all : List Child) (ms : List Member) (len : ℕ) (f : Entr
     run-word : runWord ms before ≡ (f .count + 1 + takenCount ms) * pageWord + f .rest
     run-word = omega arith
 
-    run-agrees : (e : Entry) (c : Cell) → Agrees K s all e c → Agrees K s all (leastOf e (running K ms f)) (tryRun K ms len before c)
+    run-agrees : (e : Entry) (c : Cell) → Agrees K s all e c
+        → Agrees K s all (leastOf e (running K ms f)) (tryRun K ms len before c)
     unfolding leastOf running tryRun pick
     run-agrees e c a = go (leb (restSum ms) K) refl
       where
         d : Entry
-        d = record { count = f .count + 1 + takenCount ms; rest = f .rest; choices = reverse (runChoices begins ms) ++ f .choices }
+        d = record {
+          count = f .count + 1 + takenCount ms;
+          rest = f .rest;
+          choices = reverse (runChoices begins ms) ++ f .choices;
+        }
 
-        go : (b : Bool) → leb (restSum ms) K ≡ b → Agrees K s all (leastOf e (running K ms f)) (tryRun K ms len before c)
+        go : (b : Bool) → leb (restSum ms) K ≡ b
+            → Agrees K s all (leastOf e (running K ms f)) (tryRun K ms len before c)
         go true q = rw (q, run-word) (lower-agrees K s all e d c len small a chosen high within)
         go false q = rw q a
 
@@ -302,7 +308,8 @@ CellEntry K ks = (s : ℕ) → s ≤ K → Good K ks → length ks ≤ maxNodes 
 
 abbrev LongerEntry : ℕ → List Child → Type 0
 LongerEntry K ks =
-    (s : ℕ) → s ≤ K → Good K ks → length ks ≤ maxNodes → (first : Child) (before : List Child) (r : ℕ) (run : List Child) (e : Entry) (c : Cell)
+    (s : ℕ) → s ≤ K → Good K ks → length ks ≤ maxNodes
+    → (first : Child) (before : List Child) (r : ℕ) (run : List Child) (e : Entry) (c : Cell)
     → RunOfLast first before r run ks → Agrees K s (first ∷ before) e c
     → Agrees K s (first ∷ before) (leastOf e (stretched K s run ks)) (longerRuns K s run (suc r) ks c)
 
@@ -330,7 +337,8 @@ record FirstCandidates (K s : ℕ) (k : Child) (ks : List Child) : Type 0 where
   agrees : Agrees K s (k ∷ ks) entry (firstCell K k ks s)
   then : entryAt K (k ∷ ks) s ≡ leastOf entry (stretched K s (k ∷ []) ks)
 
-module _ (K : ℕ) (small : K < pageWord) (k : Child) (ks : List Child) (s : ℕ) (high : s ≤ K) (light : k .rest ≤ K) (short : length (k ∷ ks) ≤ maxNodes) where
+module _ (K : ℕ) (small : K < pageWord) (k : Child) (ks : List Child) (s : ℕ) (high : s ≤ K) (light : k .rest ≤ K)
+    (short : length (k ∷ ks) ≤ maxNodes) where
   run-of-one : RunOfLast k ks 0 (k ∷ []) ks
   unfolding lastChildren
   run-of-one = record { run-is = refl; left = refl }
@@ -339,20 +347,29 @@ module _ (K : ℕ) (small : K < pageWord) (k : Child) (ks : List Child) (s : ℕ
   unfolding LengthFits
   one = omega arith
 
-  stay-first : leb (s + k .rest) K ≡ true → Agrees K (s + k .rest) ks (entryAt K ks (s + k .rest)) (cellAt K ks (s + k .rest))
+  stay-first : leb (s + k .rest) K ≡ true
+      → Agrees K (s + k .rest) ks (entryAt K ks (s + k .rest)) (cellAt K ks (s + k .rest))
       → Agrees K s ks (entryAt K ks s) (cellAt K ks s) → FirstCandidates K s k ks
   unfolding entryAt winner staying stayCell rebuilt LengthFits pick
   stay-first q f g =
       record {
         entry = leastOf (stayed (entryAt K ks (s + k .rest))) (running K (runOf K (k ∷ [])) (entryAt K ks s));
         agrees =
-            run-agrees K s (k ∷ ks) (runOf K (k ∷ [])) 1 (entryAt K ks s) (cellAt K ks s .word) small (g .word) (g .high)
+            run-agrees K s (k ∷ ks) (runOf K (k ∷ [])) 1 (entryAt K ks s) (cellAt K ks s .word) small (g .word)
+            (g .high)
             (chosen-run K s 0 k ks (k ∷ []) ks run-of-one)
             one
             (stayed (entryAt K ks (s + k .rest)))
             (stayCell K s (k .rest) (cellAt K ks (s + k .rest) .word))
-            (record { word = rw q (f .word); choices = refl; high = f .high; length-fits = leb-true (s + k .rest) K q });
-        then = rw q (leastOf-append (stayed (entryAt K ks (s + k .rest))) (running K (runOf K (k ∷ [])) (entryAt K ks s)) (stretched K s (k ∷ []) ks));
+            (record {
+              word = rw q (f .word);
+              choices = refl;
+              high = f .high;
+              length-fits = leb-true (s + k .rest) K q;
+            });
+        then = rw q
+            (leastOf-append (stayed (entryAt K ks (s + k .rest))) (running K (runOf K (k ∷ [])) (entryAt K ks s))
+            (stretched K s (k ∷ []) ks));
       }
 
   run-first : leb (s + k .rest) K ≡ false → Agrees K s ks (entryAt K ks s) (cellAt K ks s) → FirstCandidates K s k ks
@@ -360,11 +377,13 @@ module _ (K : ℕ) (small : K < pageWord) (k : Child) (ks : List Child) (s : ℕ
   run-first q g =
       let ms : List Member = runOf K (k ∷ []) in
       let f : Entry = entryAt K ks s in
-      let is : cellAt K ks s .word + (1 + takenCount ms) * pageWord ≡ (f .count + 1 + takenCount ms) * pageWord + f .rest = omega (arith, g .word) in
+      let is : cellAt K ks s .word + (1 + takenCount ms) * pageWord
+      ≡ (f .count + 1 + takenCount ms) * pageWord + f .rest = omega (arith, g .word) in
       let less : (f .count + 1 + takenCount ms) * pageWord + f .rest < noWord =
       omega (arith, entry-within K ks s high .count-high, g .high, run-taken K (k ∷ [])) in
+      let first-choices = chosen-run K s 0 k ks (k ∷ []) ks run-of-one in
       let agreed : Agrees K s (k ∷ ks) (ran ms f) (record { word = wordOf (ran ms f); run = 1 }) =
-      record { word = refl; choices = chosen-run K s 0 k ks (k ∷ []) ks run-of-one; high = g .high; length-fits = one } in
+      record { word = refl; choices = first-choices; high = g .high; length-fits = one } in
       record {
         entry = ran ms f;
         agrees = rw (q, alone-fits K k light, is, lt-ltb _ _ less) agreed;
@@ -394,7 +413,8 @@ module _ (K : ℕ) (small : K < pageWord) where
       entries ih s h g l =
           let first = cell-first K small k ks s h (g .0 .light) l (ih .0) (g .1) in
           rw (first .then)
-          (ih .1 s h (g .1) (omega arith) k ks 0 (k ∷ []) (first .entry) _ (record { run-is = refl; left = refl }) (first .agrees))
+          (ih .1 s h (g .1) (omega arith) k ks 0 (k ∷ []) (first .entry) _ (record { run-is = refl; left = refl })
+          (first .agrees))
 
       longer : CellEntry K ks × LongerEntry K ks → LongerEntry K (k ∷ ks)
       longer ih s h g l first before r run e c p a = go (stopsAt K run) refl
@@ -406,13 +426,16 @@ module _ (K : ℕ) (small : K < pageWord) where
           base = ih .0 s h (g .1) (omega arith)
 
           go : (b : Bool) → stopsAt K run ≡ b
-              → Agrees K s (first ∷ before) (leastOf e (stretched K s run (k ∷ ks))) (longerRuns K s run (suc r) (k ∷ ks) c)
+              → Agrees K s (first ∷ before) (leastOf e (stretched K s run (k ∷ ks)))
+              (longerRuns K s run (suc r) (k ∷ ks) c)
           go true q = rw q a
           go false q =
               rw (q, leastOf-append e (running K (runOf K (k ∷ run)) (entryAt K ks s)) (stretched K s (k ∷ run) ks))
               (ih .1 s h (g .1) (omega arith) first before (suc r) (k ∷ run) _ _ next
-              (run-agrees K s (first ∷ before) (runOf K (k ∷ run)) (suc (suc r)) (entryAt K ks s) (cellAt K ks s .word) small (base .word) (base .high)
-              (chosen-run K s (suc r) first before (k ∷ run) ks next) (lastChildren-within r before k ks (p .left)) e c a))
+              (run-agrees K s (first ∷ before) (runOf K (k ∷ run)) (suc (suc r)) (entryAt K ks s)
+              (cellAt K ks s .word) small (base .word) (base .high)
+              (chosen-run K s (suc r) first before (k ∷ run) ks next)
+              (lastChildren-within r before k ks (p .left)) e c a))
 
 pub cell-entry : (K : ℕ) → K < pageWord → (ks : List Child) (s : ℕ) → s ≤ K → Good K ks → length ks ≤ maxNodes
     → Agrees K s ks (entryAt K ks s) (cellAt K ks s)

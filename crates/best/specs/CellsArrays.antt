@@ -1,7 +1,8 @@
--- A node's children as they stand in arrays of rests, gains and siblings before, and the cells of a child as they stand in a block
--- of words: K + 1 words of cells, then K + 1 lengths of runs.
--- Defines listBack (a list from the last back), childrenIn, cellIn, Swept, Sweeping. Proves list-cons, list-length, list-same; children-cons,
--- children-length, children-good; and sweep-none, sweep-turn, sweep-end: a sweep over the starts of a block, one store of a cell a turn. Assumes nothing.
+-- A node's children as they stand in arrays of rests, gains and siblings before, and the cells of a child as they
+-- stand in a block of words: K + 1 words of cells, then K + 1 lengths of runs.
+-- Defines listBack (a list from the last back), childrenIn, cellIn, Swept, Sweeping. Proves list-cons, list-length,
+-- list-same; children-cons, children-length, children-good; and sweep-none, sweep-turn, sweep-end: a sweep over the
+-- starts of a block, one store of a cell a turn. Assumes nothing.
 use Prim.Native.Nat.{ℕ, zero, suc, _+_, _*_, _≤_, _<_}
 use mathlib.Core.Path.{_≡_, refl, _∙_, ap, ap₂}
 use mathlib.Core.Bool.{Bool, true, false}
@@ -107,13 +108,16 @@ module _ (rests gains prevs : List ℕ) (earlier : Earlier prevs) where
   unfolding childrenIn
   children-length = list-length (childIn rests gains) (λ v. getD prevs v 0) earlier
 
-children-good-from : (K : ℕ) (rests gains prevs : List ℕ) → EachGood K rests gains → (f u : ℕ) → Good K (backFrom f (childIn rests gains) (λ v. getD prevs v 0) u)
+children-good-from : (K : ℕ) (rests gains prevs : List ℕ) → EachGood K rests gains → (f u : ℕ)
+    → Good K (backFrom f (childIn rests gains) (λ v. getD prevs v 0) u)
 unfolding backFrom Good
 children-good-from K rests gains prevs h zero u = tt
 children-good-from K rests gains prevs h (suc f) zero = tt
-children-good-from K rests gains prevs h (suc f) (suc u) = (h (suc u), children-good-from K rests gains prevs h f (getD prevs (suc u) 0))
+children-good-from K rests gains prevs h (suc f) (suc u) =
+    (h (suc u), children-good-from K rests gains prevs h f (getD prevs (suc u) 0))
 
-pub children-good : (K : ℕ) (rests gains prevs : List ℕ) → EachGood K rests gains → (u : ℕ) → Good K (childrenIn rests gains prevs u)
+pub children-good : (K : ℕ) (rests gains prevs : List ℕ) → EachGood K rests gains → (u : ℕ)
+    → Good K (childrenIn rests gains prevs u)
 unfolding childrenIn listBack
 children-good K rests gains prevs h u = children-good-from K rests gains prevs h u u
 
@@ -148,7 +152,8 @@ sweep-none K start here f xs =
       above = λ i p. refl;
     }
 
-pub sweep-end : {K start here s : ℕ} {f : ℕ → Cell} {xs ys : List ℕ} → Sweeping K start here s f xs ys → K < s → Swept K start here f xs ys
+pub sweep-end : {K start here s : ℕ} {f : ℕ → Cell} {xs ys : List ℕ} → Sweeping K start here s f xs ys → K < s
+    → Swept K start here f xs ys
 sweep-end w h =
     record { long = w .long; cells = λ u p q. w .swept u p (omega arith); below = w .below; above = w .above }
 
@@ -156,7 +161,8 @@ sweep-end w h =
 store-two : (ys : List ℕ) (a b x y i : ℕ) → (i ≡ a → ⊥) → (i ≡ b → ⊥) → getD (set (set ys a x) b y) i 0 ≡ getD ys i 0
 store-two ys a b x y i p q = getD-set-other (set ys a x) b i y 0 q ∙ getD-set-other ys a i x 0 p
 
-module _ (K start here s : ℕ) (f : ℕ → Cell) (xs ys : List ℕ) (word run : ℕ) (w : Sweeping K start here s f xs ys) (high : s ≤ K)
+module _ (K start here s : ℕ) (f : ℕ → Cell) (xs ys : List ℕ) (word run : ℕ) (w : Sweeping K start here s f xs ys)
+    (high : s ≤ K)
     (room : here + 2 * (K + 1) ≤ length xs)
   where
     after : List ℕ
@@ -167,7 +173,8 @@ module _ (K start here s : ℕ) (f : ℕ → Cell) (xs ys : List ℕ) (word run 
     other-cell u l n =
         ap₂ (λ a b. record { word = a; run = b })
         (store-two ys (here + s) (here + (K + 1) + s) word run (here + u) (λ e. n (omega arith)) (λ e. omega arith))
-        (store-two ys (here + s) (here + (K + 1) + s) word run (here + (K + 1) + u) (λ e. omega arith) (λ e. n (omega arith)))
+        (store-two ys (here + s) (here + (K + 1) + s) word run (here + (K + 1) + u) (λ e. omega arith)
+        (λ e. n (omega arith)))
 
     this-cell : cellIn after K here s ≡ record { word = word; run = run }
     unfolding after
@@ -176,7 +183,8 @@ module _ (K start here s : ℕ) (f : ℕ → Cell) (xs ys : List ℕ) (word run 
         let l : here + s < length ys = omega (arith, w .long) in
         let m : here + (K + 1) + s < length (set ys (here + s) word) = simp length-set (omega (arith, w .long)) in
         ap₂ (λ a b. record { word = a; run = b })
-        (getD-set-other (set ys (here + s) word) (here + (K + 1) + s) (here + s) run 0 d ∙ getD-set-same ys (here + s) word 0 l)
+        (getD-set-other (set ys (here + s) word) (here + (K + 1) + s) (here + s) run 0 d
+        ∙ getD-set-same ys (here + s) word 0 l)
         (getD-set-same (set ys (here + s) word) (here + (K + 1) + s) run 0 m)
 
     pub sweep-turn : record { word = word; run = run } ≡ f s
@@ -187,8 +195,10 @@ module _ (K start here s : ℕ) (f : ℕ → Cell) (xs ys : List ℕ) (word run 
           long = simp length-set (w .long);
           swept = λ u p q. go u p q (eqb u s) refl;
           left = λ u p q. other-cell u q (λ n. omega arith) ∙ w .left u (omega arith) q;
-          below = λ i p. store-two ys (here + s) (here + (K + 1) + s) word run i (λ n. omega arith) (λ n. omega arith) ∙ w .below i p;
-          above = λ i p. store-two ys (here + s) (here + (K + 1) + s) word run i (λ n. omega arith) (λ n. omega arith) ∙ w .above i p;
+          below = λ i p. store-two ys (here + s) (here + (K + 1) + s) word run i (λ n. omega arith) (λ n. omega arith)
+              ∙ w .below i p;
+          above = λ i p. store-two ys (here + s) (here + (K + 1) + s) word run i (λ n. omega arith) (λ n. omega arith)
+              ∙ w .above i p;
         }
       where
         go : (u : ℕ) → start ≤ u → u < s + 1 → (b : Bool) → eqb u s ≡ b → cellIn after K here u ≡ f u

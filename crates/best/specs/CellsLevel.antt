@@ -1,7 +1,8 @@
--- Which members `reduce` takes: those with a gain above a level, and the earliest few of those at it. The level follows from the sum,
--- the room and how many members have each gain.
--- Defines GainLevel, takeDownTo, takeByLevel, levelHere, levelFrom. Proves takeDownTo-above, takeDownTo-at, takeDownTo-past, takeDownTo-under (member by member),
--- takeDownTo-more, takeDownTo-below (what a turn does to such a list), levelFrom-upTo and reduce-level. Assumes nothing.
+-- Which members `reduce` takes: those with a gain above a level, and the earliest few of those at it. The level
+-- follows from the sum, the room and how many members have each gain.
+-- Defines GainLevel, takeDownTo, takeByLevel, levelHere, levelFrom. Proves takeDownTo-above, takeDownTo-at,
+-- takeDownTo-past, takeDownTo-under (member by member), takeDownTo-more, takeDownTo-below (what a turn does to such
+-- a list), levelFrom-upTo and reduce-level. Assumes nothing.
 use Prim.Native.Nat.{ℕ, zero, suc, _+_, _-_, _≤_, _<_}
 use mathlib.Core.Path.{_≡_, refl, sym, _∙_}
 use mathlib.Core.Bool.{Bool, true, false}
@@ -14,7 +15,9 @@ use borrow.Author.Tests.{leb-true, leb-false, eqb-true, eqb-false, ltb-true, ltb
 use Rattle.model.specs.Basics.{pick}
 use Rattle.model.specs.Steps.{Member, restSum, largestGain, takeEarliest, reduce}
 use Rattle.theory.specs.Reduce.{Each, Earliest, here, there, earliest, offBy}
-use Rattle.theory.specs.ReduceCount.{Sound, countGain, Counted, reduce-stop, reduce-turn, earliest-sound, earliest-rest, earliest-count, earliest-count-other, earliest-largest, largest-below, count-le-largest}
+use Rattle.theory.specs.ReduceCount.{Sound, countGain, Counted, reduce-stop, reduce-turn, earliest-sound}
+use Rattle.theory.specs.ReduceCount.{earliest-rest, earliest-count, earliest-count-other, earliest-largest}
+use Rattle.theory.specs.ReduceCount.{largest-below, count-le-largest}
 
 -- gains above `gain` are taken, and of those at it the earliest `times`
 pub record GainLevel : Type 0 where
@@ -93,30 +96,39 @@ takeDownTo-none g (m ∷ ms) h = rw (le-ltb g (m .gain) (omega arith), takeDownT
 -- ---- A turn
 
 -- at the level: one more is taken
-pub takeDownTo-more : {g : ℕ} {ms ns : List Member} (t : ℕ) → 0 < g → largestGain ms ≤ g → Earliest g ms ns → takeDownTo g t ns ≡ takeDownTo g (suc t) ms
+pub takeDownTo-more : {g : ℕ} {ms ns : List Member} (t : ℕ) → 0 < g → largestGain ms ≤ g → Earliest g ms ns
+    → takeDownTo g t ns ≡ takeDownTo g (suc t) ms
 unfolding largestGain
-takeDownTo-more {g} t p b (here {m = m} {ms = ms} e) = takeDownTo-under g (offBy g m) ms t p ∙ rw (sym e) refl ∙ sym (takeDownTo-at g m ms t e)
+takeDownTo-more {g} t p b (here {m = m} {ms = ms} e) =
+    takeDownTo-under g (offBy g m) ms t p ∙ rw (sym e) refl ∙ sym (takeDownTo-at g m ms t e)
 takeDownTo-more {g} t p b (there {m = m} {ms = ms} {ns = ns} n r) =
     let l : m .gain < g = omega arith in
-    takeDownTo-under g m ns t l ∙ rw (takeDownTo-more t p (omega arith) r) refl ∙ sym (takeDownTo-under g m ms (suc t) l)
+    takeDownTo-under g m ns t l ∙ rw (takeDownTo-more t p (omega arith) r) refl
+    ∙ sym (takeDownTo-under g m ms (suc t) l)
 
 -- a member that was taken is left as it is
-takeDownTo-off : (h t : ℕ) (m : Member) (ms : List Member) → m .gain ≡ 0 → (h ≡ 0 → t ≡ 0) → takeDownTo h t (m ∷ ms) ≡ m ∷ takeDownTo h t ms
+takeDownTo-off : (h t : ℕ) (m : Member) (ms : List Member) → m .gain ≡ 0 → (h ≡ 0 → t ≡ 0)
+    → takeDownTo h t (m ∷ ms) ≡ m ∷ takeDownTo h t ms
 takeDownTo-off zero zero m ms e z = takeDownTo-past 0 m ms e
 takeDownTo-off zero (suc t) m ms e z = absurd (omega (arith, z refl))
 takeDownTo-off (suc h) t m ms e z = takeDownTo-under (suc h) m ms t (omega arith)
 
 -- the same members before one more
 takeDownTo-cons : (h t : ℕ) (m : Member) (ms ns : List Member) → (h ≡ 0 → t ≡ 0)
-    → ((k : ℕ) → (h ≡ 0 → k ≡ 0) → takeDownTo h k ns ≡ takeDownTo h k ms) → Against h (m .gain) → takeDownTo h t (m ∷ ns) ≡ takeDownTo h t (m ∷ ms)
-takeDownTo-cons h t m ms ns z same (above a) = takeDownTo-above h m ns t a ∙ rw (same t z) refl ∙ sym (takeDownTo-above h m ms t a)
-takeDownTo-cons h t m ms ns z same (under a) = takeDownTo-under h m ns t a ∙ rw (same t z) refl ∙ sym (takeDownTo-under h m ms t a)
-takeDownTo-cons h zero m ms ns z same (at a) = takeDownTo-past h m ns a ∙ rw (same 0 z) refl ∙ sym (takeDownTo-past h m ms a)
+    → ((k : ℕ) → (h ≡ 0 → k ≡ 0) → takeDownTo h k ns ≡ takeDownTo h k ms) → Against h (m .gain)
+    → takeDownTo h t (m ∷ ns) ≡ takeDownTo h t (m ∷ ms)
+takeDownTo-cons h t m ms ns z same (above a) =
+    takeDownTo-above h m ns t a ∙ rw (same t z) refl ∙ sym (takeDownTo-above h m ms t a)
+takeDownTo-cons h t m ms ns z same (under a) =
+    takeDownTo-under h m ns t a ∙ rw (same t z) refl ∙ sym (takeDownTo-under h m ms t a)
+takeDownTo-cons h zero m ms ns z same (at a) =
+    takeDownTo-past h m ns a ∙ rw (same 0 z) refl ∙ sym (takeDownTo-past h m ms a)
 takeDownTo-cons h (suc t) m ms ns z same (at a) =
     takeDownTo-at h m ns t a ∙ rw (same t (λ q. absurd (omega (arith, z q)))) refl ∙ sym (takeDownTo-at h m ms t a)
 
 -- below the level: it is taken in any case
-pub takeDownTo-below : {g : ℕ} {ms ns : List Member} (h t : ℕ) → h < g → (h ≡ 0 → t ≡ 0) → Earliest g ms ns → takeDownTo h t ns ≡ takeDownTo h t ms
+pub takeDownTo-below : {g : ℕ} {ms ns : List Member} (h t : ℕ) → h < g → (h ≡ 0 → t ≡ 0) → Earliest g ms ns
+    → takeDownTo h t ns ≡ takeDownTo h t ms
 takeDownTo-below {g} h t l z (here {m = m} {ms = ms} e) =
     takeDownTo-off h t (offBy g m) ms refl z ∙ rw (sym e) refl ∙ sym (takeDownTo-above h m ms t (omega arith))
 takeDownTo-below h t l z (there {m = m} {ms = ms} {ns = ns} n r) =
@@ -129,10 +141,12 @@ pub record UpTo (g : ℕ) (lev : GainLevel) : Type 0 where
   pub most : lev .gain ≤ g
   pub none : lev .gain ≡ 0 → lev .times ≡ 0
 
-levelHere-upTo : (n t g room sum : ℕ) (next : ℕ → GainLevel) → ((s : ℕ) → UpTo g (next s)) → UpTo (suc g) (levelHere n t (suc g) room sum next)
+levelHere-upTo : (n t g room sum : ℕ) (next : ℕ → GainLevel) → ((s : ℕ) → UpTo g (next s))
+    → UpTo (suc g) (levelHere n t (suc g) room sum next)
 unfolding levelHere pick
 levelHere-upTo zero t g room sum next h = record { most = omega (arith, h sum .most); none = h sum .none }
-levelHere-upTo (suc n) t g room sum next h = go (leb sum room) refl (levelHere-upTo n (suc t) g room (sum - suc g) next h)
+levelHere-upTo (suc n) t g room sum next h =
+    go (leb sum room) refl (levelHere-upTo n (suc t) g room (sum - suc g) next h)
   where
     go : (b : Bool) → leb sum room ≡ b → UpTo (suc g) (levelHere n (suc t) (suc g) room (sum - suc g) next)
         → UpTo (suc g) (levelHere (suc n) t (suc g) room sum next)
@@ -142,7 +156,8 @@ levelHere-upTo (suc n) t g room sum next h = go (leb sum room) refl (levelHere-u
 pub levelFrom-upTo : (g : ℕ) (c : ℕ → ℕ) (room sum : ℕ) → UpTo g (levelFrom g c room sum)
 unfolding levelFrom
 levelFrom-upTo zero c room sum = record { most = omega arith; none = λ q. refl }
-levelFrom-upTo (suc g) c room sum = levelHere-upTo (c (suc g)) 0 g room sum (levelFrom g c room) (levelFrom-upTo g c room)
+levelFrom-upTo (suc g) c room sum =
+    levelHere-upTo (c (suc g)) 0 g room sum (levelFrom g c room) (levelFrom-upTo g c room)
 
 -- the members that a level takes
 abbrev pub takeByLevel : GainLevel → List Member → List Member
@@ -153,13 +168,15 @@ record AfterTurns (g t : ℕ) (ms ls : List Member) : Type 0 where
   level : (k : ℕ) → takeDownTo (suc g) k ms ≡ takeDownTo (suc g) (k + t) ls
   below-level : (lev : GainLevel) → UpTo g lev → takeByLevel lev ms ≡ takeByLevel lev ls
 
-after-turn : (g t : ℕ) (ms ns ls : List Member) → largestGain ms ≤ suc g → Earliest (suc g) ms ns → AfterTurns g t ms ls → AfterTurns g (suc t) ns ls
+after-turn : (g t : ℕ) (ms ns ls : List Member) → largestGain ms ≤ suc g → Earliest (suc g) ms ns
+    → AfterTurns g t ms ls → AfterTurns g (suc t) ns ls
 after-turn g t ms ns ls below r a =
     record {
       level = λ k.
           let e : suc k + t ≡ k + suc t = omega arith in
           takeDownTo-more k (omega arith) below r ∙ a .level (suc k) ∙ rw e;
-      below-level = λ lev u. takeDownTo-below (lev .gain) (lev .times) (omega (arith, u .most)) (u .none) r ∙ a .below-level lev u;
+      below-level = λ lev u. takeDownTo-below (lev .gain) (lev .times) (omega (arith, u .most)) (u .none) r
+          ∙ a .below-level lev u;
     }
 
 module _ (g : ℕ) (c : ℕ → ℕ) (room : ℕ)
@@ -173,7 +190,8 @@ module _ (g : ℕ) (c : ℕ → ℕ) (room : ℕ)
     level-reduce zero t ms ls sound below this counts after =
         next ms (record { sound = sound; below = largest-below g ms below this; counts = counts })
         ∙ after .below-level (levelFrom g c room (restSum ms)) (levelFrom-upTo g c room (restSum ms))
-    level-reduce (suc n) t ms ls sound below this counts after = go (leb (restSum ms) room) refl (level-reduce n (suc t))
+    level-reduce (suc n) t ms ls sound below this counts after =
+        go (leb (restSum ms) room) refl (level-reduce n (suc t))
       where
         go : (b : Bool) → leb (restSum ms) room ≡ b
             → ((ns ks : List Member) → Each Sound ns → largestGain ns ≤ suc g → countGain (suc g) ns ≡ n
@@ -182,16 +200,19 @@ module _ (g : ℕ) (c : ℕ → ℕ) (room : ℕ)
             → reduce room ms ≡ takeByLevel (levelHere (suc n) t (suc g) room (restSum ms) (levelFrom g c room)) ls
         go true e ih =
             let fits : restSum ms ≤ room = leb-true (restSum ms) room e in
-            rw e (reduce-stop room ms (inl fits) ∙ sym (takeDownTo-none (suc g) ms below) ∙ after .level 0 ∙ rw (zero-add t))
+            rw e (reduce-stop room ms (inl fits) ∙ sym (takeDownTo-none (suc g) ms below) ∙ after .level 0
+            ∙ rw (zero-add t))
         go false e ih =
             let over : room < restSum ms = leb-false (restSum ms) room e in
             let most : largestGain ms ≡ suc g = omega (arith, count-le-largest (suc g) ms (omega arith)) in
             let ns : List Member = takeEarliest (suc g) ms in
             let r : Earliest (suc g) ms ns = earliest (suc g) ms (omega arith) most in
-            let turn : reduce room ms ≡ reduce room ns = rw most at (reduce-turn room ms (record { over = over; some = omega arith })) in
+            let turn : reduce room ms ≡ reduce room ns =
+            rw most at (reduce-turn room ms (record { over = over; some = omega arith })) in
             let sum-is : restSum ns ≡ restSum ms - suc g = omega (arith, earliest-rest r sound) in
             let then =
-            ih ns ls (earliest-sound r sound) (omega (arith, earliest-largest r)) (omega (arith, earliest-count (omega arith) r))
+            ih ns ls (earliest-sound r sound) (omega (arith, earliest-largest r))
+            (omega (arith, earliest-count (omega arith) r))
             (λ h p q. earliest-count-other h p (omega arith) r ∙ counts h p q)
             (after-turn g t ms ns ls below r after) in
             rw e (turn ∙ then ∙ rw sum-is)
@@ -204,6 +225,7 @@ reduce-level zero c room ms k =
     let none : largestGain ms ≡ 0 = omega (arith, k .below) in
     reduce-stop room ms (inr none) ∙ sym (takeDownTo-none 0 ms (k .below))
 reduce-level (suc g) c room ms k =
-    level-reduce g c room (reduce-level g c room) (c (suc g)) 0 ms ms (k .sound) (k .below) (k .counts (suc g) (omega arith) (omega arith))
+    level-reduce g c room (reduce-level g c room) (c (suc g)) 0 ms ms (k .sound) (k .below)
+    (k .counts (suc g) (omega arith) (omega arith))
     (λ h p q. k .counts h p (omega arith))
     (record { level = λ n. rw (add-zero n); below-level = λ lev u. refl })

@@ -1,6 +1,7 @@
--- The children of a node by number: the figures of each, the children up to one of them, and what is kept of the columns of a node's
--- children. Defines figureAt, childrenUpTo, ChildOrNone, SiblingsLinked, ColumnsReady, ColumnsFilled. Proves upTo-cons, child-nthPrev, children-same (arrays that hold the figures give the
--- children of the table), kids-first, kids-step, kids-end (a walk over the children) and figure-good. Assumes nothing.
+-- The children of a node by number: the figures of each, the children up to one of them, and what is kept of the
+-- columns of a node's children. Defines figureAt, childrenUpTo, ChildOrNone, SiblingsLinked, ColumnsReady,
+-- ColumnsFilled. Proves upTo-cons, child-nthPrev, children-same (arrays that hold the figures give the children of
+-- the table), kids-first, kids-step, kids-end (a walk over the children) and figure-good. Assumes nothing.
 use Prim.Native.Nat.{ℕ, zero, suc, _+_, _-_, _≤_, _<_}
 use mathlib.Core.Path.{_≡_, refl, sym, _∙_, ap}
 use mathlib.Core.Bool.{Bool, true, false}
@@ -15,10 +16,12 @@ use Rattle.model.specs.Table.{nodeCount, limitOf, weightAt, firstAt, nextAt}
 use Rattle.model.specs.Plan.{prevAt, parentAt}
 use Rattle.model.specs.Steps.{Child, entryAt, secondStart, gainOf, childOf, childrenFrom, childrenOf}
 use Rattle.theory.specs.TableFacts.{SoundFacts, AcceptedFacts}
-use Rattle.theory.specs.TableLinks.{prevAt-less, parentAt-later, parentAt-less, first-le, next-le, first-prev, next-prev, first-parent, next-parent}
+use Rattle.theory.specs.TableLinks.{prevAt-less, parentAt-later, parentAt-less, first-le, next-le, first-prev}
+use Rattle.theory.specs.TableLinks.{next-prev, first-parent, next-parent}
 use Rattle.theory.specs.TableChain.{chainAt, chain-none, node-at}
 use Rattle.best.specs.Cells.{cellAt, GoodChild, entry-within}
-use Rattle.best.specs.CellsArrays.{listBack, list-none, list-cons, list-same, childIn, childrenIn, Earlier, EachGood, cellIn}
+use Rattle.best.specs.CellsArrays.{listBack, list-none, list-cons, list-same, childIn, childrenIn, Earlier}
+use Rattle.best.specs.CellsArrays.{EachGood, cellIn}
 use Rattle.best.specs.CellsRun.{nthPrev, blockAt}
 
 -- ---- Figures and children by number
@@ -35,7 +38,8 @@ pub upTo-none : (t : List ℕ) (gains : Bool) → childrenUpTo t gains 0 ≡ []
 unfolding childrenUpTo
 upTo-none t gains = list-none (figureAt t gains) (prevAt t)
 
-pub upTo-cons : (t : List ℕ) (gains : Bool) (u : ℕ) → 1 ≤ u → childrenUpTo t gains u ≡ figureAt t gains u ∷ childrenUpTo t gains (prevAt t u)
+pub upTo-cons : (t : List ℕ) (gains : Bool) (u : ℕ) → 1 ≤ u
+    → childrenUpTo t gains u ≡ figureAt t gains u ∷ childrenUpTo t gains (prevAt t u)
 unfolding childrenUpTo
 upTo-cons t gains = list-cons (figureAt t gains) (prevAt t) (prevAt-less t)
 
@@ -48,14 +52,16 @@ gain-small true false K W r = omega arith
 gain-small false b K W r = omega arith
 
 -- they are such as its parent may find
-pub figure-good : (t : List ℕ) (gains : Bool) (v : ℕ) → weightAt t v ≤ limitOf t → GoodChild (limitOf t) (figureAt t gains v)
+pub figure-good : (t : List ℕ) (gains : Bool) (v : ℕ) → weightAt t v ≤ limitOf t
+    → GoodChild (limitOf t) (figureAt t gains v)
 unfolding figureAt childOf gainOf
 figure-good t gains v h =
     let ks : List Child = childrenOf gains (limitOf t) (chainAt t (firstAt t v)) in
     let W : ℕ = entryAt (limitOf t) ks (weightAt t v) .rest in
     record {
       light = entry-within (limitOf t) ks (weightAt t v) h .rest-high;
-      fits = gain-small gains (leb (secondStart (limitOf t) (weightAt t v) W) (limitOf t)) (limitOf t) W (entryAt (limitOf t) ks (secondStart (limitOf t) (weightAt t v) W) .rest);
+      fits = gain-small gains (leb (secondStart (limitOf t) (weightAt t v) W) (limitOf t)) (limitOf t) W
+          (entryAt (limitOf t) ks (secondStart (limitOf t) (weightAt t v) W) .rest);
     }
 
 -- ---- Siblings
@@ -82,7 +88,8 @@ child-high t v u (inr q) = q .1
 abbrev pub SiblingsBefore : List ℕ → List ℕ → Type 0
 SiblingsBefore t prevs = (u : ℕ) → 1 ≤ u → u ≤ nodeCount t → getD prevs u 0 ≡ prevAt t u
 
-pub child-nthPrev : (t prevs : List ℕ) → SiblingsBefore t prevs → getD prevs 0 0 ≡ 0 → (v n u : ℕ) → ChildOrNone t v u → ChildOrNone t v (nthPrev prevs n u)
+pub child-nthPrev : (t prevs : List ℕ) → SiblingsBefore t prevs → getD prevs 0 0 ≡ 0 → (v n u : ℕ) → ChildOrNone t v u
+    → ChildOrNone t v (nthPrev prevs n u)
 unfolding nthPrev
 child-nthPrev t prevs before z v zero u k = k
 child-nthPrev t prevs before z v (suc n) u k = go (child-nthPrev t prevs before z v n u k)
@@ -100,10 +107,15 @@ nthPrev-shift prevs (suc n) u = ap (λ w. getD prevs w 0) (nthPrev-shift prevs n
 module _ (t rests gains prevs : List ℕ) (g : Bool) (v : ℕ) (before : SiblingsBefore t prevs)
     (figures : (u : ℕ) → v < u → u ≤ nodeCount t → childIn rests gains u ≡ figureAt t g u)
   where
-    same-step : (u : ℕ) → 1 ≤ u → ChildOrNone t v u → (childIn rests gains u ≡ figureAt t g u) × (getD prevs u 0 ≡ prevAt t u) × ChildOrNone t v (prevAt t u)
+    same-step : (u : ℕ) → 1 ≤ u → ChildOrNone t v u
+        → (childIn rests gains u ≡ figureAt t g u) × (getD prevs u 0 ≡ prevAt t u) × ChildOrNone t v (prevAt t u)
     same-step u low (inl e) = absurd (omega arith)
-    same-step u low (inr q) =
-        (figures u (omega (arith, parentAt-less t u low, q .2)) (q .1), before u low (q .1), prev-child t v u low (q .1) (q .2))
+    same-step u low (inr q) = (
+      figures u (omega (arith, parentAt-less t u low, q .2)) (q .1),
+      before u low (q .1),
+      prev-child t v u low
+          (q .1) (q .2),
+    )
 
     pub children-same : (u : ℕ) → ChildOrNone t v u → childrenIn rests gains prevs u ≡ childrenUpTo t g u
     unfolding childrenIn childrenUpTo
@@ -121,7 +133,8 @@ pub record NextChild (t : List ℕ) (v c before : ℕ) : Type 0 where
 -- what the children from c on add to those before
 abbrev pub KidsFrom : List ℕ → ℕ → ℕ → ℕ → Type 0
 KidsFrom t v c before =
-    (g : Bool) → childrenOf g (limitOf t) (chainAt t (firstAt t v)) ≡ childrenFrom g (limitOf t) (chainAt t c) (childrenUpTo t g before)
+    (g : Bool) → childrenOf g (limitOf t) (chainAt t (firstAt t v))
+    ≡ childrenFrom g (limitOf t) (chainAt t c) (childrenUpTo t g before)
 
 module _ {t : List ℕ} (s : SoundFacts t) (v : ℕ) (low : 1 ≤ v) (high : v ≤ nodeCount t) where
   pub kids-first : KidsFrom t v (firstAt t v) 0

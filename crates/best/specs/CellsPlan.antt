@@ -1,6 +1,6 @@
--- All nodes after one of them are planned: their figures, their last children and the columns of their children are kept.
--- Defines NodesPlanned. Proves node-figures (a node's figures from the words of its last child's block), planned-none and planned-step.
--- Assumes nothing.
+-- All nodes after one of them are planned: their figures, their last children and the columns of their children are
+-- kept. Defines NodesPlanned. Proves node-figures (a node's figures from the words of its last child's block),
+-- planned-none and planned-step. Assumes nothing.
 use Prim.Native.Nat.{ℕ, _+_, _-_, _*_, _%_, _≤_, _<_}
 use mathlib.Core.Path.{_≡_, refl, sym, _∙_, ap, ap₂}
 use mathlib.Core.Bool.{Bool, true, false}
@@ -21,7 +21,8 @@ use Rattle.theory.specs.TableChain.{chainAt}
 use Rattle.best.specs.Cells.{pageWord, wordOf, cellAt, GoodChild, Good, cell-entry}
 use Rattle.best.specs.CellsArrays.{childIn, childrenIn, children-good, children-length, EachGood, cellIn}
 use Rattle.best.specs.CellsRun.{nthPrev, blockAt}
-use Rattle.best.specs.CellsNode.{figureAt, childrenUpTo, figure-good, ChildOrNone, child-high, child-nthPrev, children-same, afterAt, ColumnsReady, ColumnsFilled}
+use Rattle.best.specs.CellsNode.{figureAt, childrenUpTo, figure-good, ChildOrNone, child-high, child-nthPrev}
+use Rattle.best.specs.CellsNode.{children-same, afterAt, ColumnsReady, ColumnsFilled}
 
 -- the figures, last children and columns of the nodes after v
 pub record NodesPlanned (t : List ℕ) (g : Bool) (v : ℕ) (rests gains prevs lasts xs : List ℕ) : Type 0 where
@@ -29,11 +30,14 @@ pub record NodesPlanned (t : List ℕ) (g : Bool) (v : ℕ) (rests gains prevs l
   pub figures : (u : ℕ) → v < u → u ≤ nodeCount t → childIn rests gains u ≡ figureAt t g u
   pub last-child : (w : ℕ) → v < w → w ≤ nodeCount t → ChildOrNone t w (getD lasts w 0)
   pub link : (w : ℕ) → v < w → w ≤ nodeCount t → afterAt t w (getD lasts w 0) ≡ 0
-  pub kids : (w : ℕ) → v < w → w ≤ nodeCount t → (h : Bool) → childrenOf h (limitOf t) (chainAt t (firstAt t w)) ≡ childrenUpTo t h (getD lasts w 0)
+  pub kids : (w : ℕ) → v < w → w ≤ nodeCount t → (h : Bool)
+      → childrenOf h (limitOf t) (chainAt t (firstAt t w)) ≡ childrenUpTo t h (getD lasts w 0)
   pub columns : (w : ℕ) → v < w → w ≤ nodeCount t → (n s : ℕ) → weightAt t w ≤ s → s ≤ limitOf t
-      → cellIn xs (limitOf t) (blockAt (limitOf t) (nthPrev prevs n (getD lasts w 0))) s ≡ cellAt (limitOf t) (childrenUpTo t g (nthPrev prevs n (getD lasts w 0))) s
+      → cellIn xs (limitOf t) (blockAt (limitOf t) (nthPrev prevs n (getD lasts w 0))) s
+      ≡ cellAt (limitOf t) (childrenUpTo t g (nthPrev prevs n (getD lasts w 0))) s
 
-pub planned-none : {t rests gains prevs xs : List ℕ} (g : Bool) (lasts : List ℕ) → ColumnsReady t rests gains prevs xs → NodesPlanned t g (nodeCount t) rests gains prevs lasts xs
+pub planned-none : {t rests gains prevs xs : List ℕ} (g : Bool) (lasts : List ℕ) → ColumnsReady t rests gains prevs xs
+    → NodesPlanned t g (nodeCount t) rests gains prevs lasts xs
 planned-none g lasts r =
     record {
       ready = r;
@@ -103,12 +107,14 @@ module _ {t rests gains prevs lasts xs ys : List ℕ} {g : Bool} {v r : ℕ} (lo
         let c : getD ys (blockAt K r + s) 0 ≡ cellAt K (childrenUpTo t g r) s .word =
         ap (λ x. x .word) (f .columns 0 s a b) ∙ ap (λ ks. cellAt K ks s .word) (same-children r (f .last-child)) in
         let d : wordOf (entryAt K (childrenUpTo t g r) s) % pageWord ≡ entryAt K (childrenUpTo t g r) s .rest =
-        word-rest (entryAt K (childrenUpTo t g r) s .count) (entryAt K (childrenUpTo t g r) s .rest) (omega (arith, e .high, small)) in
+        word-rest (entryAt K (childrenUpTo t g r) s .count) (entryAt K (childrenUpTo t g r) s .rest)
+        (omega (arith, e .high, small)) in
         ap (λ x. x % pageWord) (c ∙ e .word) ∙ d ∙ ap (λ ks. entryAt K ks s .rest) (sym (f .kids g))
 
     -- from the words at the node's own start and at the second
     pub node-figures : (rest gain : ℕ) → rest ≡ getD ys (blockAt K r + weightAt t v) 0 % pageWord
-        → gain ≡ gainFrom g K (weightAt t v) rest (getD ys (blockAt K r + secondStart K (weightAt t v) rest) 0 % pageWord)
+        → gain ≡ gainFrom g K (weightAt t v) rest
+        (getD ys (blockAt K r + secondStart K (weightAt t v) rest) 0 % pageWord)
         → record { rest = rest; gain = gain } ≡ figureAt t g v
     unfolding figureAt childOf gainOf
     node-figures rest gain d e =
@@ -117,7 +123,8 @@ module _ {t rests gains prevs lasts xs ys : List ℕ} {g : Bool} {v r : ℕ} (lo
         let second : ℕ = secondStart K (weightAt t v) W in
         ap₂ (λ x y. record { rest = x; gain = y }) same
         (e
-        ∙ ap (λ x. gainFrom g K (weightAt t v) x (getD ys (blockAt K r + secondStart K (weightAt t v) x) 0 % pageWord)) same
+        ∙ ap (λ x. gainFrom g K (weightAt t v) x
+        (getD ys (blockAt K r + secondStart K (weightAt t v) x) 0 % pageWord)) same
         ∙ same-gain g K (weightAt t v) W (getD ys (blockAt K r + second) 0 % pageWord)
         (entryAt K kids second .rest)
         (λ h. rest-at second (second-later K (weightAt t v) W) h))
@@ -129,7 +136,8 @@ set-child : (rests gains : List ℕ) (v a b u : ℕ) → v < length rests → v 
 unfolding pick
 set-child rests gains v a b u l m = go (eqb u v) refl
   where
-    go : (x : Bool) → eqb u v ≡ x → childIn (set rests v a) (set gains v b) u ≡ pick x (record { rest = a; gain = b }) (childIn rests gains u)
+    go : (x : Bool) → eqb u v ≡ x → childIn (set rests v a) (set gains v b) u
+        ≡ pick x (record { rest = a; gain = b }) (childIn rests gains u)
     go true e =
         let q : u ≡ v = eqb-true u v e in
         rw q (ap₂ (λ x y. record { rest = x; gain = y }) (getD-set-same rests v a 0 l) (getD-set-same gains v b 0 m))
@@ -145,7 +153,8 @@ module _ {t rests gains prevs lasts xs ys : List ℕ} {g : Bool} {v r : ℕ} (lo
     below : v < slots
     below = omega (arith, p .ready .accepted .sound .count-high)
 
-    child-is : (u : ℕ) → childIn (set rests v rest) (set gains v gain) u ≡ pick (eqb u v) (record { rest = rest; gain = gain }) (childIn rests gains u)
+    child-is : (u : ℕ) → childIn (set rests v rest) (set gains v gain) u
+        ≡ pick (eqb u v) (record { rest = rest; gain = gain }) (childIn rests gains u)
     child-is u = set-child rests gains v rest gain u (omega (arith, below)) (omega (arith, below))
 
     step-good : EachGood (limitOf t) (set rests v rest) (set gains v gain)
@@ -156,11 +165,13 @@ module _ {t rests gains prevs lasts xs ys : List ℕ} {g : Bool} {v r : ℕ} (lo
         go true = rw figure (figure-good t g v (p .ready .accepted .light v low high))
         go false = p .ready .good u
 
-    step-figures : (u : ℕ) → v - 1 < u → u ≤ nodeCount t → childIn (set rests v rest) (set gains v gain) u ≡ figureAt t g u
+    step-figures : (u : ℕ) → v - 1 < u → u ≤ nodeCount t
+        → childIn (set rests v rest) (set gains v gain) u ≡ figureAt t g u
     unfolding pick
     step-figures u a b = child-is u ∙ go (eqb u v) refl
       where
-        go : (x : Bool) → eqb u v ≡ x → pick x (record { rest = rest; gain = gain }) (childIn rests gains u) ≡ figureAt t g u
+        go : (x : Bool) → eqb u v ≡ x → pick x (record { rest = rest; gain = gain }) (childIn rests gains u)
+            ≡ figureAt t g u
         go true e = figure ∙ ap (figureAt t g) (sym (eqb-true u v e))
         go false e =
             let q : u ≡ v → ⊥ = eqb-false u v e in
@@ -184,7 +195,8 @@ module _ {t rests gains prevs lasts xs ys : List ℕ} {g : Bool} {v r : ℕ} (lo
     AtLast w u = ChildOrNone t w u × (afterAt t w u ≡ 0)
         × ((h : Bool) → childrenOf h (limitOf t) (chainAt t (firstAt t w)) ≡ childrenUpTo t h u)
         × ((n s : ℕ) → weightAt t w ≤ s → s ≤ limitOf t
-        → cellIn ys (limitOf t) (blockAt (limitOf t) (nthPrev prevs n u)) s ≡ cellAt (limitOf t) (childrenUpTo t g (nthPrev prevs n u)) s)
+        → cellIn ys (limitOf t) (blockAt (limitOf t) (nthPrev prevs n u)) s
+        ≡ cellAt (limitOf t) (childrenUpTo t g (nthPrev prevs n u)) s)
 
     step-last : (w : ℕ) → v - 1 < w → w ≤ nodeCount t → AtLast w (getD (set lasts v r) w 0)
     unfolding pick
@@ -210,7 +222,9 @@ module _ {t rests gains prevs lasts xs ys : List ℕ} {g : Bool} {v r : ℕ} (lo
               p .kids w l b,
               λ n s c d.
                   f .others (nthPrev prevs n (getD lasts w 0)) s
-                  (not-child w (nthPrev prevs n (getD lasts w 0)) l (child-nthPrev t prevs (p .ready .before) (p .ready .none) w n (getD lasts w 0) (p .last-child w l b)))
+                  (not-child w (nthPrev prevs n (getD lasts w 0)) l
+                  (child-nthPrev t prevs (p .ready .before) (p .ready .none) w n (getD lasts w 0)
+                  (p .last-child w l b)))
                   d
                   ∙ p .columns w l b n s c d,
             )

@@ -1,7 +1,8 @@
--- A run as it is stretched to the left, child by child: what is kept of its members, which second plans it takes by how many members
--- have each gain, and what it makes of a cell.
--- Defines RunSums, choosing, joins, nthPrev, blockAt, ColumnWords, wordEnd, Fillable. Proves zeros; sums-none, sums-more; choosing-start, choosing-take,
--- choosing-down, choosing-room (one choice a turn); run-fits, run-over, run-stops; nthPrev-le, block-apart, cell-word-small. Assumes nothing.
+-- A run as it is stretched to the left, child by child: what is kept of its members, which second plans it takes by
+-- how many members have each gain, and what it makes of a cell.
+-- Defines RunSums, choosing, joins, nthPrev, blockAt, ColumnWords, wordEnd, Fillable. Proves zeros; sums-none,
+-- sums-more; choosing-start, choosing-take, choosing-down, choosing-room (one choice a turn); run-fits, run-over,
+-- run-stops; nthPrev-le, block-apart, cell-word-small. Assumes nothing.
 use Prim.Native.Nat.{ℕ, zero, suc, _+_, _-_, _*_, _≤_, _<_, max}
 use mathlib.Core.Path.{_≡_, refl, sym, _∙_, ap}
 use mathlib.Core.Bool.{Bool, true, false}
@@ -15,11 +16,14 @@ use lib.Dec.{eqb, leb}
 use borrow.Author.Tests.{eqb-true, eqb-false, leb-true, leb-false, le-leb, lt-leb}
 use Rattle.model.specs.Basics.{pick}
 use Rattle.model.specs.Table.{maxNodes, maxLimit}
-use Rattle.model.specs.Steps.{Member, Child, restSum, gainSum, takenCount, largestGain, asMember, runOf, reduce, lightest, stopsAt}
+use Rattle.model.specs.Steps.{Member, Child, restSum, gainSum, takenCount, largestGain, asMember, runOf, reduce}
+use Rattle.model.specs.Steps.{lightest, stopsAt}
 use Rattle.theory.specs.Ranges.{pick-true, pick-false}
 use Rattle.theory.specs.Reduce.{Each, GainFits, sumOf, leastSum, reduce-least, least-gain}
-use Rattle.theory.specs.ReduceCount.{Sound, asMember-sound, hasGain, countGain, countGain-cons, Counted, Figures, figuresOf, takeUpTo, takeUpTo-room, byCount, byCount-room, reduce-by-count}
-use Rattle.best.specs.Cells.{Cell, pageWord, lower, tryRun, cellAt, longerRuns, GoodChild, Good, run-taken, entry-within, cell-entry}
+use Rattle.theory.specs.ReduceCount.{Sound, asMember-sound, hasGain, countGain, countGain-cons, Counted, Figures}
+use Rattle.theory.specs.ReduceCount.{figuresOf, takeUpTo, takeUpTo-room, byCount, byCount-room, reduce-by-count}
+use Rattle.best.specs.Cells.{Cell, pageWord, lower, tryRun, cellAt, longerRuns, GoodChild, Good, run-taken}
+use Rattle.best.specs.Cells.{entry-within, cell-entry}
 use Rattle.best.specs.CellsArrays.{Earlier, EachGood, childrenIn}
 
 -- ---- What is kept of a run
@@ -75,7 +79,8 @@ pub members-length : (run : List Child) → length (asMembers run) ≡ length ru
 members-length [] = refl
 members-length (k ∷ run) = ap suc (members-length run)
 
-total-high : (K : ℕ) (run : List Child) → Good K run → (gainSum (asMembers run) ≤ restSum (asMembers run)) × (restSum (asMembers run) ≤ length run * K)
+total-high : (K : ℕ) (run : List Child) → Good K run
+    → (gainSum (asMembers run) ≤ restSum (asMembers run)) × (restSum (asMembers run) ≤ length run * K)
 unfolding gainSum restSum Good asMember
 total-high K [] g = (omega arith, omega arith)
 total-high K (k ∷ run) g =
@@ -97,7 +102,8 @@ unfolding takenCount asMember pick
 members-fresh [] = refl
 members-fresh (k ∷ run) = omega (arith, members-fresh run)
 
-module _ {K : ℕ} {run : List Child} {len total gained top : ℕ} {counts : List ℕ} (kept : RunSums K run len total gained top counts) where
+module _ {K : ℕ} {run : List Child} {len total gained top : ℕ} {counts : List ℕ}
+    (kept : RunSums K run len total gained top counts) where
   pub sums-count : (h : ℕ) → getD counts h 0 ≤ len
   sums-count h = omega (arith, kept .counts-are h, count-le-length h (asMembers run), members-length run, kept .long)
 
@@ -112,7 +118,8 @@ module _ {K : ℕ} {run : List Child} {len total gained top : ℕ} {counts : Lis
 
   -- one more child on the left
   pub sums-more : (k : Child) → GoodChild K k → k .gain < length counts
-      → RunSums K (k ∷ run) (len + 1) (total + k .rest) (gained + k .gain) (max top (k .gain)) (set counts (k .gain) (getD counts (k .gain) 0 + 1))
+      → RunSums K (k ∷ run) (len + 1) (total + k .rest) (gained + k .gain) (max top (k .gain))
+      (set counts (k .gain) (getD counts (k .gain) 0 + 1))
   unfolding restSum gainSum largestGain asMember Good
   sums-more k g l =
       record {
@@ -126,11 +133,13 @@ module _ {K : ℕ} {run : List Child} {len total gained top : ℕ} {counts : Lis
       }
     where
       go : (h : ℕ) (b : Bool) → eqb (k .gain) h ≡ b
-          → hasGain h (asMember k) + countGain h (asMembers run) ≡ getD (set counts (k .gain) (getD counts (k .gain) 0 + 1)) h 0
+          → hasGain h (asMember k) + countGain h (asMembers run)
+          ≡ getD (set counts (k .gain) (getD counts (k .gain) 0 + 1)) h 0
       go h true e =
           let same : k .gain ≡ h = eqb-true (k .gain) h e in
           let one : hasGain h (asMember k) ≡ 1 = pick-true (eqb (k .gain) h) 1 0 e in
-          let now : getD (set counts (k .gain) (getD counts (k .gain) 0 + 1)) h 0 ≡ getD counts h 0 + 1 = rw (← same) (getD-set-same counts (k .gain) (getD counts (k .gain) 0 + 1) 0 l) in
+          let now : getD (set counts (k .gain) (getD counts (k .gain) 0 + 1)) h 0 ≡ getD counts h 0 + 1 =
+          rw (← same) (getD-set-same counts (k .gain) (getD counts (k .gain) 0 + 1) 0 l) in
           omega (arith, one, now, kept .counts-are h)
       go h false e =
           let other : k .gain ≡ h → ⊥ = eqb-false (k .gain) h e in
@@ -152,7 +161,8 @@ choosing-start zero c room s = refl
 choosing-start (suc g) c room s = refl
 
 -- none of this gain is left
-pub choosing-down : (g : ℕ) (c : ℕ → ℕ) (room : ℕ) (s : Figures) → 0 < g → choosing g 0 c room s ≡ choosing (g - 1) (c (g - 1)) c room s
+pub choosing-down : (g : ℕ) (c : ℕ → ℕ) (room : ℕ) (s : Figures) → 0 < g
+    → choosing g 0 c room s ≡ choosing (g - 1) (c (g - 1)) c room s
 unfolding choosing takeUpTo
 choosing-down zero c room s p = absurd (omega arith)
 choosing-down (suc g) c room s p =
@@ -161,7 +171,8 @@ choosing-down (suc g) c room s p =
 
 -- one of this gain is taken
 pub choosing-take : (g n : ℕ) (c : ℕ → ℕ) (room sum count : ℕ) → 0 < g → 0 < n → room < sum
-    → choosing g n c room (record { sum = sum; count = count }) ≡ choosing g (n - 1) c room (record { sum = sum - g; count = count + 1 })
+    → choosing g n c room (record { sum = sum; count = count })
+    ≡ choosing g (n - 1) c room (record { sum = sum - g; count = count + 1 })
 unfolding choosing takeUpTo pick
 choosing-take zero n c room sum count p q over = absurd (omega arith)
 choosing-take (suc g) zero c room sum count p q over = absurd (omega arith)
@@ -183,15 +194,22 @@ choosing-none n c room s = refl
 abbrev pub countsOf : List ℕ → ℕ → ℕ
 countsOf counts h = getD counts h 0
 
-module _ {K : ℕ} {run : List Child} {len total gained top : ℕ} {counts : List ℕ} (kept : RunSums K run len total gained top counts) where
+module _ {K : ℕ} {run : List Child} {len total gained top : ℕ} {counts : List ℕ}
+    (kept : RunSums K run len total gained top counts) where
   -- the figures of the run's members, with the second plans taken
-  pub run-figures : figuresOf (runOf K run) ≡ choosing top (countsOf counts top) (countsOf counts) K (record { sum = total; count = 0 })
+  pub run-figures : figuresOf (runOf K run)
+      ≡ choosing top (countsOf counts top) (countsOf counts) K (record { sum = total; count = 0 })
   unfolding runOf figuresOf
   run-figures =
       let counted : Counted top (countsOf counts) (asMembers run) =
-      record { sound = members-sound K run (kept .good); below = kept .largest; counts = λ h p q. kept .counts-are h } in
+      record {
+        sound = members-sound K run (kept .good);
+        below = kept .largest;
+        counts = λ h p q. kept .counts-are h;
+      } in
       reduce-by-count top (countsOf counts) K (asMembers run) counted
-      ∙ rw (kept .total-is, members-fresh run) (choosing-start top (countsOf counts) K (record { sum = total; count = 0 }))
+      ∙ rw (kept .total-is, members-fresh run)
+      (choosing-start top (countsOf counts) K (record { sum = total; count = 0 }))
 
   -- whether stretching stops at the run
   pub run-stops : stopsAt K run ≡ leb K (total - gained)
@@ -211,7 +229,8 @@ module _ {K : ℕ} {run : List Child} {len total gained top : ℕ} {counts : Lis
     run-taken-le = omega (arith, taken-is, run-taken K run, kept .long)
 
     -- the run is a candidate
-    pub run-fits : sum ≤ K → (n before : ℕ) (c : Cell) → tryRun K (runOf K run) n before c ≡ lower (before + (1 + taken) * pageWord) n c
+    pub run-fits : sum ≤ K → (n before : ℕ) (c : Cell)
+        → tryRun K (runOf K run) n before c ≡ lower (before + (1 + taken) * pageWord) n c
     unfolding tryRun pick
     run-fits h n before c = rw (sum-is, taken-is, le-leb sum K h)
 
@@ -225,7 +244,8 @@ module _ {K : ℕ} {run : List Child} {len total gained top : ℕ} {counts : Lis
     unfolding stopsAt lightest runOf
     over-stops h = go (reduce-least K (asMembers run))
       where
-        go : (restSum (reduce K (asMembers run)) ≤ K) ⊎ (restSum (reduce K (asMembers run)) ≡ leastSum (asMembers run)) → stopsAt K run ≡ true
+        go : (restSum (reduce K (asMembers run)) ≤ K)
+            ⊎ (restSum (reduce K (asMembers run)) ≡ leastSum (asMembers run)) → stopsAt K run ≡ true
         go (inl l) = absurd (omega (arith, sum-is))
         go (inr e) =
             le-leb K (restSum (asMembers run) - gainSum (asMembers run))
@@ -236,9 +256,11 @@ module _ {K : ℕ} {run : List Child} {len total gained top : ℕ} {counts : Lis
 -- the next child on the left joins the run of so many
 unfoldable pub joins : ℕ → ℕ → List Child → ℕ → List Child → Cell → Cell
 joins K s run len [] c = c
-joins K s run len (k ∷ ks) c = longerRuns K s (k ∷ run) (suc len) ks (tryRun K (runOf K (k ∷ run)) (suc len) (cellAt K ks s .word) c)
+joins K s run len (k ∷ ks) c =
+    longerRuns K s (k ∷ run) (suc len) ks (tryRun K (runOf K (k ∷ run)) (suc len) (cellAt K ks s .word) c)
 
-pub longer-stops : (K s : ℕ) (run : List Child) (len : ℕ) (ks : List Child) (c : Cell) → stopsAt K run ≡ true → longerRuns K s run len ks c ≡ c
+pub longer-stops : (K s : ℕ) (run : List Child) (len : ℕ) (ks : List Child) (c : Cell) → stopsAt K run ≡ true
+    → longerRuns K s run len ks c ≡ c
 unfolding longerRuns pick
 longer-stops K s run len [] c e = refl
 longer-stops K s run len (k ∷ ks) c e = rw e
@@ -282,7 +304,8 @@ ColumnWords K start xs here ks = (s : ℕ) → start ≤ s → s ≤ K → getD 
 abbrev pub wordEnd : ℕ
 wordEnd = (2 * maxNodes + 1) * pageWord
 
-pub cell-word-small : (K : ℕ) → K ≤ maxLimit → (ks : List Child) (s : ℕ) → s ≤ K → Good K ks → length ks ≤ maxNodes → cellAt K ks s .word < wordEnd
+pub cell-word-small : (K : ℕ) → K ≤ maxLimit → (ks : List Child) (s : ℕ) → s ≤ K → Good K ks → length ks ≤ maxNodes
+    → cellAt K ks s .word < wordEnd
 cell-word-small K h ks s high good short =
     let a = cell-entry K (omega arith) ks s high good short in
     omega (arith, a .word, a .high, entry-within K ks s high .count-high)
@@ -296,4 +319,5 @@ pub record Fillable (K start c : ℕ) (rests gains prevs xs : List ℕ) : Type 0
   pub earlier : Earlier prevs
   pub none : getD prevs 0 0 ≡ 0
   pub good : EachGood K rests gains
-  pub columns : (n : ℕ) → ColumnWords K start xs (blockAt K (nthPrev prevs (suc n) c)) (childrenIn rests gains prevs (nthPrev prevs (suc n) c))
+  pub columns : (n : ℕ) → ColumnWords K start xs (blockAt K (nthPrev prevs (suc n) c))
+      (childrenIn rests gains prevs (nthPrev prevs (suc n) c))

@@ -1,7 +1,8 @@
--- The choices of a run from its last child back: which members follow their second plan follows from the level, and from how many
--- members at the level are still to the left.
--- Defines takes, backRun, levelling. Proves takeDownTo-snoc, back-run (the choices of a reduced run, the last first), run-level, count-back,
--- and levelling-start, levelling-down, levelling-take, levelling-stop (the level, one choice a turn). Assumes nothing.
+-- The choices of a run from its last child back: which members follow their second plan follows from the level, and
+-- from how many members at the level are still to the left.
+-- Defines takes, backRun, levelling. Proves takeDownTo-snoc, back-run (the choices of a reduced run, the last
+-- first), run-level, count-back, and levelling-start, levelling-down, levelling-take, levelling-stop (the level, one
+-- choice a turn). Assumes nothing.
 use Prim.Native.Nat.{ℕ, zero, suc, _+_, _-_, _≤_, _<_}
 use mathlib.Core.Path.{_≡_, refl, sym, _∙_, ap, ap₂}
 use mathlib.Core.Bool.{Bool, true, false, _&&_, _||_}
@@ -15,7 +16,8 @@ use Rattle.model.specs.Plan.{begins, continues}
 use Rattle.model.specs.Steps.{Member, Child, Choice, asMember, runChoices, runOf}
 use Rattle.theory.specs.Reduce.{sumOf}
 use Rattle.theory.specs.ReduceCount.{hasGain, countGain, countGain-cons}
-use Rattle.best.specs.CellsLevel.{GainLevel, takenOff, takeDownTo, takeDownTo-above, takeDownTo-under, takeDownTo-at, levelHere, levelFrom, takeByLevel, reduce-level}
+use Rattle.best.specs.CellsLevel.{GainLevel, takenOff, takeDownTo, takeDownTo-above, takeDownTo-under}
+use Rattle.best.specs.CellsLevel.{takeDownTo-at, levelHere, levelFrom, takeByLevel, reduce-level}
 use Rattle.best.specs.Cells.{lastChildren}
 use Rattle.best.specs.CellsRun.{asMembers, members-length, members-sound, RunSums, countsOf}
 
@@ -38,7 +40,8 @@ takeDownTo-one g zero m = go (ltb g (m .gain)) (eqb (m .gain) g)
     go false false = refl
 takeDownTo-one g (suc t) m = rw (lt-ltb 0 (suc t) (omega arith)) (go (ltb g (m .gain)) (eqb (m .gain) g))
   where
-    go : (a b : Bool) → pick a (takenOff m ∷ []) (pick b (takenOff m ∷ []) (m ∷ [])) ≡ pick (a || (b && true)) (takenOff m) m ∷ []
+    go : (a b : Bool) → pick a (takenOff m ∷ []) (pick b (takenOff m ∷ []) (m ∷ []))
+        ≡ pick (a || (b && true)) (takenOff m) m ∷ []
     go true b = refl
     go false true = refl
     go false false = refl
@@ -62,19 +65,24 @@ count-same : (g : ℕ) (x : Member) (ms : List Member) → x .gain ≡ g → cou
 unfolding pick
 count-same g x ms e = countGain-cons g x ms ∙ rw (eq-eqb (x .gain) g e) refl
 
-pub takeDownTo-snoc : (g t : ℕ) (ms : List Member) (m : Member) → takeDownTo g t (ms ++ (m ∷ [])) ≡ takeDownTo g t ms ++ (takeLast g t (countGain g ms) m ∷ [])
+pub takeDownTo-snoc : (g t : ℕ) (ms : List Member) (m : Member)
+    → takeDownTo g t (ms ++ (m ∷ [])) ≡ takeDownTo g t ms ++ (takeLast g t (countGain g ms) m ∷ [])
 unfolding takeDownTo countGain sumOf
 takeDownTo-snoc g zero [] m = takeDownTo-one g zero m
 takeDownTo-snoc g (suc t) [] m = takeDownTo-one g (suc t) m
 takeDownTo-snoc g zero (x ∷ ms) m =
     ap (λ l. pick (ltb g (x .gain)) (takenOff x) x ∷ l)
-    (takeDownTo-snoc g zero ms m ∙ ap (λ b. takeDownTo g zero ms ++ (pick b (takenOff m) m ∷ [])) (takes-none g (countGain g ms) (countGain g (x ∷ ms)) (m .gain)))
-takeDownTo-snoc g (suc t) (x ∷ ms) m = go (ltb g (x .gain)) (eqb (x .gain) g) refl refl (takeDownTo-snoc g (suc t) ms m) (takeDownTo-snoc g t ms m)
+    (takeDownTo-snoc g zero ms m ∙ ap (λ b. takeDownTo g zero ms ++ (pick b (takenOff m) m ∷ []))
+    (takes-none g (countGain g ms) (countGain g (x ∷ ms)) (m .gain)))
+takeDownTo-snoc g (suc t) (x ∷ ms) m =
+    go (ltb g (x .gain)) (eqb (x .gain) g) refl refl (takeDownTo-snoc g (suc t) ms m) (takeDownTo-snoc g t ms m)
   where
     go : (a b : Bool) → ltb g (x .gain) ≡ a → eqb (x .gain) g ≡ b
-        → takeDownTo g (suc t) (ms ++ (m ∷ [])) ≡ takeDownTo g (suc t) ms ++ (takeLast g (suc t) (countGain g ms) m ∷ [])
+        → takeDownTo g (suc t) (ms ++ (m ∷ []))
+        ≡ takeDownTo g (suc t) ms ++ (takeLast g (suc t) (countGain g ms) m ∷ [])
         → takeDownTo g t (ms ++ (m ∷ [])) ≡ takeDownTo g t ms ++ (takeLast g t (countGain g ms) m ∷ [])
-        → takeDownTo g (suc t) (x ∷ (ms ++ (m ∷ []))) ≡ takeDownTo g (suc t) (x ∷ ms) ++ (takeLast g (suc t) (countGain g (x ∷ ms)) m ∷ [])
+        → takeDownTo g (suc t) (x ∷ (ms ++ (m ∷ [])))
+        ≡ takeDownTo g (suc t) (x ∷ ms) ++ (takeLast g (suc t) (countGain g (x ∷ ms)) m ∷ [])
     go true b p q h k =
         let l : g < x .gain = ltb-true g (x .gain) p in
         let n : x .gain ≡ g → ⊥ = λ e. omega arith in
@@ -98,18 +106,22 @@ abbrev pub lastMark : ℕ → ℕ
 lastMark n = pick (eqb n 0) begins continues
 
 runChoices-continues : (ms : List Member) (m : Member)
-    → runChoices continues (ms ++ (m ∷ [])) ≡ runChoices continues ms ++ (record { mark = continues; second = m .taken } ∷ [])
+    → runChoices continues (ms ++ (m ∷ []))
+    ≡ runChoices continues ms ++ (record { mark = continues; second = m .taken } ∷ [])
 unfolding runChoices
 runChoices-continues [] m = refl
-runChoices-continues (x ∷ ms) m = ap (λ l. record { mark = continues; second = x .taken } ∷ l) (runChoices-continues ms m)
+runChoices-continues (x ∷ ms) m =
+    ap (λ l. record { mark = continues; second = x .taken } ∷ l) (runChoices-continues ms m)
 
 runChoices-snoc : (ms : List Member) (m : Member)
-    → runChoices begins (ms ++ (m ∷ [])) ≡ runChoices begins ms ++ (record { mark = lastMark (length ms); second = m .taken } ∷ [])
+    → runChoices begins (ms ++ (m ∷ []))
+    ≡ runChoices begins ms ++ (record { mark = lastMark (length ms); second = m .taken } ∷ [])
 unfolding runChoices pick
 runChoices-snoc [] m = refl
 runChoices-snoc (x ∷ ms) m =
     let d : suc (length ms) ≡ 0 → ⊥ = λ e. omega arith in
-    rw (ne-eqb (suc (length ms)) 0 d) (ap (λ l. record { mark = begins; second = x .taken } ∷ l) (runChoices-continues ms m))
+    rw (ne-eqb (suc (length ms)) 0 d) (ap (λ l. record { mark = begins; second = x .taken } ∷ l)
+    (runChoices-continues ms m))
 
 -- ---- A run from its last child back
 
@@ -118,14 +130,16 @@ unfoldable pub backRun : ℕ → ℕ → ℕ → ℕ → List Child → List Cho
 backRun g t n zero ks = []
 backRun g t n (suc r) [] = []
 backRun g t n (suc r) (k ∷ ks) =
-    record { mark = lastMark r; second = takes g t (n - pick (eqb (k .gain) g) 1 0) (k .gain) } ∷ backRun g t (n - pick (eqb (k .gain) g) 1 0) r ks
+    record { mark = lastMark r; second = takes g t (n - pick (eqb (k .gain) g) 1 0) (k .gain) }
+    ∷ backRun g t (n - pick (eqb (k .gain) g) 1 0) r ks
 
 pub lastChildren-append : (r : ℕ) (run ks : List Child) → lastChildren r run ks ≡ lastChildren r [] ks ++ run
 unfolding lastChildren
 lastChildren-append zero run ks = refl
 lastChildren-append (suc r) run [] = refl
 lastChildren-append (suc r) run (k ∷ ks) =
-    lastChildren-append r (k ∷ run) ks ∙ sym (ap (λ l. l ++ run) (lastChildren-append r (k ∷ []) ks) ∙ append-assoc (lastChildren r [] ks) (k ∷ []) run)
+    lastChildren-append r (k ∷ run) ks ∙ sym
+    (ap (λ l. l ++ run) (lastChildren-append r (k ∷ []) ks) ∙ append-assoc (lastChildren r [] ks) (k ∷ []) run)
 
 pub lastChildren-length : (r : ℕ) (ks : List Child) → r ≤ length ks → length (lastChildren r [] ks) ≡ r
 unfolding lastChildren
@@ -150,10 +164,12 @@ unfolding takeDownTo pick
 takeDownTo-length g zero [] = refl
 takeDownTo-length g (suc t) [] = refl
 takeDownTo-length g zero (m ∷ ms) = ap suc (takeDownTo-length g zero ms)
-takeDownTo-length g (suc t) (m ∷ ms) = go (ltb g (m .gain)) (eqb (m .gain) g) (takeDownTo-length g (suc t) ms) (takeDownTo-length g t ms)
+takeDownTo-length g (suc t) (m ∷ ms) =
+    go (ltb g (m .gain)) (eqb (m .gain) g) (takeDownTo-length g (suc t) ms) (takeDownTo-length g t ms)
   where
     go : (a b : Bool) → length (takeDownTo g (suc t) ms) ≡ length ms → length (takeDownTo g t ms) ≡ length ms
-        → length (pick a (takenOff m ∷ takeDownTo g (suc t) ms) (pick b (takenOff m ∷ takeDownTo g t ms) (m ∷ takeDownTo g (suc t) ms))) ≡ length (m ∷ ms)
+        → length (pick a (takenOff m ∷ takeDownTo g (suc t) ms)
+        (pick b (takenOff m ∷ takeDownTo g t ms) (m ∷ takeDownTo g (suc t) ms))) ≡ length (m ∷ ms)
     go true b h k = ap suc h
     go false true h k = ap suc k
     go false false h k = ap suc h
@@ -164,7 +180,8 @@ takeLast-taken true k = refl
 takeLast-taken false k = refl
 
 pub back-run : (g t r : ℕ) (ks : List Child) → r ≤ length ks
-    → backRun g t (countGain g (asMembers (lastChildren r [] ks))) r ks ≡ reverse (runChoices begins (takeDownTo g t (asMembers (lastChildren r [] ks))))
+    → backRun g t (countGain g (asMembers (lastChildren r [] ks))) r ks
+    ≡ reverse (runChoices begins (takeDownTo g t (asMembers (lastChildren r [] ks))))
 unfolding backRun lastChildren takeDownTo runChoices asMember
 back-run g t zero ks h = refl
 back-run g t (suc r) [] h = absurd (omega arith)
@@ -173,17 +190,21 @@ back-run g t (suc r) (k ∷ ks) h =
     let n : ℕ = countGain g (asMembers P) in
     let ms : List Member = takeDownTo g t (asMembers P) in
     let last : Member = takeLast g t n (asMember k) in
-    let whole : asMembers (lastChildren r (k ∷ []) ks) ≡ asMembers P ++ (asMember k ∷ []) = ap asMembers (lastChildren-append r (k ∷ []) ks) ∙ members-snoc P k in
+    let whole : asMembers (lastChildren r (k ∷ []) ks) ≡ asMembers P ++ (asMember k ∷ []) =
+    ap asMembers (lastChildren-append r (k ∷ []) ks) ∙ members-snoc P k in
     let count : countGain g (asMembers (lastChildren r (k ∷ []) ks)) - pick (eqb (k .gain) g) 1 0 ≡ n =
     omega (arith, ap (countGain g) whole, count-snoc g (asMembers P) (asMember k)) in
-    let long : length ms ≡ r = takeDownTo-length g t (asMembers P) ∙ members-length P ∙ lastChildren-length r ks (omega arith) in
-    let taken : takeDownTo g t (asMembers (lastChildren r (k ∷ []) ks)) ≡ ms ++ (last ∷ []) = ap (takeDownTo g t) whole ∙ takeDownTo-snoc g t (asMembers P) (asMember k) in
+    let long : length ms ≡ r =
+    takeDownTo-length g t (asMembers P) ∙ members-length P ∙ lastChildren-length r ks (omega arith) in
+    let taken : takeDownTo g t (asMembers (lastChildren r (k ∷ []) ks)) ≡ ms ++ (last ∷ []) =
+    ap (takeDownTo g t) whole ∙ takeDownTo-snoc g t (asMembers P) (asMember k) in
     let laid : reverse (runChoices begins (takeDownTo g t (asMembers (lastChildren r (k ∷ []) ks))))
     ≡ record { mark = lastMark r; second = takes g t n (k .gain) } ∷ reverse (runChoices begins ms) =
     ap (λ x. reverse (runChoices begins x)) taken
     ∙ ap reverse (runChoices-snoc ms last)
     ∙ reverse-append (runChoices begins ms) (record { mark = lastMark (length ms); second = last .taken } ∷ [])
-    ∙ ap₂ (λ x y. record { mark = lastMark x; second = y } ∷ reverse (runChoices begins ms)) long (takeLast-taken (takes g t n (k .gain)) k) in
+    ∙ ap₂ (λ x y. record { mark = lastMark x; second = y } ∷ reverse (runChoices begins ms)) long
+    (takeLast-taken (takes g t n (k .gain)) k) in
     ap (λ x. record { mark = lastMark r; second = takes g t x (k .gain) } ∷ backRun g t x r ks) count
     ∙ ap (λ l. record { mark = lastMark r; second = takes g t n (k .gain) } ∷ l) (back-run g t r ks (omega arith))
     ∙ sym laid
@@ -204,7 +225,8 @@ pub levelling-none : (n t : ℕ) (c : ℕ → ℕ) (room sum : ℕ) → levellin
 unfolding levelling
 levelling-none n t c room sum = refl
 
-pub levelling-down : (g t : ℕ) (c : ℕ → ℕ) (room sum : ℕ) → 0 < g → levelling g 0 t c room sum ≡ levelling (g - 1) (c (g - 1)) 0 c room sum
+pub levelling-down : (g t : ℕ) (c : ℕ → ℕ) (room sum : ℕ) → 0 < g
+    → levelling g 0 t c room sum ≡ levelling (g - 1) (c (g - 1)) 0 c room sum
 unfolding levelling levelHere
 levelling-down zero t c room sum p = absurd (omega arith)
 levelling-down (suc g) t c room sum p =
@@ -231,7 +253,8 @@ levelling-take (suc g) (suc n) t c room sum p q h =
 -- ---- Which members a run takes
 
 -- the members of a run, reduced, by the level that is found from what is kept of it
-pub run-level : {K len total gained top : ℕ} {run : List Child} {counts : List ℕ} → RunSums K run len total gained top counts
+pub run-level : {K len total gained top : ℕ} {run : List Child} {counts : List ℕ}
+    → RunSums K run len total gained top counts
     → runOf K run ≡ takeByLevel (levelFrom top (countsOf counts) K total) (asMembers run)
 unfolding runOf
 run-level {K} {top = top} {run = run} {counts = counts} kept =
@@ -241,7 +264,8 @@ run-level {K} {top = top} {run = run} {counts = counts} kept =
 
 -- one step back: the last child of a run, and how many at the level come before it
 pub count-back : (g r : ℕ) (k : Child) (ks : List Child)
-    → countGain g (asMembers (lastChildren (suc r) [] (k ∷ ks))) ≡ countGain g (asMembers (lastChildren r [] ks)) + pick (eqb (k .gain) g) 1 0
+    → countGain g (asMembers (lastChildren (suc r) [] (k ∷ ks)))
+    ≡ countGain g (asMembers (lastChildren r [] ks)) + pick (eqb (k .gain) g) 1 0
 unfolding lastChildren asMember
 count-back g r k ks =
     ap (countGain g) (ap asMembers (lastChildren-append r (k ∷ []) ks) ∙ members-snoc (lastChildren r [] ks) k)

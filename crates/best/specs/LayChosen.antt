@@ -20,13 +20,15 @@ choicesFor prevs ch zero u = []
 choicesFor prevs ch (suc n) u = ch u ∷ choicesFor prevs ch n (getD prevs u 0)
 
 -- it is the same where it is the same for each of them
-pub choices-for-same : (prevs : List ℕ) (ch ch′ : ℕ → Choice) (n u : ℕ) → ((i : ℕ) → i < n → ch (nthPrev prevs i u) ≡ ch′ (nthPrev prevs i u))
+pub choices-for-same : (prevs : List ℕ) (ch ch′ : ℕ → Choice) (n u : ℕ)
+    → ((i : ℕ) → i < n → ch (nthPrev prevs i u) ≡ ch′ (nthPrev prevs i u))
     → choicesFor prevs ch n u ≡ choicesFor prevs ch′ n u
 unfolding choicesFor nthPrev
 choices-for-same prevs ch ch′ zero u h = refl
 choices-for-same prevs ch ch′ (suc n) u h =
     ap₂ _∷_ (h 0 (omega arith))
-    (choices-for-same prevs ch ch′ n (getD prevs u 0) (λ i l. rw (nthPrev-shift prevs i u) at (h (suc i) (omega arith))))
+    (choices-for-same prevs ch ch′ n (getD prevs u 0)
+    (λ i l. rw (nthPrev-shift prevs i u) at (h (suc i) (omega arith))))
 
 -- first n, and then m more
 pub choices-for-more : (prevs : List ℕ) (ch : ℕ → Choice) (n m u : ℕ)
@@ -44,4 +46,5 @@ choices-for-more prevs ch (suc n) m u =
 pub record LaidRun (prevs : List ℕ) (n c : ℕ) (cs : List Choice) (marks seconds marks′ seconds′ : List ℕ) : Type 0 where
   pub long : length marks′ ≡ length marks
   pub chosen : choicesFor prevs (chosenIn marks′ seconds′) n c ≡ cs
-  pub others : (u : ℕ) → 1 ≤ u → ((i : ℕ) → i < n → u ≡ nthPrev prevs i c → ⊥) → chosenIn marks′ seconds′ u ≡ chosenIn marks seconds u
+  pub others : (u : ℕ) → 1 ≤ u → ((i : ℕ) → i < n → u ≡ nthPrev prevs i c → ⊥)
+      → chosenIn marks′ seconds′ u ≡ chosenIn marks seconds u

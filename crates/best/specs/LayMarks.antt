@@ -1,6 +1,7 @@
--- Marks laid node by node, in any order: where what becomes of each node's children is what its plan chose, the marks are those that
--- are laid from the root down.
--- Defines choicesBack, Along, ChildrenLaid. Proves choices-back-cons, choices-back-same, back-along, lay-numbered and marks-laid. Assumes nothing.
+-- Marks laid node by node, in any order: where what becomes of each node's children is what its plan chose, the
+-- marks are those that are laid from the root down.
+-- Defines choicesBack, Along, ChildrenLaid. Proves choices-back-cons, choices-back-same, back-along, lay-numbered
+-- and marks-laid. Assumes nothing.
 use Prim.Native.Nat.{ℕ, zero, suc, _+_, _-_, _≤_, _<_}
 use mathlib.Core.Path.{_≡_, refl, sym, _∙_, ap, ap₂}
 use mathlib.Core.Bool.{Bool, true, false}
@@ -30,7 +31,8 @@ pub choices-back-none : (t : List ℕ) (ch : ℕ → Choice) → choicesBack t c
 unfolding choicesBack
 choices-back-none t ch = list-none ch (prevAt t)
 
-pub choices-back-cons : (t : List ℕ) (ch : ℕ → Choice) (u : ℕ) → 1 ≤ u → choicesBack t ch u ≡ ch u ∷ choicesBack t ch (prevAt t u)
+pub choices-back-cons : (t : List ℕ) (ch : ℕ → Choice) (u : ℕ) → 1 ≤ u
+    → choicesBack t ch u ≡ ch u ∷ choicesBack t ch (prevAt t u)
 unfolding choicesBack
 choices-back-cons t ch = list-cons ch (prevAt t) (prevAt-less t)
 
@@ -40,7 +42,8 @@ pub choices-back-same : (t : List ℕ) (ch ch′ : ℕ → Choice) (v : ℕ) →
 unfolding choicesBack
 choices-back-same t ch ch′ v same = list-same (ChildOrNone t v) step
   where
-    step : (u : ℕ) → 1 ≤ u → ChildOrNone t v u → (ch u ≡ ch′ u) × (prevAt t u ≡ prevAt t u) × ChildOrNone t v (prevAt t u)
+    step : (u : ℕ) → 1 ≤ u → ChildOrNone t v u
+        → (ch u ≡ ch′ u) × (prevAt t u ≡ prevAt t u) × ChildOrNone t v (prevAt t u)
     step u low (inl e) = absurd (omega arith)
     step u low (inr q) = (same u low (q .2), refl, prev-child t v u low (q .1) (q .2))
 
@@ -90,7 +93,8 @@ module _ {t : List ℕ} (s : SoundFacts t) (ch : ℕ → Choice) (v : ℕ) (low 
       (link-before (suc u) (q .0) (q .1) (q .2))
       here
 
-  pub back-along : (u : ℕ) → ChildOrNone t v u → afterAt t v u ≡ 0 → Along t ch (firstAt t v) (reverse (choicesBack t ch u))
+  pub back-along : (u : ℕ) → ChildOrNone t v u → afterAt t v u ≡ 0
+      → Along t ch (firstAt t v) (reverse (choicesBack t ch u))
   unfolding choicesBack listBack
   back-along u k e = back-along-from u u 0 [] (omega arith) k e alongNone
 
@@ -116,13 +120,15 @@ part-join : (a b c : ℕ) (l : List ℕ) → a ≤ b → b ≤ c → part a b l 
 part-join a b c l p q =
     let e : c - a ≡ (b - a) + (c - b) = omega arith in
     let f : a + (b - a) ≡ b = omega arith in
-    sym (ap (λ n. take n (drop a l)) e ∙ take-add (b - a) (c - b) (drop a l) ∙ ap (λ x. take (b - a) (drop a l) ++ take (c - b) x) (drop-drop (b - a) a l ∙ ap (λ n. drop n l) f))
+    sym (ap (λ n. take n (drop a l)) e ∙ take-add (b - a) (c - b) (drop a l)
+    ∙ ap (λ x. take (b - a) (drop a l) ++ take (c - b) x) (drop-drop (b - a) a l ∙ ap (λ n. drop n l) f))
 
 module _ (t : List ℕ) (g : Bool) (ch : ℕ → Choice) (marks : List ℕ) (long : length marks ≡ nodeCount t)
     (mark-is : (u : ℕ) → u < nodeCount t → getD marks u 0 ≡ ch (suc u) .mark)
     (laid : (u : ℕ) → 1 ≤ u → u ≤ nodeCount t → ChildrenLaid t g ch u)
   where
-    pub lay-numbered : {m v e : ℕ} {c : Chain} → Numbered t m v c e → e ≤ nodeCount t → (cs : List Choice) → Along t ch v cs
+    pub lay-numbered : {m v e : ℕ} {c : Chain} → Numbered t m v c e → e ≤ nodeCount t → (cs : List Choice)
+        → Along t ch v cs
         → layMarks g (limitOf t) c cs ≡ part m e marks
     unfolding layMarks
     lay-numbered {m} none h cs a = sym (part-empty m marks)
@@ -133,13 +139,16 @@ module _ (t : List ℕ) (g : Bool) (ch : ℕ → Choice) (marks : List ℕ) (lon
         let shape : chainAt t (firstAt t (suc m)) ≡ kids = chain-is k mid in
         let below = lay-numbered k mid (l .chosen) (l .along) in
         let after = lay-numbered s h (n .rest) (n .after) in
-        let chosen : choicesOf g (limitOf t) (weightAt t (suc m)) kids (ch (suc m) .second) ≡ l .chosen = rw shape at (l .same) in
+        let chosen : choicesOf g (limitOf t) (weightAt t (suc m)) kids (ch (suc m) .second) ≡ l .chosen =
+        rw shape at (l .same) in
         let first : part m e₂ marks ≡ getD marks m 0 ∷ part (suc m) e₂ marks =
-        part-cons m e₂ marks (omega (arith, numbered-le k, numbered-le s)) (omega (arith, numbered-le k, numbered-le s, long)) in
+        part-cons m e₂ marks (omega (arith, numbered-le k, numbered-le s))
+        (omega (arith, numbered-le k, numbered-le s, long)) in
         ap (layMarks g (limitOf t) (node (weightAt t (suc m)) (labelAt t (suc m)) kids next)) (n .shape)
         ∙ ap₂ (λ x y. ch (suc m) .mark ∷ (layMarks g (limitOf t) kids x ++ y)) chosen after
         ∙ ap (λ x. ch (suc m) .mark ∷ (x ++ part e₁ e₂ marks)) below
-        ∙ ap₂ _∷_ (sym (mark-is m (omega (arith, numbered-le k, numbered-le s)))) (part-join (suc m) e₁ e₂ marks (numbered-le k) (numbered-le s))
+        ∙ ap₂ _∷_ (sym (mark-is m (omega (arith, numbered-le k, numbered-le s))))
+        (part-join (suc m) e₁ e₂ marks (numbered-le k) (numbered-le s))
         ∙ sym first
 
     pub marks-laid : SoundFacts t → ch 1 ≡ record { mark = begins; second = false } → nextAt t 1 ≡ 0

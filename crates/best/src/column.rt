@@ -1,6 +1,6 @@
-// The column of a child: at each start the best of the candidates, in the listed order. A word has a count and a rest, and a smaller
-// word is a smaller count, or the same count and a smaller rest. Beside each word stands the length of the run that won, 0 where the
-// child stays.
+// The column of a child: at each start the best of the candidates, in the listed order. A word has a count and a
+// rest, and a smaller word is a smaller count, or the same count and a smaller rest. Beside each word stands the
+// length of the run that won, 0 where the child stays.
 use crate::run::GAINS;
 use crate::run::Sums;
 use crate::run::join;

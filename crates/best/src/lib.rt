@@ -1,4 +1,5 @@
-// The plan of the best planner, and of the level planner: a column of cells for each child, the figures of each node, and the marks.
+// The plan of the best planner, and of the level planner: a column of cells for each child, the figures of each
+// node, and the marks.
 mod column;
 mod lay;
 mod node;

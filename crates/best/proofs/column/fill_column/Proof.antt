@@ -8,29 +8,10 @@ use mathlib.Core.Path.{_≡_}
 use Prim.Native.Nat.{ℕ, _+_, _-_, _*_, _≤_}
 use lib.ListN.{getD}
 use Rattle.model.specs.Table.{maxNodes, slots}
-use Rattle.best.proofs.ColumnRuns.{
-  Stretch,
-  Joins,
-  Tries,
-  Taking,
-  stretch-start,
-  stretch-end,
-  joins-fits,
-  stretch-joins,
-  counts-small,
-  total-small,
-  stay-ready,
-  stay-fillable,
-  stay-then,
-  taking-start,
-  taking-down,
-  taking-more,
-  over-end,
-  taken-small,
-  relax-ready,
-  stops-end,
-  stretch-again as again,
-}
+use Rattle.best.proofs.ColumnRuns.{Stretch, Joins, Tries, Taking, stretch-start, stretch-end, joins-fits}
+use Rattle.best.proofs.ColumnRuns.{stretch-joins, counts-small, total-small, stay-ready, stay-fillable}
+use Rattle.best.proofs.ColumnRuns.{stay-then, taking-start, taking-down, taking-more, over-end, taken-small}
+use Rattle.best.proofs.ColumnRuns.{relax-ready, stops-end, stretch-again as again}
 use Rattle.best.specs.CellsRun.{blockAt, Fillable}
 use mathlib.Core.List.{List}
 use Rattle.best.specs.Cells.{Cell}

@@ -9,23 +9,9 @@ use native.Mathlib.Omega.{arith}
 use Rattle.model.specs.Table.{maxNodes, maxLimit, slots}
 use Rattle.best.specs.CellsRun.{blockAt}
 use Rattle.best.specs.CellsNode.{child-high}
-use Rattle.best.proofs.LayNode.{
-  Walking,
-  Found,
-  limit-small,
-  nodes-small,
-  walk-from,
-  walk-high,
-  walk-reads,
-  block-small,
-  prev-less,
-  stay-fits,
-  walk-stay,
-  walk-ready,
-  walk-less,
-  walk-run,
-  walk-end,
-}
+use Rattle.best.proofs.LayNode.{Walking, Found, limit-small, nodes-small, walk-from, walk-high, walk-reads}
+use Rattle.best.proofs.LayNode.{block-small, prev-less, stay-fits, walk-stay, walk-ready, walk-less, walk-run}
+use Rattle.best.proofs.LayNode.{walk-end}
 
 abbrev Inv-loop : tie.InvT-loop
 Inv-loop table prevs rests gains lasts words marks₀ seconds₀ v limit start₀ child₀ marks seconds start child =

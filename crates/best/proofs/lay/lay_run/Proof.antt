@@ -8,20 +8,9 @@ use mathlib.Core.Logic.{inl, inr, ⊎-elim}
 use lib.ListN.{length, getD}
 use native.Mathlib.Omega.{arith}
 use Rattle.model.specs.Table.{maxNodes}
-use Rattle.best.proofs.LayMarking.{
-  Marking,
-  Levelled,
-  count-less,
-  sum-ready,
-  counts-small,
-  level-small,
-  marking-start,
-  marking-high,
-  marking-low,
-  marking-takes,
-  marking-turn,
-  marking-end,
-}
+use Rattle.best.proofs.LayMarking.{Marking, Levelled, count-less, sum-ready, counts-small, level-small}
+use Rattle.best.proofs.LayMarking.{marking-start, marking-high, marking-low, marking-takes, marking-turn}
+use Rattle.best.proofs.LayMarking.{marking-end}
 
 abbrev Inv-loop : tie.InvT-loop
 Inv-loop prevs rests gains marks₀ seconds₀ child len limit level before₀ left₀ next₀ marks seconds before left next =
