@@ -34,13 +34,8 @@ module _ {t rests gains prevs lasts xs ys : List ℕ} {g : Bool} {v r : ℕ} (lo
   where
     pub block-fits : blockAt (limitOf t) r + 2 * (limitOf t + 1) ≤ length ys
     block-fits =
-        omega (
-          arith,
-          block-apart (limitOf t) r (nodeCount t + 1)
-              (omega (arith, child-high t v r (f .last-child))),
-          p .ready .room,
-          f .long,
-        )
+        let apart = block-apart (limitOf t) r (nodeCount t + 1) (omega (arith, child-high t v r (f .last-child))) in
+        omega (arith, apart, p .ready .room, f .long)
 
     module _ (K w here rest : ℕ) (limit : K ≡ limitOf t) (weight : w ≡ weightAt t v) (block : here ≡ blockAt K r)
         (is : rest ≡ getD ys (here + w) 0 % pageWord)

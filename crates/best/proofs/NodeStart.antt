@@ -38,6 +38,7 @@ starts-ready {t} K a words l limit w =
       earlier = l .earlier;
       none = l .none;
       room = omega (arith, scratch-fits (nodeCount t) (limitOf t) (a .sound .count-low), words, w .long);
-      root = λ s h. let z : 0 * (2 * (K + 1)) ≡ 0 =
-          omega arith in rw (← limit, z) (w .cells s (omega arith) (omega arith));
+      root = λ s h.
+          let z : 0 * (2 * (K + 1)) ≡ 0 = omega arith in
+          rw (← limit, z) (w .cells s (omega arith) (omega arith));
     }

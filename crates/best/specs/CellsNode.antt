@@ -113,8 +113,7 @@ module _ (t rests gains prevs : List ℕ) (g : Bool) (v : ℕ) (before : Sibling
     same-step u low (inr q) = (
       figures u (omega (arith, parentAt-less t u low, q .2)) (q .1),
       before u low (q .1),
-      prev-child t v u low
-          (q .1) (q .2),
+      prev-child t v u low (q .1) (q .2),
     )
 
     pub children-same : (u : ℕ) → ChildOrNone t v u → childrenIn rests gains prevs u ≡ childrenUpTo t g u

@@ -120,8 +120,8 @@ unfolding runChoices pick
 runChoices-snoc [] m = refl
 runChoices-snoc (x ∷ ms) m =
     let d : suc (length ms) ≡ 0 → ⊥ = λ e. omega arith in
-    rw (ne-eqb (suc (length ms)) 0 d) (ap (λ l. record { mark = begins; second = x .taken } ∷ l)
-    (runChoices-continues ms m))
+    rw (ne-eqb (suc (length ms)) 0 d)
+    (ap (λ l. record { mark = begins; second = x .taken } ∷ l) (runChoices-continues ms m))
 
 -- ---- A run from its last child back
 
@@ -138,8 +138,8 @@ unfolding lastChildren
 lastChildren-append zero run ks = refl
 lastChildren-append (suc r) run [] = refl
 lastChildren-append (suc r) run (k ∷ ks) =
-    lastChildren-append r (k ∷ run) ks ∙ sym
-    (ap (λ l. l ++ run) (lastChildren-append r (k ∷ []) ks) ∙ append-assoc (lastChildren r [] ks) (k ∷ []) run)
+    lastChildren-append r (k ∷ run) ks
+    ∙ sym (ap (λ l. l ++ run) (lastChildren-append r (k ∷ []) ks) ∙ append-assoc (lastChildren r [] ks) (k ∷ []) run)
 
 pub lastChildren-length : (r : ℕ) (ks : List Child) → r ≤ length ks → length (lastChildren r [] ks) ≡ r
 unfolding lastChildren

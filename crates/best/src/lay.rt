@@ -34,7 +34,8 @@ struct GainLevel {
 // The level at which the sum of a run has room, from how many members have each gain.
 fn find_level(counts: &[u16; GAINS], top: u16, total: u32, limit: u32) -> GainLevel
     requires { ⌜ (top ≤ limit) × (limit ≤ maxLimit) × ((h : ℕ) → getD (now counts) h 0 ≤ maxNodes) ⌝ }
-    ensures { λ r. ⌜ (r .gain ≡ levelFrom top (countsOf (now (counts .entry))) limit total .gain) × (r .times ≡ levelFrom top (countsOf (now (counts .entry))) limit total .times) ⌝ }
+    ensures { λ r. ⌜ (r .gain ≡ levelFrom top (countsOf (now (counts .entry))) limit total .gain)
+        × (r .times ≡ levelFrom top (countsOf (now (counts .entry))) limit total .times) ⌝ }
 {
     let mut gain = top;
     let mut left = counts[gain as usize];
@@ -68,7 +69,9 @@ fn sum_run(
 ) -> Sums
     requires { ⌜ SumReady child len (now rests) (now gains) (now prevs) × (now counts ≡ replicate gainSlots 0) ⌝ }
     ensures { λ r. ⌜ ((K : ℕ) → EachGood K (now (rests .entry)) (now (gains .entry))
-        → RunSums K (lastChildren len [] (childrenIn (now (rests .entry)) (now (gains .entry)) (now (prevs .entry)) child)) len (r .total) (r .gained) (r .top) (now (counts .exit))) ⌝ }
+        → RunSums K
+        (lastChildren len [] (childrenIn (now (rests .entry)) (now (gains .entry)) (now (prevs .entry)) child))
+        len (r .total) (r .gained) (r .top) (now (counts .exit))) ⌝ }
 {
     let mut sums = Sums {
         len: 0,
@@ -116,7 +119,8 @@ fn lay_run(
     limit: usize,
 ) -> usize
     requires { ⌜ RunReady limit child len (now rests) (now gains) (now prevs) (now marks) (now seconds) ⌝ }
-    ensures { λ r. ⌜ RunDone limit child len (now (rests .entry)) (now (gains .entry)) (now (prevs .entry)) (now (marks .entry)) (now (seconds .entry)) (now (marks .exit)) (now (seconds .exit)) r ⌝ }
+    ensures { λ r. ⌜ RunDone limit child len (now (rests .entry)) (now (gains .entry)) (now (prevs .entry))
+        (now (marks .entry)) (now (seconds .entry)) (now (marks .exit)) (now (seconds .exit)) r ⌝ }
 {
     let mut counts = [0u16; GAINS];
     let sums = sum_run(prevs, rests, gains, &mut counts, child, len);
@@ -146,7 +150,8 @@ fn start_of(
     v: u16,
 ) -> usize
     requires { ⌜ (limit ≤ maxLimit) × (v ≤ maxNodes) × (getD (now rests) v 0 ≤ limit) ⌝ }
-    ensures { λ r. ⌜ r ≡ startOf limit (weightAt (now (table .entry)) v) (getD (now (rests .entry)) v 0) (eqb (getD (now (seconds .entry)) v 0) 1) ⌝ }
+    ensures { λ r. ⌜ r ≡ startOf limit (weightAt (now (table .entry)) v) (getD (now (rests .entry)) v 0)
+        (eqb (getD (now (seconds .entry)) v 0) 1) ⌝ }
 {
     let weight = weight_at(table, v) as usize;
     if seconds[v as usize] == 1 {
@@ -167,8 +172,11 @@ fn lay_children(
     seconds: &mut [u8; SLOTS],
     v: u16,
 )
-    requires { ⌜ NodeReady (now table) v (now rests) (now gains) (now prevs) (now lasts) (now words) (now marks) (now seconds) ⌝ }
-    ensures { λ r. ⌜ NodeDone (now (table .entry)) v (now (rests .entry)) (now (gains .entry)) (now (prevs .entry)) (now (lasts .entry)) (now (marks .entry)) (now (seconds .entry)) (now (marks .exit)) (now (seconds .exit)) ⌝ }
+    requires { ⌜ NodeReady (now table) v (now rests) (now gains) (now prevs) (now lasts) (now words)
+        (now marks) (now seconds) ⌝ }
+    ensures { λ r. ⌜ NodeDone (now (table .entry)) v
+        (now (rests .entry)) (now (gains .entry)) (now (prevs .entry)) (now (lasts .entry))
+        (now (marks .entry)) (now (seconds .entry)) (now (marks .exit)) (now (seconds .exit)) ⌝ }
 {
     let limit = limit_of(table) as usize;
     let mut start = start_of(table, rests, seconds, limit, v);
@@ -196,8 +204,11 @@ pub fn lay_nodes(
     words: &[u32],
     marks: &mut [u8],
 )
-    requires { ⌜ ((g : Bool) × NodesPlanned (now table) g 0 (now rests) (now gains) (now prevs) (now lasts) (now words)) × (length (now marks) ≡ nodeCount (now table)) ⌝ }
-    ensures { λ r. ⌜ ((g : Bool) → NodesPlanned (now (table .entry)) g 0 (now (rests .entry)) (now (gains .entry)) (now (prevs .entry)) (now (lasts .entry)) (now (words .entry))
+    requires { ⌜ ((g : Bool) × NodesPlanned (now table) g 0 (now rests) (now gains) (now prevs) (now lasts) (now words))
+        × (length (now marks) ≡ nodeCount (now table)) ⌝ }
+    ensures { λ r. ⌜ ((g : Bool)
+        → NodesPlanned (now (table .entry)) g 0 (now (rests .entry)) (now (gains .entry)) (now (prevs .entry))
+        (now (lasts .entry)) (now (words .entry))
         → now (marks .exit) ≡ layMarks g (limitOf (now (table .entry))) (treeOf (now (table .entry))) rootChoice) ⌝ }
 {
     let nodes = node_count(table);

@@ -59,8 +59,10 @@ fn fill_columns(
     words: &mut [u32],
     v: u16,
 ) -> u16
-    requires { ⌜ ColumnsReady (now table) (now rests) (now gains) (now prevs) (now words) × (1 ≤ v) × (v ≤ nodeCount (now table)) ⌝ }
-    ensures { λ r. ⌜ ColumnsFilled (now (table .entry)) (now (rests .entry)) (now (gains .entry)) (now (prevs .entry)) v r (now (words .entry)) (now (words .exit)) ⌝ }
+    requires { ⌜ ColumnsReady (now table) (now rests) (now gains) (now prevs) (now words)
+        × (1 ≤ v) × (v ≤ nodeCount (now table)) ⌝ }
+    ensures { λ r. ⌜ ColumnsFilled (now (table .entry)) (now (rests .entry)) (now (gains .entry)) (now (prevs .entry))
+        v r (now (words .entry)) (now (words .exit)) ⌝ }
 {
     let limit = limit_of(table) as usize;
     let start = weight_at(table, v) as usize;
@@ -90,8 +92,10 @@ fn gain_in(
     weight: usize,
     rest: usize,
 ) -> usize
-    requires { ⌜ (limit ≤ maxLimit) × (weight ≤ limit) × (rest ≤ limit) × (here + 2 * (limit + 1) ≤ length (now words)) ⌝ }
-    ensures { λ r. ⌜ r ≡ gainFrom gainful limit weight rest (getD (now (words .entry)) (here + secondStart limit weight rest) 0 % pageWord) ⌝ }
+    requires { ⌜ (limit ≤ maxLimit) × (weight ≤ limit) × (rest ≤ limit)
+        × (here + 2 * (limit + 1) ≤ length (now words)) ⌝ }
+    ensures { λ r. ⌜ r ≡ gainFrom gainful limit weight rest
+        (getD (now (words .entry)) (here + secondStart limit weight rest) 0 % pageWord) ⌝ }
 {
     let second = weight + (limit - rest) + 1;
     if !gainful | (limit < second) {
@@ -112,10 +116,13 @@ fn plan_node(
     words: &mut [u32],
     v: u16,
 )
-    requires { ⌜ NodesPlanned (now table) gainful v (now rests) (now gains) (now prevs) (now lasts) (now words) × (1 ≤ v) × (v ≤ nodeCount (now table))
+    requires { ⌜ NodesPlanned (now table) gainful v (now rests) (now gains) (now prevs) (now lasts) (now words)
+        × (1 ≤ v) × (v ≤ nodeCount (now table))
         × (length (now rests) ≡ slots) × (length (now gains) ≡ slots) × (length (now lasts) ≡ slots) ⌝ }
-    ensures { λ r. ⌜ NodesPlanned (now (table .entry)) gainful (v - 1) (now (rests .exit)) (now (gains .exit)) (now (prevs .entry)) (now (lasts .exit)) (now (words .exit))
-        × (length (now (rests .exit)) ≡ slots) × (length (now (gains .exit)) ≡ slots) × (length (now (lasts .exit)) ≡ slots) ⌝ }
+    ensures { λ r. ⌜ NodesPlanned (now (table .entry)) gainful (v - 1) (now (rests .exit)) (now (gains .exit))
+        (now (prevs .entry)) (now (lasts .exit)) (now (words .exit))
+        × (length (now (rests .exit)) ≡ slots) × (length (now (gains .exit)) ≡ slots)
+        × (length (now (lasts .exit)) ≡ slots) ⌝ }
 {
     let limit = limit_of(table) as usize;
     let weight = weight_at(table, v) as usize;
@@ -140,7 +147,8 @@ pub fn plan_nodes(
 )
     requires { ⌜ ColumnsReady (now table) (now rests) (now gains) (now prevs) (now words)
         × (length (now rests) ≡ slots) × (length (now gains) ≡ slots) × (length (now lasts) ≡ slots) ⌝ }
-    ensures { λ r. ⌜ NodesPlanned (now (table .entry)) gainful 0 (now (rests .exit)) (now (gains .exit)) (now (prevs .entry)) (now (lasts .exit)) (now (words .exit)) ⌝ }
+    ensures { λ r. ⌜ NodesPlanned (now (table .entry)) gainful 0 (now (rests .exit)) (now (gains .exit))
+        (now (prevs .entry)) (now (lasts .exit)) (now (words .exit)) ⌝ }
 {
     let mut v = node_count(table);
     while v != 0 {

@@ -25,8 +25,10 @@ fn larger(a: u16, b: u16) -> u16
 
 // One more member on the left.
 pub fn join(sums: Sums, counts: &mut [u16; GAINS], rest: u16, gain: u16) -> Sums
-    requires { ⌜ (gain ≤ maxLimit) × (getD (now counts) gain 0 < 65535) × (sums .len < 4294967295) × (sums .total + rest < 4294967296) × (sums .gained + gain < 4294967296) ⌝ }
-    ensures { λ r. ⌜ (r ≡ joinedSums sums rest gain) × (now (counts .exit) ≡ set (now (counts .entry)) gain (getD (now (counts .entry)) gain 0 + 1)) ⌝ }
+    requires { ⌜ (gain ≤ maxLimit) × (getD (now counts) gain 0 < 65535) × (sums .len < 4294967295)
+        × (sums .total + rest < 4294967296) × (sums .gained + gain < 4294967296) ⌝ }
+    ensures { λ r. ⌜ (r ≡ joinedSums sums rest gain)
+        × (now (counts .exit) ≡ set (now (counts .entry)) gain (getD (now (counts .entry)) gain 0 + 1)) ⌝ }
 {
     counts[gain as usize] = counts[gain as usize] + 1;
     Sums {
