@@ -1,7 +1,8 @@
 -- The runs that end at a child, each by one member longer than the one before. Defines lastChildrenIn (a run's
--- members), Stretch (what holds while the runs are tried) and Taking (while second plans are taken). Proves the
--- turns of both loops and the ways out: stretch-start, stretch-joins, stretch-again, stretch-end, taking-start,
--- taking-down, taking-more, over-end, stops-end; and what the calls ask for. Assumes nothing.
+-- members), Stretch (what holds while the runs are tried; Joins and Tries say what is left to do) and Taking (while
+-- second plans are taken). Proves the turns of both loops and the ways out: stretch-start, stretch-joins,
+-- stretch-again, stretch-end, taking-start, taking-down, taking-more, over-end, stops-end; and what the calls ask
+-- for. Assumes nothing.
 use Prim.Native.Nat.{ℕ, zero, suc, _+_, _-_, _*_, _≤_, _<_}
 use mathlib.Core.Path.{_≡_, refl, sym, _∙_, ap}
 use mathlib.Core.Bool.{Bool, true, false}
@@ -18,8 +19,8 @@ use Rattle.theory.specs.ReduceCount.{figuresOf}
 use Rattle.best.specs.Cells.{Cell, pageWord, noWord, lower, tryRun, stayCell, cellAt, longerRuns}
 use Rattle.best.specs.CellsArrays.{childIn, childrenIn, children-none, children-cons, children-good}
 use Rattle.best.specs.CellsArrays.{children-length, cellIn, Swept}
-use Rattle.best.specs.CellsRun.{RunSums, sums-none, sums-count, sums-gained, sums-total, sums-more, choosing}
-use Rattle.best.specs.CellsRun.{choosing-down, choosing-take, choosing-room, choosing-none, countsOf}
+use Rattle.best.specs.CellsRun.{RunSums, sums-none, sums-count, sums-gained, sums-total, sums-more, sums-joins}
+use Rattle.best.specs.CellsRun.{choosing, choosing-down, choosing-take, choosing-room, choosing-none, countsOf}
 use Rattle.best.specs.CellsRun.{run-figures, run-stops, run-taken-le, run-fits, run-over, over-stops, joins}
 use Rattle.best.specs.CellsRun.{longer-stops, longer-goes, nthPrev, blockAt, nthPrev-le, block-apart}
 use Rattle.best.specs.CellsRun.{ColumnWords, wordEnd, cell-word-small, Fillable}
@@ -175,15 +176,8 @@ module _ {K start c : ℕ} {rests gains prevs xs : List ℕ} (f : Fillable K sta
           × (sums .len < 4294967295)
           × (sums .total + getD rests next 0 < 4294967296) × (sums .gained + getD gains next 0 < 4294967296)
       joins-fits =
-          let good = f .good next in
-          let total = sums-total (t .kept) (f .limit-high) in
-          let small : sums .len ≤ maxNodes = omega (arith, t .short, f .node-high) in (
-            omega (arith, good .light, good .fits, f .limit-high),
-            omega (arith, sums-count (t .kept) (getD gains next 0)),
-            omega arith,
-            omega (arith, total, good .light, f .limit-high),
-            omega (arith, total, sums-gained (t .kept), good .light, good .fits, f .limit-high),
-          )
+          sums-joins (t .kept) (f .limit-high) (omega (arith, t .short, f .node-high)) (childIn rests gains next)
+          (f .good next)
 
       pub stretch-joins : (r : Sums) (ds : List ℕ) → r ≡ joinedSums sums (getD rests next 0) (getD gains next 0)
           → ds ≡ set counts (getD gains next 0) (getD counts (getD gains next 0) 0 + 1)

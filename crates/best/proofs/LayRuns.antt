@@ -1,4 +1,4 @@
--- Runs laid one after the other, from a node back to its siblings before.
+-- Runs laid one after the other, from a node back to its siblings before. Defines AllNodes.
 -- Proves children-low, children-nthPrev, children-nodes (siblings before a node, by the children up to it),
 -- nthPrev-add, laid-none, laid-one, laid-then and seconds-gain-set. Assumes nothing.
 use Prim.Native.Nat.{ℕ, zero, suc, _+_, _-_, _≤_, _<_}

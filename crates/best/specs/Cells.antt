@@ -1,8 +1,10 @@
 -- The entries of a node's children without their lists of choices: a cell has the count and the rest in one word,
 -- and the length of the run that won, 0 where the last child stays. A smaller word is a smaller count, or the same
--- count and a smaller rest. Defines Cell, wordOf, lower, tryRun, stayCell, cellAt, longerRuns, lastChildren,
--- rebuilt, GoodChild, Agrees. Proves word-order, entry-within (bounds of an entry) and cell-entry: a cell has its
--- entry's word, and the entry's choices are rebuilt from the run's length. Assumes nothing.
+-- count and a smaller rest.
+-- Defines pageWord, wordOf, noWord; Cell, lower, runWord, tryRun, stayCell, cellAt, longerRuns; lastChildren,
+-- stayChoice, rebuilt; Within; GoodChild, Good, LengthFits, Agrees.
+-- Proves word-order, entry-within (bounds of an entry) and cell-entry: a cell has its entry's word, and the entry's
+-- choices are rebuilt from the run's length. Assumes nothing.
 use Prim.Native.Nat.{ℕ, zero, suc, _+_, _*_, _≤_, _<_}
 use mathlib.Core.Path.{_≡_, refl, _∙_, ap}
 use mathlib.Core.Bool.{Bool, true, false, _&&_, _||_}

@@ -1,8 +1,8 @@
 -- A node's children as they stand in arrays of rests, gains and siblings before, and the cells of a child as they
 -- stand in a block of words: K + 1 words of cells, then K + 1 lengths of runs.
--- Defines listBack (a list from the last back), childrenIn, cellIn, Swept, Sweeping. Proves list-cons, list-length,
--- list-same; children-cons, children-length, children-good; and sweep-none, sweep-turn, sweep-end: a sweep over the
--- starts of a block, one store of a cell a turn. Assumes nothing.
+-- Defines backFrom, listBack (a list from the last back); childIn, childrenIn, Earlier, EachGood; cellIn, Swept,
+-- Sweeping. Proves list-cons, list-length, list-same; children-cons, children-length, children-good; and sweep-none,
+-- sweep-turn, sweep-end: a sweep over the starts of a block, one store of a cell a turn. Assumes nothing.
 use Prim.Native.Nat.{ℕ, zero, suc, _+_, _*_, _≤_, _<_}
 use mathlib.Core.Path.{_≡_, refl, _∙_, ap, ap₂}
 use mathlib.Core.Bool.{Bool, true, false}

@@ -1,8 +1,8 @@
 -- Which members `reduce` takes: those with a gain above a level, and the earliest few of those at it. The level
 -- follows from the sum, the room and how many members have each gain.
--- Defines GainLevel, takeDownTo, takeByLevel, levelHere, levelFrom. Proves takeDownTo-above, takeDownTo-at,
--- takeDownTo-past, takeDownTo-under (member by member), takeDownTo-more, takeDownTo-below (what a turn does to such
--- a list), levelFrom-upTo and reduce-level. Assumes nothing.
+-- Defines GainLevel, takenOff, takeDownTo, takeByLevel, levelHere, levelFrom, UpTo.
+-- Proves takeDownTo-above, takeDownTo-at, takeDownTo-past, takeDownTo-under (member by member), takeDownTo-more,
+-- takeDownTo-below (what a turn does to such a list), levelFrom-upTo and reduce-level. Assumes nothing.
 use Prim.Native.Nat.{ℕ, zero, suc, _+_, _-_, _≤_, _<_}
 use mathlib.Core.Path.{_≡_, refl, sym, _∙_}
 use mathlib.Core.Bool.{Bool, true, false}

@@ -1,7 +1,10 @@
 -- The children of a node by number: the figures of each, the children up to one of them, and what is kept of the
--- columns of a node's children. Defines figureAt, childrenUpTo, ChildOrNone, SiblingsLinked, ColumnsReady,
--- ColumnsFilled. Proves upTo-cons, child-nthPrev, children-same (arrays that hold the figures give the children of
--- the table), kids-first, kids-step, kids-end (a walk over the children) and figure-good. Assumes nothing.
+-- columns of a node's children.
+-- Defines figureAt, childrenUpTo; ChildOrNone, SiblingsBefore; NextChild, KidsFrom, afterAt; SiblingsLinked,
+-- ColumnsReady, ColumnsBack, ColumnsFilled.
+-- Proves upTo-cons, figure-good, child-nthPrev, nthPrev-shift, children-same (arrays that hold the figures give the
+-- children of the table), first-child, next-child, kids-first, kids-step and kids-end (a walk over the children).
+-- Assumes nothing.
 use Prim.Native.Nat.{ℕ, zero, suc, _+_, _-_, _≤_, _<_}
 use mathlib.Core.Path.{_≡_, refl, sym, _∙_, ap}
 use mathlib.Core.Bool.{Bool, true, false}

@@ -1,6 +1,6 @@
 -- All nodes after one of them are planned: their figures, their last children and the columns of their children are
--- kept. Defines NodesPlanned. Proves node-figures (a node's figures from the words of its last child's block),
--- planned-none and planned-step. Assumes nothing.
+-- kept. Defines NodesPlanned, gainFrom. Proves node-figures (a node's figures from the words of its last child's
+-- block), planned-none and planned-step. Assumes nothing.
 use Prim.Native.Nat.{ℕ, _+_, _-_, _*_, _%_, _≤_, _<_}
 use mathlib.Core.Path.{_≡_, refl, sym, _∙_, ap, ap₂}
 use mathlib.Core.Bool.{Bool, true, false}

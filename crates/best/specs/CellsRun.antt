@@ -1,8 +1,9 @@
 -- A run as it is stretched to the left, child by child: what is kept of its members, which second plans it takes by
 -- how many members have each gain, and what it makes of a cell.
--- Defines RunSums, choosing, joins, nthPrev, blockAt, ColumnWords, wordEnd, Fillable. Proves zeros; sums-none,
--- sums-more; choosing-start, choosing-take, choosing-down, choosing-room (one choice a turn); run-fits, run-over,
--- run-stops; nthPrev-le, block-apart, cell-word-small. Assumes nothing.
+-- Defines asMembers, RunSums; choosing, countsOf; joins; nthPrev, blockAt, ColumnWords, wordEnd, Fillable.
+-- Proves zeros; sums-none, sums-joins, sums-more; choosing-start, choosing-take, choosing-down, choosing-room (one
+-- choice a turn); run-figures, run-fits, run-over, run-stops; nthPrev-le, block-apart, cell-word-small.
+-- Assumes nothing.
 use Prim.Native.Nat.{ℕ, zero, suc, _+_, _-_, _*_, _≤_, _<_, max}
 use mathlib.Core.Path.{_≡_, refl, sym, _∙_, ap}
 use mathlib.Core.Bool.{Bool, true, false}
@@ -10,10 +11,10 @@ use mathlib.Core.List.{List, [], _∷_, map}
 use mathlib.Core.Logic.{_⊎_, inl, inr}
 use native.Mathlib.Omega.{arith}
 use native.Mathlib.Nat.{mul-le-mul-right}
-use lib.ListN.{length, getD, set, replicate, getD-replicate, length-replicate, List·getD-eq-default}
+use lib.ListN.{length, getD, set, replicate}
 use lib.Seq.{getD-set-same, getD-set-other}
 use lib.Dec.{eqb, leb}
-use borrow.Author.Tests.{eqb-true, eqb-false, leb-true, leb-false, le-leb, lt-leb}
+use borrow.Author.Tests.{eqb-true, eqb-false, le-leb, lt-leb}
 use Rattle.model.specs.Basics.{pick}
 use Rattle.model.specs.Table.{maxNodes, maxLimit}
 use Rattle.model.specs.Steps.{Member, Child, restSum, gainSum, takenCount, largestGain, asMember, runOf, reduce}
@@ -44,14 +45,9 @@ pub record RunSums (K : ℕ) (run : List Child) (len total gained top : ℕ) (co
 
 -- an array of zeros has 0 everywhere
 pub zeros : (n h : ℕ) → getD {A = ℕ} (replicate n 0) h 0 ≡ 0
-zeros n h = go (leb (suc h) n) refl
-  where
-    go : (b : Bool) → leb (suc h) n ≡ b → getD {A = ℕ} (replicate n 0) h 0 ≡ 0
-    go true e = getD-replicate n h 0 0 (leb-true (suc h) n e)
-    go false e =
-        let l : n < suc h = leb-false (suc h) n e in
-        let m : length {A = ℕ} (replicate n 0) ≤ h = omega (arith, length-replicate {A = ℕ} n 0) in
-        List·getD-eq-default (replicate n 0) 0 m
+zeros zero h = refl
+zeros (suc n) zero = refl
+zeros (suc n) (suc h) = zeros n h
 
 pub sums-none : (K n : ℕ) → RunSums K [] 0 0 0 0 (replicate n 0)
 unfolding restSum gainSum largestGain countGain sumOf Good
@@ -115,6 +111,19 @@ module _ {K : ℕ} {run : List Child} {len total gained top : ℕ} {counts : Lis
       let a : restSum (asMembers run) ≤ length run * K = total-high K run (kept .good) .1 in
       let b : K * length run ≤ maxLimit * length run = mul-le-mul-right (length run) h in
       omega (arith, a, b, kept .total-is, kept .long)
+
+  -- one more child may join: no sum is too large for its word
+  pub sums-joins : K ≤ maxLimit → len ≤ maxNodes → (k : Child) → GoodChild K k
+      → (k .gain ≤ maxLimit) × (getD counts (k .gain) 0 < 65535) × (len < 4294967295)
+      × (total + k .rest < 4294967296) × (gained + k .gain < 4294967296)
+  sums-joins h few k g =
+      let sum = sums-total h in (
+        omega (arith, g .light, g .fits),
+        omega (arith, sums-count (k .gain)),
+        omega arith,
+        omega (arith, sum, g .light),
+        omega (arith, sum, sums-gained, g .light, g .fits),
+      )
 
   -- one more child on the left
   pub sums-more : (k : Child) → GoodChild K k → k .gain < length counts

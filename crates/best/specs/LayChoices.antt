@@ -1,8 +1,8 @@
 -- The choices of a run from its last child back: which members follow their second plan follows from the level, and
 -- from how many members at the level are still to the left.
--- Defines takes, backRun, levelling. Proves takeDownTo-snoc, back-run (the choices of a reduced run, the last
--- first), run-level, count-back, and levelling-start, levelling-down, levelling-take, levelling-stop (the level, one
--- choice a turn). Assumes nothing.
+-- Defines takes, lastMark, backRun, levelling.
+-- Proves takeDownTo-snoc, back-run (the choices of a reduced run, the last first), run-level, count-back; and
+-- levelling-start, levelling-down, levelling-take, levelling-stop (the level, one choice a turn). Assumes nothing.
 use Prim.Native.Nat.{ℕ, zero, suc, _+_, _-_, _≤_, _<_}
 use mathlib.Core.Path.{_≡_, refl, sym, _∙_, ap, ap₂}
 use mathlib.Core.Bool.{Bool, true, false, _&&_, _||_}

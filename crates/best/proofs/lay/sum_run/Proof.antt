@@ -7,7 +7,8 @@ use mathlib.Core.Path.{ap}
 use lib.ListN.{getD}
 use native.Mathlib.Omega.{arith}
 use Rattle.model.specs.Table.{maxNodes}
-use Rattle.best.proofs.LaySums.{Summing, summing-start, summing-high, joinable, summing-next, summing-end}
+use Rattle.best.proofs.LaySums.{Summing, summing-start, summing-high, next-low, next-joins}
+use Rattle.best.proofs.LaySums.{summing-next, summing-end}
 
 abbrev Inv-loop : tie.InvT-loop
 Inv-loop prevs rests gains counts₀ child len sums₀ next₀ counts sums next =
@@ -38,8 +39,7 @@ element-copy-out-join-2 c = omega (arith, high (c .before .before .before .befor
 join-requires : tie.Need-join-requires Inv-loop μ-loop
 join-requires c κs =
     let l = c .before .before .before .before .before in
-    let r = joinable (l .before .pre .0) (l .loop .inv) (c .before .before .before .if1 .taken) in
-    (r .gain-high, r .count-high, r .len-high, r .total-high, r .gained-high)
+    next-joins (l .before .pre .0) (l .loop .inv)
 
 mul-next : tie.Need-mul-next Inv-loop μ-loop
 mul-next c = let h = high (c .before .before .before .before .before .before) in search needs
@@ -50,9 +50,9 @@ element-copy-out-next c = omega (arith, high (c .before .before .before .before 
 cast-next : tie.Need-cast-next Inv-loop μ-loop
 cast-next c =
     let l = c .before .before .before .before .before .before .before in
-    let r = joinable (l .before .pre .0) (l .loop .inv) (c .before .before .before .before .before .if1 .taken) in
+    let low = next-low (l .before .pre .0) (l .loop .inv) (c .before .before .before .before .before .if1 .taken) in
     let small : getD (l .before .args .prevs .now) (l .loop .next) 0 < l .loop .next =
-    l .before .pre .0 .earlier (l .loop .next) (r .low) in
+    l .before .pre .0 .earlier (l .loop .next) low in
     let h = high l in
     search needs
 
