@@ -10,8 +10,8 @@ use mathlib.Core.List.{List, [], _∷_}
 use native.Mathlib.Omega.{arith}
 use native.Mathlib.Numerals.{add-one}
 use lib.ListN.{length, getD, set, length-set, replicate, length-replicate}
-use lib.Dec.{eqb, leb}
-use borrow.Author.Tests.{eqb-true, eqb-false, leb-true, le-leb, lt-leb}
+use lib.Dec.{leb}
+use borrow.Author.Tests.{leb-true, le-leb, lt-leb}
 use Rattle.model.specs.Basics.{pick}
 use Rattle.model.specs.Table.{maxNodes, maxLimit}
 use Rattle.model.specs.Steps.{Child, runOf}
@@ -22,8 +22,8 @@ use Rattle.best.specs.CellsArrays.{children-length, cellIn, Swept}
 use Rattle.best.specs.CellsRun.{RunSums, sums-none, sums-count, sums-gained, sums-total, sums-more, sums-joins}
 use Rattle.best.specs.CellsRun.{choosing, choosing-down, choosing-take, choosing-room, choosing-none, countsOf}
 use Rattle.best.specs.CellsRun.{run-figures, run-stops, run-taken-le, run-fits, run-over, over-stops, joins}
-use Rattle.best.specs.CellsRun.{longer-stops, longer-goes, nthPrev, blockAt, nthPrev-le, block-apart}
-use Rattle.best.specs.CellsRun.{ColumnWords, wordEnd, cell-word-small, Fillable}
+use Rattle.best.specs.CellsRun.{longer-stops, longer-goes, nthPrev, nthPrev-shift, blockAt, nthPrev-le}
+use Rattle.best.specs.CellsRun.{block-apart, ColumnWords, wordEnd, cell-word-small, Fillable}
 use Rattle.best.specs.declared.run.Sums.{Sums}
 use Rattle.best.specs.CellsSums.{gainSlots, joinedSums}
 
@@ -87,15 +87,10 @@ module _ {K start c : ℕ} {rests gains prevs xs : List ℕ} (f : Fillable K sta
       go true e = f .columns 0 (s + getD rests c 0) (omega arith) (leb-true (s + getD rests c 0) K e)
       go false e = refl
 
-  nthPrev-less : (n : ℕ) → nthPrev prevs (suc n) c < c
-  unfolding nthPrev
-  nthPrev-less n = go (eqb (nthPrev prevs n c) 0) refl (nthPrev-le prevs (f .earlier) (f .none) n c)
-    where
-      go : (b : Bool) → eqb (nthPrev prevs n c) 0 ≡ b → nthPrev prevs n c ≤ c → getD prevs (nthPrev prevs n c) 0 < c
-      go true e h = let z : nthPrev prevs n c ≡ 0 = eqb-true _ _ e in rw (z, f .none) (f .node-low)
-      go false e h =
-          let d : nthPrev prevs n c ≡ 0 → ⊥ = eqb-false _ _ e in
-          omega (arith, f .earlier (nthPrev prevs n c) (omega arith))
+  nthPrev-below : (n : ℕ) → nthPrev prevs (suc n) c < c
+  nthPrev-below n =
+      let le = nthPrev-le prevs (f .earlier) (f .none) n (getD prevs c 0) in
+      omega (arith, nthPrev-shift prevs n c, le, f .earlier c (f .node-low))
 
   pub stay-ready : (here first : ℕ) → here ≡ blockAt K c → first ≡ blockAt K (getD prevs c 0) → start ≤ K
       → (K ≤ maxLimit) × (getD rests c 0 ≤ maxLimit) × (start ≤ maxLimit) × (first + 2 * (K + 1) ≤ here)
@@ -125,7 +120,7 @@ module _ {K start c : ℕ} {rests gains prevs xs : List ℕ} (f : Fillable K sta
             good = f .good;
             columns = λ n s p q.
                 w .below (blockAt K (nthPrev prevs (suc n) c) + s)
-                (omega (arith, block-apart K (nthPrev prevs (suc n) c) c (nthPrev-less n)))
+                (omega (arith, block-apart K (nthPrev prevs (suc n) c) c (nthPrev-below n)))
                 ∙ f .columns n s p q;
           }
 

@@ -17,8 +17,8 @@ use Rattle.model.specs.Steps.{Child, Choice, entryAt, secondStart}
 use Rattle.best.specs.Cells.{lastChildren, rebuilt, LengthFits, Agrees, stayChoice, cellAt, cell-entry}
 use Rattle.best.specs.CellsArrays.{childIn, childrenIn, children-none, children-cons, children-length}
 use Rattle.best.specs.CellsArrays.{children-good}
-use Rattle.best.specs.CellsRun.{nthPrev, nthPrev-le, blockAt, block-apart}
-use Rattle.best.specs.CellsNode.{ChildOrNone, child-high, child-nthPrev, nthPrev-shift, SiblingsBefore}
+use Rattle.best.specs.CellsRun.{nthPrev, nthPrev-shift, nthPrev-le, blockAt, block-apart}
+use Rattle.best.specs.CellsNode.{ChildOrNone, child-high, child-nthPrev, SiblingsBefore}
 use Rattle.best.specs.LayMarks.{choicesBack, choices-back-none, choices-back-cons}
 use Rattle.best.specs.LayChosen.{chosenIn, choicesFor, LaidRun}
 use Rattle.best.specs.LayContracts.{runBack, SecondsGain, RunReady, RunDone, startOf, NodeReady, NodeDone}

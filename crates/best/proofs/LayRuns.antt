@@ -12,8 +12,7 @@ use lib.Dec.{eqb}
 use borrow.Author.Tests.{eqb-true, eqb-false}
 use Rattle.model.specs.Steps.{Choice}
 use Rattle.best.specs.CellsArrays.{childrenIn, Earlier, children-none, children-cons}
-use Rattle.best.specs.CellsRun.{nthPrev}
-use Rattle.best.specs.CellsNode.{nthPrev-shift}
+use Rattle.best.specs.CellsRun.{nthPrev, nthPrev-shift}
 use Rattle.best.specs.LayChosen.{chosenIn, choicesFor, choices-for-same, choices-for-more, LaidRun}
 use Rattle.best.specs.LayContracts.{SecondsGain}
 

@@ -2,7 +2,7 @@
 -- columns of a node's children.
 -- Defines figureAt, childrenUpTo; ChildOrNone, SiblingsBefore; NextChild, KidsFrom, afterAt; SiblingsLinked,
 -- ColumnsReady, ColumnsBack, ColumnsFilled.
--- Proves upTo-cons, figure-good, child-nthPrev, nthPrev-shift, children-same (arrays that hold the figures give the
+-- Proves upTo-cons, figure-good, child-nthPrev, children-same (arrays that hold the figures give the
 -- children of the table), first-child, next-child, kids-first, kids-step and kids-end (a walk over the children).
 -- Assumes nothing.
 use Prim.Native.Nat.{ℕ, zero, suc, _+_, _-_, _≤_, _<_}
@@ -100,11 +100,6 @@ child-nthPrev t prevs before z v (suc n) u k = go (child-nthPrev t prevs before 
     go : ChildOrNone t v (nthPrev prevs n u) → ChildOrNone t v (getD prevs (nthPrev prevs n u) 0)
     go (inl e) = inl (rw e z)
     go (inr q) = rw (before (nthPrev prevs n u) (q .0) (q .1)) (prev-child t v (nthPrev prevs n u) (q .0) (q .1) (q .2))
-
-pub nthPrev-shift : (prevs : List ℕ) (n u : ℕ) → nthPrev prevs (suc n) u ≡ nthPrev prevs n (getD prevs u 0)
-unfolding nthPrev
-nthPrev-shift prevs zero u = refl
-nthPrev-shift prevs (suc n) u = ap (λ w. getD prevs w 0) (nthPrev-shift prevs n u)
 
 -- arrays with the figures of v's children give the children of the table
 module _ (t rests gains prevs : List ℕ) (g : Bool) (v : ℕ) (before : SiblingsBefore t prevs)

@@ -2,7 +2,8 @@
 -- how many members have each gain, and what it makes of a cell.
 -- Defines asMembers, RunSums; choosing, countsOf; joins; nthPrev, blockAt, ColumnWords, wordEnd, Fillable.
 -- Proves zeros; sums-none, sums-joins, sums-more; choosing-start, choosing-take, choosing-down, choosing-room (one
--- choice a turn); run-figures, run-fits, run-over, run-stops; nthPrev-le, block-apart, cell-word-small.
+-- choice a turn); run-figures, run-fits, run-over, run-stops; nthPrev-shift, nthPrev-le, block-apart,
+-- cell-word-small.
 -- Assumes nothing.
 use Prim.Native.Nat.{ℕ, zero, suc, _+_, _-_, _*_, _≤_, _<_, max}
 use mathlib.Core.Path.{_≡_, refl, sym, _∙_, ap}
@@ -284,6 +285,11 @@ longer-goes K s run len (k ∷ ks) c e = rw e
 unfoldable pub nthPrev : List ℕ → ℕ → ℕ → ℕ
 nthPrev prevs zero u = u
 nthPrev prevs (suc n) u = getD prevs (nthPrev prevs n u) 0
+
+pub nthPrev-shift : (prevs : List ℕ) (n u : ℕ) → nthPrev prevs (suc n) u ≡ nthPrev prevs n (getD prevs u 0)
+unfolding nthPrev
+nthPrev-shift prevs zero u = refl
+nthPrev-shift prevs (suc n) u = ap (λ w. getD prevs w 0) (nthPrev-shift prevs n u)
 
 -- where the block of node c begins
 abbrev pub blockAt : ℕ → ℕ → ℕ
