@@ -104,9 +104,9 @@ module _ {t rests gains prevs lasts xs marks seconds : List ℕ} {v : ℕ}
           seconds-gain = l .seconds-gain;
         }
 
-    laid-below : nodeCount t ≤ v → (u : ℕ) → 1 ≤ u → u ≤ nodeCount t → ChildrenLaid t g (chosenIn marks seconds) u
+    children-laid : nodeCount t ≤ v → (u : ℕ) → 1 ≤ u → u ≤ nodeCount t → ChildrenLaid t g (chosenIn marks seconds) u
     unfolding choicesOf
-    laid-below full u low high =
+    children-laid full u low high =
         let K : ℕ = limitOf t in
         let w : ℕ = weightAt t u in
         let ks : List Child = childrenOf g K (chainAt t (firstAt t u)) in
@@ -130,7 +130,7 @@ module _ {t rests gains prevs lasts xs marks seconds : List ℕ} {v : ℕ}
     laying-end full =
         sym
         (marks-laid t g (chosenIn marks seconds) marks (l .long) (λ u h. ap (λ i. getD marks i 0) (omega arith))
-        (laid-below full)
+        (children-laid full)
         (p .ready .accepted .sound)
         (l .root)
         (p .ready .accepted .sound .root-alone))
@@ -140,13 +140,14 @@ module _ {t rests gains prevs lasts xs marks seconds : List ℕ} {v : ℕ}
       (d : NodeDone t (v + 1) rests gains prevs lasts marks seconds marks′ seconds′)
     where
       -- a node up to v + 1 has its choice by now
-      settled : (w : ℕ) → 1 ≤ w → w ≤ v + 1 → chosenIn marks′ seconds′ w ≡ chosenIn marks seconds w
-      settled w low h = d .others w low (λ e. omega (arith, parentAt-less t w low))
+      choice-kept : (w : ℕ) → 1 ≤ w → w ≤ v + 1 → chosenIn marks′ seconds′ w ≡ chosenIn marks seconds w
+      choice-kept w low h = d .others w low (λ e. omega (arith, parentAt-less t w low))
 
       start-same : (w : ℕ) → 1 ≤ w → w ≤ v + 1
           → startOf (limitOf t) (weightAt t w) (getD rests w 0) (chosenIn marks′ seconds′ w .second)
           ≡ startOf (limitOf t) (weightAt t w) (getD rests w 0) (chosenIn marks seconds w .second)
-      start-same w low h = ap (λ c. startOf (limitOf t) (weightAt t w) (getD rests w 0) (c .second)) (settled w low h)
+      start-same w low h = ap (λ c. startOf (limitOf t) (weightAt t w) (getD rests w 0) (c .second))
+          (choice-kept w low h)
 
       pub laying-turn : Laying t rests gains prevs lasts marks′ seconds′ (v + 1)
       laying-turn =
@@ -154,7 +155,7 @@ module _ {t rests gains prevs lasts xs marks seconds : List ℕ} {v : ℕ}
             long = d .long ∙ l .long;
             wide = d .wide;
             high = node .high;
-            root = settled 1 (omega arith) (omega arith) ∙ l .root;
+            root = choice-kept 1 (omega arith) (omega arith) ∙ l .root;
             seconds-gain = d .seconds-gain;
             done = λ w low h. go w low h (eqb w (v + 1)) refl;
           }

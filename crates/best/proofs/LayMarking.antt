@@ -15,13 +15,13 @@ use Rattle.model.specs.Table.{maxNodes, maxLimit, slots}
 use Rattle.model.specs.Plan.{begins}
 use Rattle.model.specs.Steps.{Child, Choice, runChoices}
 use Rattle.theory.specs.ReduceCount.{countGain}
-use Rattle.best.specs.CellsLevel.{levelFrom, levelFrom-upTo, takeDownTo}
+use Rattle.best.specs.CellsLevel.{levelFrom, levelFrom-bound, takeDownTo}
 use Rattle.best.specs.Cells.{lastChildren}
 use Rattle.best.specs.CellsArrays.{childrenIn, childIn, children-cons, children-length}
 use Rattle.best.specs.CellsRun.{asMembers, RunSums, countsOf, sums-count, nthPrev, nthPrev-le}
-use Rattle.best.specs.LayChoices.{takes, lastMark, backRun, back-run, run-level, count-back}
+use Rattle.best.specs.LayChoices.{takes, lastMark, choicesByLevel, choicesByLevel-run, run-level, count-back}
 use Rattle.best.specs.LayChosen.{LaidRun}
-use Rattle.best.specs.LayContracts.{runBack, SecondsGain, SumReady, RunReady, RunDone}
+use Rattle.best.specs.LayContracts.{runChoicesBack, SecondsGain, SumReady, RunReady, RunDone}
 use Rattle.best.proofs.LayRuns.{children-low, children-nodes, laid-none, laid-one, laid-then, seconds-gain-set}
 
 -- ---- A member that is taken has a gain
@@ -89,8 +89,8 @@ pub record Marking (rests gains prevs : List ℕ) (c n g t : ℕ) (marks seconds
   pub within : left ≤ length (childrenIn rests gains prevs next)
   pub count : before ≡ countGain g (asMembers (lastChildren left [] (childrenIn rests gains prevs next)))
   pub laid : LaidRun prevs done c choices marks seconds marks′ seconds′
-  pub rest : choices ++ backRun g t before left (childrenIn rests gains prevs next)
-      ≡ backRun g t (countGain g (asMembers (lastChildren n [] (childrenIn rests gains prevs c)))) n
+  pub rest : choices ++ choicesByLevel g t before left (childrenIn rests gains prevs next)
+      ≡ choicesByLevel g t (countGain g (asMembers (lastChildren n [] (childrenIn rests gains prevs c)))) n
       (childrenIn rests gains prevs c)
   pub seconds-gain : SecondsGain gains seconds′
   pub wide : length seconds′ ≡ slots
@@ -151,7 +151,7 @@ module _ {K c n : ℕ} {rests gains prevs marks seconds : List ℕ}
   module _ {g t : ℕ} {counts : List ℕ} (v : Levelled K c n rests gains prevs counts g t) where
     pub level-small : g ≤ maxLimit
     level-small =
-        let most = levelFrom-upTo (v .top) (countsOf counts) K (v .total) .most in
+        let most = levelFrom-bound (v .top) (countsOf counts) K (v .total) .most in
         omega (arith, v .gain-is, most, v .kept .top-high, ready .limit-high)
 
     pub marking-start : Marking rests gains prevs c n g t marks seconds marks seconds (getD counts g 0) n c
@@ -166,7 +166,7 @@ module _ {K c n : ℕ} {rests gains prevs marks seconds : List ℕ}
           within = ready .within;
           count = same;
           laid = laid-none prevs c marks seconds;
-          rest = ap (λ k. backRun g t k n (children c)) same;
+          rest = ap (λ k. choicesByLevel g t k n (children c)) same;
           seconds-gain = ready .seconds-gain;
           wide = ready .wide;
         }
@@ -178,7 +178,7 @@ module _ {K c n : ℕ} {rests gains prevs marks seconds : List ℕ}
           → second ≡ pick (takes g t before′ (getD gains next 0)) 1 0
           → Marking rests gains prevs c n g t marks seconds (set marks′ (next - 1) mark)
           (set seconds′ next second) before′ (left - 1) (getD prevs next 0)
-      unfolding nthPrev backRun
+      unfolding nthPrev choicesByLevel
       marking-turn some before′ mark second b a s =
           let gain : ℕ = getD gains next 0 in
           let low = marking-low m some in
@@ -194,14 +194,14 @@ module _ {K c n : ℕ} {rests gains prevs marks seconds : List ℕ}
           (set seconds′ next second) = rw same at alone in
           let more : m .done + 1 ≡ suc (m .done) = omega arith in
           let less : left ≡ suc (left - 1) = omega arith in
-          let step : ch ∷ backRun g t before′ (left - 1) (children (getD prevs next 0))
-          ≡ backRun g t before left (children next) =
+          let step : ch ∷ choicesByLevel g t before′ (left - 1) (children (getD prevs next 0))
+          ≡ choicesByLevel g t before left (children next) =
           sym
-          (ap₂ (backRun g t before) less (shape m some)
+          (ap₂ (choicesByLevel g t before) less (shape m some)
           ∙ ap (λ k. record { mark = lastMark (left - 1); second = takes g t k gain }
-          ∷ backRun g t k (left - 1) (children (getD prevs next 0))) (sym b)) in
+          ∷ choicesByLevel g t k (left - 1) (children (getD prevs next 0))) (sym b)) in
           let none : g ≡ 0 → t ≡ 0 =
-          λ z. v .times-is ∙ levelFrom-upTo (v .top) (countsOf counts) K (v .total) .none (sym (v .gain-is) ∙ z) in
+          λ z. v .times-is ∙ levelFrom-bound (v .top) (countsOf counts) K (v .total) .none (sym (v .gain-is) ∙ z) in
           record {
             done = m .done + 1;
             choices = m .choices ++ (ch ∷ []);
@@ -212,7 +212,8 @@ module _ {K c n : ℕ} {rests gains prevs marks seconds : List ℕ}
             laid = laid-then (ready .earlier)
                 (λ j l. children-nodes rests gains prevs (ready .earlier) j c (omega (arith, m .sum, ready .within)))
                 (m .at) (m .laid) one;
-            rest = append-assoc (m .choices) (ch ∷ []) (backRun g t before′ (left - 1) (children (getD prevs next 0)))
+            rest = append-assoc (m .choices) (ch ∷ [])
+                (choicesByLevel g t before′ (left - 1) (children (getD prevs next 0)))
                 ∙ ap (λ l. m .choices ++ l) step
                 ∙ m .rest;
             seconds-gain = seconds-gain-set gains seconds′ next second short (m .seconds-gain)
@@ -221,14 +222,14 @@ module _ {K c n : ℕ} {rests gains prevs marks seconds : List ℕ}
           }
 
       pub marking-end : left ≡ 0 → RunDone K c n rests gains prevs marks seconds marks′ seconds′ next
-      unfolding backRun
+      unfolding choicesByLevel
       marking-end z =
           let all : m .done ≡ n = omega (arith, m .sum) in
-          let whole : m .choices ≡ runBack K n (children c) =
+          let whole : m .choices ≡ runChoicesBack K n (children c) =
           sym (append-nil (m .choices))
-          ∙ ap (λ k. m .choices ++ backRun g t before k (children next)) (sym z)
+          ∙ ap (λ k. m .choices ++ choicesByLevel g t before k (children next)) (sym z)
           ∙ m .rest
-          ∙ back-run g t n (children c) (ready .within)
+          ∙ choicesByLevel-run g t n (children c) (ready .within)
           ∙ ap₂ (λ x y. reverse (runChoices begins (takeDownTo x y (asMembers run)))) (v .gain-is) (v .times-is)
           ∙ ap (λ ms. reverse (runChoices begins ms)) (sym (run-level (v .kept))) in
           record {

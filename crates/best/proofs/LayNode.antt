@@ -21,7 +21,7 @@ use Rattle.best.specs.CellsRun.{nthPrev, nthPrev-shift, nthPrev-le, bloc
 use Rattle.best.specs.CellsNode.{ChildOrNone, child-high, child-nthPrev, SiblingsBefore}
 use Rattle.best.specs.LayMarks.{choicesBack, choices-back-none, choices-back-cons}
 use Rattle.best.specs.LayChosen.{chosenIn, choicesFor, LaidRun}
-use Rattle.best.specs.LayContracts.{runBack, SecondsGain, RunReady, RunDone, startOf, NodeReady, NodeDone}
+use Rattle.best.specs.LayContracts.{runChoicesBack, SecondsGain, RunReady, RunDone, startOf, NodeReady, NodeDone}
 use Rattle.best.proofs.LayRuns.{children-nthPrev, children-nodes, nthPrev-add, AllNodes, laid-none, laid-one}
 use Rattle.best.proofs.LayRuns.{laid-then, seconds-gain-set}
 
@@ -43,7 +43,7 @@ length-within K s zero (k ∷ ks) h d = absurd (d refl)
 length-within K s (suc r) (k ∷ ks) h d = omega (arith, h)
 
 rebuilt-run : (K s r : ℕ) (ks : List Child) → r ≤ length ks → (r ≡ 0 → ⊥)
-    → rebuilt K r ks s ≡ runBack K r ks ++ entryAt K (drop r ks) s .choices
+    → rebuilt K r ks s ≡ runChoicesBack K r ks ++ entryAt K (drop r ks) s .choices
 unfolding rebuilt lastChildren
 rebuilt-run K s zero ks h d = absurd (d refl)
 rebuilt-run K s (suc r) [] h d = absurd (omega arith)
@@ -182,8 +182,8 @@ module _ {t : List ℕ} {v : ℕ} {rests gains prevs lasts xs marks seconds : Li
         omega (arith, ap length e, length-drop (w .walked) (children last), w .within)
 
     module _ {K len : ℕ} (found : Found t xs K start child len) where
-      is : len ≡ getD xs (blockAt limit child + (limit + 1) + start) 0
-      is = found .run-is ∙ ap (λ k. getD xs (blockAt k child + (k + 1) + start) 0) (found .limit-is)
+      len-read : len ≡ getD xs (blockAt limit child + (limit + 1) + start) 0
+      len-read = found .run-is ∙ ap (λ k. getD xs (blockAt k child + (k + 1) + start) 0) (found .limit-is)
 
       one : 1 ≤ child
       one = omega (arith, found .some)
@@ -198,7 +198,7 @@ module _ {t : List ℕ} {v : ℕ} {rests gains prevs lasts xs marks seconds : Li
       len-is : cellAt limit (children child) start .run ≡ len
       len-is =
           sym
-          (is
+          (len-read
           ∙ ap (λ u. getD xs (blockAt limit u + (limit + 1) + start) 0) (w .at)
           ∙ ap (λ c. c .run) (node .columns (w .walked) start (w .low) (w .high))
           ∙ ap (λ u. cellAt limit (children u) start .run) (sym (w .at)))
@@ -290,19 +290,20 @@ module _ {t : List ℕ} {v : ℕ} {rests gains prevs lasts xs marks seconds : Li
               sym
               (ap children (done .next)
               ∙ children-nthPrev rests gains prevs (node .ready .earlier) len child run-within) in
-              let here : runBack limit len (children child) ++ X ≡ entryAt limit (children child) start .choices =
+              let here : runChoicesBack limit len (children child) ++ X
+              ≡ entryAt limit (children child) start .choices =
               sym
               (chosen
               ∙ rebuilt-run limit start len (children child) run-within run
-              ∙ ap (λ ks. runBack limit len (children child) ++ entryAt limit ks start .choices) before) in
+              ∙ ap (λ ks. runChoicesBack limit len (children child) ++ entryAt limit ks start .choices) before) in
               let fits : w .walked + len ≤ length (children last) = omega (arith, left-long, run-within) in
               record {
                 walked = w .walked + len;
-                choices = w .choices ++ runBack limit len (children child);
+                choices = w .choices ++ runChoicesBack limit len (children child);
                 at = done .next ∙ ap (nthPrev prevs len) (w .at) ∙ nthPrev-add prevs (w .walked) len last;
                 within = fits;
                 laid = laid-then (node .ready .earlier) (are-nodes len fits) (w .at) (w .laid) (done .laid);
-                rest = append-assoc (w .choices) (runBack limit len (children child)) X
+                rest = append-assoc (w .choices) (runChoicesBack limit len (children child)) X
                     ∙ ap (λ l. w .choices ++ l) here ∙ w .rest;
                 low = w .low;
                 high = w .high;

@@ -2,7 +2,7 @@
 -- and the length of the run that won, 0 where the last child stays. A smaller word is a smaller count, or the same
 -- count and a smaller rest.
 -- Defines pageWord, wordOf, noWord; Cell, lower, runWord, tryRun, stayCell, cellAt, longerRuns; lastChildren,
--- stayChoice, rebuilt; Within; GoodChild, Good, LengthFits, Agrees.
+-- stayChoice, rebuilt; Within; GoodChild, GoodChildren, LengthFits, Agrees.
 -- Proves word-order, entry-within (bounds of an entry) and cell-entry: a cell has its entry's word, and the entry's
 -- choices are rebuilt from the run's length. Assumes nothing.
 use Prim.Native.Nat.{ℕ, zero, suc, _+_, _*_, _≤_, _<_}
@@ -215,9 +215,9 @@ pub record GoodChild (K : ℕ) (k : Child) : Type 0 where
   pub light : k .rest ≤ K
   pub fits : k .gain ≤ k .rest
 
-unfoldable pub Good : ℕ → List Child → Type 0
-Good K [] = Unit {0}
-Good K (k ∷ ks) = GoodChild K k × Good K ks
+unfoldable pub GoodChildren : ℕ → List Child → Type 0
+GoodChildren K [] = Unit {0}
+GoodChildren K (k ∷ ks) = GoodChild K k × GoodChildren K ks
 
 -- a child that stays has room, and a run that won is within the children
 unfoldable pub LengthFits : ℕ → ℕ → List Child → ℕ → Type 0
@@ -306,11 +306,12 @@ lastChildren-within r js k ks e = omega (arith, ap length e, length-drop r js)
 -- ---- The cell of an entry
 
 abbrev CellEntry : ℕ → List Child → Type 0
-CellEntry K ks = (s : ℕ) → s ≤ K → Good K ks → length ks ≤ maxNodes → Agrees K s ks (entryAt K ks s) (cellAt K ks s)
+CellEntry K ks = (s : ℕ) → s ≤ K → GoodChildren K ks → length ks ≤ maxNodes
+    → Agrees K s ks (entryAt K ks s) (cellAt K ks s)
 
 abbrev LongerEntry : ℕ → List Child → Type 0
 LongerEntry K ks =
-    (s : ℕ) → s ≤ K → Good K ks → length ks ≤ maxNodes
+    (s : ℕ) → s ≤ K → GoodChildren K ks → length ks ≤ maxNodes
     → (first : Child) (before : List Child) (r : ℕ) (run : List Child) (e : Entry) (c : Cell)
     → RunOfLast first before r run ks → Agrees K s (first ∷ before) e c
     → Agrees K s (first ∷ before) (leastOf e (stretched K s run ks)) (longerRuns K s run (suc r) ks c)
@@ -392,7 +393,7 @@ module _ (K : ℕ) (small : K < pageWord) (k : Child) (ks : List Child) (s : ℕ
         then = rw (q, alone-fits K k light);
       }
 
-  cell-first : CellEntry K ks → Good K ks → FirstCandidates K s k ks
+  cell-first : CellEntry K ks → GoodChildren K ks → FirstCandidates K s k ks
   cell-first ih g = go (leb (s + k .rest) K) refl
     where
       base : Agrees K s ks (entryAt K ks s) (cellAt K ks s)
@@ -404,7 +405,7 @@ module _ (K : ℕ) (small : K < pageWord) (k : Child) (ks : List Child) (s : ℕ
 
 module _ (K : ℕ) (small : K < pageWord) where
   both-cells : (ks : List Child) → CellEntry K ks × LongerEntry K ks
-  unfolding entryAt stretched cellAt longerRuns rebuilt leastOf Good LengthFits lastChildren pick
+  unfolding entryAt stretched cellAt longerRuns rebuilt leastOf GoodChildren LengthFits lastChildren pick
   both-cells [] = (
     λ s h g l. record { word = omega arith; choices = refl; high = h; length-fits = refl },
     λ s h g l first before r run e c p a. a,
@@ -439,6 +440,6 @@ module _ (K : ℕ) (small : K < pageWord) where
               (chosen-run K s (suc r) first before (k ∷ run) ks next)
               (lastChildren-within r before k ks (p .left)) e c a))
 
-pub cell-entry : (K : ℕ) → K < pageWord → (ks : List Child) (s : ℕ) → s ≤ K → Good K ks → length ks ≤ maxNodes
+pub cell-entry : (K : ℕ) → K < pageWord → (ks : List Child) (s : ℕ) → s ≤ K → GoodChildren K ks → length ks ≤ maxNodes
     → Agrees K s ks (entryAt K ks s) (cellAt K ks s)
 cell-entry K small ks = both-cells K small ks .0

@@ -13,7 +13,7 @@ use lib.Seq.{getD-set-same, getD-set-other}
 use lib.Dec.{eqb}
 use borrow.Author.Tests.{eqb-true, eqb-false}
 use Rattle.model.specs.Steps.{Child}
-use Rattle.best.specs.Cells.{Cell, GoodChild, Good}
+use Rattle.best.specs.Cells.{Cell, GoodChild, GoodChildren}
 
 -- ---- A list from the last back
 
@@ -109,15 +109,15 @@ module _ (rests gains prevs : List ℕ) (earlier : Earlier prevs) where
   children-length = list-length (childIn rests gains) (λ v. getD prevs v 0) earlier
 
 children-good-from : (K : ℕ) (rests gains prevs : List ℕ) → EachGood K rests gains → (f u : ℕ)
-    → Good K (backFrom f (childIn rests gains) (λ v. getD prevs v 0) u)
-unfolding backFrom Good
+    → GoodChildren K (backFrom f (childIn rests gains) (λ v. getD prevs v 0) u)
+unfolding backFrom GoodChildren
 children-good-from K rests gains prevs h zero u = tt
 children-good-from K rests gains prevs h (suc f) zero = tt
 children-good-from K rests gains prevs h (suc f) (suc u) =
     (h (suc u), children-good-from K rests gains prevs h f (getD prevs (suc u) 0))
 
 pub children-good : (K : ℕ) (rests gains prevs : List ℕ) → EachGood K rests gains → (u : ℕ)
-    → Good K (childrenIn rests gains prevs u)
+    → GoodChildren K (childrenIn rests gains prevs u)
 unfolding childrenIn listBack
 children-good K rests gains prevs h u = children-good-from K rests gains prevs h u u
 

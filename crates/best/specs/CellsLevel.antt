@@ -1,8 +1,8 @@
 -- Which members `reduce` takes: those with a gain above a level, and the earliest few of those at it. The level
 -- follows from the sum, the room and how many members have each gain.
--- Defines GainLevel, takenOff, takeDownTo, takeByLevel, levelHere, levelFrom, UpTo.
+-- Defines GainLevel, takenOff, takeDownTo, takeByLevel, levelHere, levelFrom, LevelBound.
 -- Proves takeDownTo-above, takeDownTo-at, takeDownTo-past, takeDownTo-under (member by member), takeDownTo-more,
--- takeDownTo-below (what a turn does to such a list), levelFrom-upTo and reduce-level. Assumes nothing.
+-- takeDownTo-below (what a turn does to such a list), levelFrom-bound and reduce-level. Assumes nothing.
 use Prim.Native.Nat.{ℕ, zero, suc, _+_, _-_, _≤_, _<_}
 use mathlib.Core.Path.{_≡_, refl, sym, _∙_}
 use mathlib.Core.Bool.{Bool, true, false}
@@ -137,27 +137,27 @@ takeDownTo-below h t l z (there {m = m} {ms = ms} {ns = ns} n r) =
 -- ---- The level
 
 -- a level at most g, and 0 times at 0
-pub record UpTo (g : ℕ) (lev : GainLevel) : Type 0 where
+pub record LevelBound (g : ℕ) (lev : GainLevel) : Type 0 where
   pub most : lev .gain ≤ g
   pub none : lev .gain ≡ 0 → lev .times ≡ 0
 
-levelHere-upTo : (n t g room sum : ℕ) (next : ℕ → GainLevel) → ((s : ℕ) → UpTo g (next s))
-    → UpTo (suc g) (levelHere n t (suc g) room sum next)
+levelHere-bound : (n t g room sum : ℕ) (next : ℕ → GainLevel) → ((s : ℕ) → LevelBound g (next s))
+    → LevelBound (suc g) (levelHere n t (suc g) room sum next)
 unfolding levelHere pick
-levelHere-upTo zero t g room sum next h = record { most = omega (arith, h sum .most); none = h sum .none }
-levelHere-upTo (suc n) t g room sum next h =
-    go (leb sum room) refl (levelHere-upTo n (suc t) g room (sum - suc g) next h)
+levelHere-bound zero t g room sum next h = record { most = omega (arith, h sum .most); none = h sum .none }
+levelHere-bound (suc n) t g room sum next h =
+    go (leb sum room) refl (levelHere-bound n (suc t) g room (sum - suc g) next h)
   where
-    go : (b : Bool) → leb sum room ≡ b → UpTo (suc g) (levelHere n (suc t) (suc g) room (sum - suc g) next)
-        → UpTo (suc g) (levelHere (suc n) t (suc g) room sum next)
+    go : (b : Bool) → leb sum room ≡ b → LevelBound (suc g) (levelHere n (suc t) (suc g) room (sum - suc g) next)
+        → LevelBound (suc g) (levelHere (suc n) t (suc g) room sum next)
     go true e ih = rw e (record { most = omega arith; none = λ q. absurd (omega arith) })
     go false e ih = rw e ih
 
-pub levelFrom-upTo : (g : ℕ) (c : ℕ → ℕ) (room sum : ℕ) → UpTo g (levelFrom g c room sum)
+pub levelFrom-bound : (g : ℕ) (c : ℕ → ℕ) (room sum : ℕ) → LevelBound g (levelFrom g c room sum)
 unfolding levelFrom
-levelFrom-upTo zero c room sum = record { most = omega arith; none = λ q. refl }
-levelFrom-upTo (suc g) c room sum =
-    levelHere-upTo (c (suc g)) 0 g room sum (levelFrom g c room) (levelFrom-upTo g c room)
+levelFrom-bound zero c room sum = record { most = omega arith; none = λ q. refl }
+levelFrom-bound (suc g) c room sum =
+    levelHere-bound (c (suc g)) 0 g room sum (levelFrom g c room) (levelFrom-bound g c room)
 
 -- the members that a level takes
 abbrev pub takeByLevel : GainLevel → List Member → List Member
@@ -166,7 +166,7 @@ takeByLevel lev ms = takeDownTo (lev .gain) (lev .times) ms
 -- the members ms are those of ls after t turns at the level g + 1
 record AfterTurns (g t : ℕ) (ms ls : List Member) : Type 0 where
   level : (k : ℕ) → takeDownTo (suc g) k ms ≡ takeDownTo (suc g) (k + t) ls
-  below-level : (lev : GainLevel) → UpTo g lev → takeByLevel lev ms ≡ takeByLevel lev ls
+  below-level : (lev : GainLevel) → LevelBound g lev → takeByLevel lev ms ≡ takeByLevel lev ls
 
 after-turn : (g t : ℕ) (ms ns ls : List Member) → largestGain ms ≤ suc g → Earliest (suc g) ms ns
     → AfterTurns g t ms ls → AfterTurns g (suc t) ns ls
@@ -189,7 +189,7 @@ module _ (g : ℕ) (c : ℕ → ℕ) (room : ℕ)
     unfolding levelHere pick
     level-reduce zero t ms ls sound below this counts after =
         next ms (record { sound = sound; below = largest-below g ms below this; counts = counts })
-        ∙ after .below-level (levelFrom g c room (restSum ms)) (levelFrom-upTo g c room (restSum ms))
+        ∙ after .below-level (levelFrom g c room (restSum ms)) (levelFrom-bound g c room (restSum ms))
     level-reduce (suc n) t ms ls sound below this counts after =
         go (leb (restSum ms) room) refl (level-reduce n (suc t))
       where

@@ -2,7 +2,7 @@
 -- columns of a node's children.
 -- Defines figureAt, childrenUpTo; ChildOrNone, SiblingsBefore; NextChild, KidsFrom, afterAt; SiblingsLinked,
 -- ColumnsReady, ColumnsBack, ColumnsFilled.
--- Proves upTo-cons, figure-good, child-nthPrev, children-same (arrays that hold the figures give the
+-- Proves childrenUpTo-cons, figure-good, child-nthPrev, children-same (arrays that hold the figures give the
 -- children of the table), first-child, next-child, kids-first, kids-step and kids-end (a walk over the children).
 -- Assumes nothing.
 use Prim.Native.Nat.{ℕ, zero, suc, _+_, _-_, _≤_, _<_}
@@ -37,14 +37,14 @@ figureAt t gains v = childOf gains (limitOf t) (weightAt t v) (childrenOf gains 
 unfoldable pub childrenUpTo : List ℕ → Bool → ℕ → List Child
 childrenUpTo t gains u = listBack (figureAt t gains) (prevAt t) u
 
-pub upTo-none : (t : List ℕ) (gains : Bool) → childrenUpTo t gains 0 ≡ []
+pub childrenUpTo-none : (t : List ℕ) (gains : Bool) → childrenUpTo t gains 0 ≡ []
 unfolding childrenUpTo
-upTo-none t gains = list-none (figureAt t gains) (prevAt t)
+childrenUpTo-none t gains = list-none (figureAt t gains) (prevAt t)
 
-pub upTo-cons : (t : List ℕ) (gains : Bool) (u : ℕ) → 1 ≤ u
+pub childrenUpTo-cons : (t : List ℕ) (gains : Bool) (u : ℕ) → 1 ≤ u
     → childrenUpTo t gains u ≡ figureAt t gains u ∷ childrenUpTo t gains (prevAt t u)
 unfolding childrenUpTo
-upTo-cons t gains = list-cons (figureAt t gains) (prevAt t) (prevAt-less t)
+childrenUpTo-cons t gains = list-cons (figureAt t gains) (prevAt t) (prevAt-less t)
 
 -- ---- A node's figures
 
@@ -136,7 +136,7 @@ KidsFrom t v c before =
 module _ {t : List ℕ} (s : SoundFacts t) (v : ℕ) (low : 1 ≤ v) (high : v ≤ nodeCount t) where
   pub kids-first : KidsFrom t v (firstAt t v) 0
   unfolding childrenOf
-  kids-first g = rw (upTo-none t g)
+  kids-first g = rw (childrenUpTo-none t g)
 
   pub first-child : (firstAt t v ≡ 0) ⊎ NextChild t v (firstAt t v) 0
   first-child = go (eqb (firstAt t v) 0) refl
@@ -175,7 +175,7 @@ module _ {t : List ℕ} (s : SoundFacts t) (v : ℕ) (low : 1 ≤ v) (high : v �
   kids-step c before n k g =
       let a = node-at s c (n .low) (n .high) in
       let f : childrenUpTo t g c ≡ figureAt t g c ∷ childrenUpTo t g before =
-      upTo-cons t g c (n .low) ∙ ap (λ u. figureAt t g c ∷ childrenUpTo t g u) (n .prev) in
+      childrenUpTo-cons t g c (n .low) ∙ ap (λ u. figureAt t g c ∷ childrenUpTo t g u) (n .prev) in
       k g ∙ ap (λ x. childrenFrom g (limitOf t) x (childrenUpTo t g before)) (a .shape) ∙ rw f refl
 
 pub kids-end : (t : List ℕ) (v before : ℕ) → KidsFrom t v 0 before

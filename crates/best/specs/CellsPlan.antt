@@ -18,7 +18,7 @@ use Rattle.model.specs.Plan.{parentAt}
 use Rattle.model.specs.Steps.{Child, entryAt, secondStart, gainOf, childOf, childrenOf}
 use Rattle.theory.specs.TableLinks.{parentAt-none}
 use Rattle.theory.specs.TableChain.{chainAt}
-use Rattle.best.specs.Cells.{pageWord, wordOf, cellAt, GoodChild, Good, cell-entry}
+use Rattle.best.specs.Cells.{pageWord, wordOf, cellAt, GoodChild, GoodChildren, cell-entry}
 use Rattle.best.specs.CellsArrays.{childIn, childrenIn, children-good, children-length, EachGood, cellIn}
 use Rattle.best.specs.CellsRun.{nthPrev, blockAt}
 use Rattle.best.specs.CellsNode.{figureAt, childrenUpTo, figure-good, ChildOrNone, child-high, child-nthPrev}
@@ -90,7 +90,7 @@ module _ {t rests gains prevs lasts xs ys : List ℕ} {g : Bool} {v r : ℕ} (lo
     same-children : (u : ℕ) → ChildOrNone t v u → childrenIn rests gains prevs u ≡ childrenUpTo t g u
     same-children = children-same t rests gains prevs g v (p .ready .before) (p .figures)
 
-    good-children : Good K (childrenUpTo t g r)
+    good-children : GoodChildren K (childrenUpTo t g r)
     good-children = rw (same-children r (f .last-child)) at (children-good K rests gains prevs (p .ready .good) r)
 
     short-children : length (childrenUpTo t g r) ≤ maxNodes

@@ -24,7 +24,8 @@ use Rattle.theory.specs.Ranges.{pick-true, pick-false}
 use Rattle.theory.specs.Reduce.{Each, GainFits, sumOf, leastSum, reduce-least, least-gain}
 use Rattle.theory.specs.ReduceCount.{Sound, asMember-sound, hasGain, countGain, countGain-cons, Counted, Figures}
 use Rattle.theory.specs.ReduceCount.{figuresOf, takeUpTo, takeUpTo-room, byCount, byCount-room, reduce-by-count}
-use Rattle.best.specs.Cells.{Cell, pageWord, lower, tryRun, cellAt, longerRuns, GoodChild, Good, run-taken}
+use Rattle.best.specs.Cells.{Cell, pageWord, lower, tryRun, cellAt, longerRuns, GoodChild, GoodChildren}
+use Rattle.best.specs.Cells.{run-taken}
 use Rattle.best.specs.Cells.{entry-within, cell-entry}
 use Rattle.best.specs.CellsArrays.{Earlier, EachGood, childrenIn}
 
@@ -42,7 +43,7 @@ pub record RunSums (K : ℕ) (run : List Child) (len total gained top : ℕ) (co
   pub counts-are : (h : ℕ) → countGain h (asMembers run) ≡ getD counts h 0
   pub largest : largestGain (asMembers run) ≤ top
   pub top-high : top ≤ K
-  pub good : Good K run
+  pub good : GoodChildren K run
 
 -- an array of zeros has 0 everywhere
 pub zeros : (n h : ℕ) → getD {A = ℕ} (replicate n 0) h 0 ≡ 0
@@ -51,7 +52,7 @@ zeros (suc n) zero = refl
 zeros (suc n) (suc h) = zeros n h
 
 pub sums-none : (K n : ℕ) → RunSums K [] 0 0 0 0 (replicate n 0)
-unfolding restSum gainSum largestGain countGain sumOf Good
+unfolding restSum gainSum largestGain countGain sumOf GoodChildren
 sums-none K n =
     record {
       long = refl;
@@ -76,21 +77,21 @@ pub members-length : (run : List Child) → length (asMembers run) ≡ length ru
 members-length [] = refl
 members-length (k ∷ run) = ap suc (members-length run)
 
-total-high : (K : ℕ) (run : List Child) → Good K run
+total-high : (K : ℕ) (run : List Child) → GoodChildren K run
     → (gainSum (asMembers run) ≤ restSum (asMembers run)) × (restSum (asMembers run) ≤ length run * K)
-unfolding gainSum restSum Good asMember
+unfolding gainSum restSum GoodChildren asMember
 total-high K [] g = (omega arith, omega arith)
 total-high K (k ∷ run) g =
     let ih = total-high K run (g .1) in
     (omega (arith, g .0 .fits, ih .0), omega (arith, g .0 .light, ih .1))
 
-pub members-sound : (K : ℕ) (run : List Child) → Good K run → Each Sound (asMembers run)
-unfolding Each Good
+pub members-sound : (K : ℕ) (run : List Child) → GoodChildren K run → Each Sound (asMembers run)
+unfolding Each GoodChildren
 members-sound K [] g = tt
 members-sound K (k ∷ run) g = (asMember-sound k (g .0 .fits), members-sound K run (g .1))
 
-members-fit : (K : ℕ) (run : List Child) → Good K run → Each GainFits (asMembers run)
-unfolding Each Good asMember
+members-fit : (K : ℕ) (run : List Child) → GoodChildren K run → Each GainFits (asMembers run)
+unfolding Each GoodChildren asMember
 members-fit K [] g = tt
 members-fit K (k ∷ run) g = (g .0 .fits, members-fit K run (g .1))
 
@@ -130,7 +131,7 @@ module _ {K : ℕ} {run : List Child} {len total gained top : ℕ} {counts : Lis
   pub sums-more : (k : Child) → GoodChild K k → k .gain < length counts
       → RunSums K (k ∷ run) (len + 1) (total + k .rest) (gained + k .gain) (max top (k .gain))
       (set counts (k .gain) (getD counts (k .gain) 0 + 1))
-  unfolding restSum gainSum largestGain asMember Good
+  unfolding restSum gainSum largestGain asMember GoodChildren
   sums-more k g l =
       record {
         long = omega (arith, kept .long);
@@ -319,7 +320,8 @@ ColumnWords K start xs here ks = (s : ℕ) → start ≤ s → s ≤ K → getD 
 abbrev pub wordEnd : ℕ
 wordEnd = (2 * maxNodes + 1) * pageWord
 
-pub cell-word-small : (K : ℕ) → K ≤ maxLimit → (ks : List Child) (s : ℕ) → s ≤ K → Good K ks → length ks ≤ maxNodes
+pub cell-word-small : (K : ℕ) → K ≤ maxLimit → (ks : List Child) (s : ℕ) → s ≤ K → GoodChildren K ks
+    → length ks ≤ maxNodes
     → cellAt K ks s .word < wordEnd
 cell-word-small K h ks s high good short =
     let a = cell-entry K (omega arith) ks s high good short in

@@ -1,7 +1,7 @@
 -- The choices of a run from its last child back: which members follow their second plan follows from the level, and
 -- from how many members at the level are still to the left.
--- Defines takes, lastMark, backRun, levelling.
--- Proves takeDownTo-snoc, back-run (the choices of a reduced run, the last first), run-level, count-back; and
+-- Defines takes, lastMark, choicesByLevel, levelling.
+-- Proves takeDownTo-snoc, choicesByLevel-run (the choices of a reduced run, the last first), run-level, count-back; and
 -- levelling-start, levelling-down, levelling-take, levelling-stop (the level, one choice a turn). Assumes nothing.
 use Prim.Native.Nat.{ℕ, zero, suc, _+_, _-_, _≤_, _<_}
 use mathlib.Core.Path.{_≡_, refl, sym, _∙_, ap, ap₂}
@@ -126,12 +126,12 @@ runChoices-snoc (x ∷ ms) m =
 -- ---- A run from its last child back
 
 -- the choices of the last r children, the last first: n of them are at the level g, of which the earliest t are taken
-unfoldable pub backRun : ℕ → ℕ → ℕ → ℕ → List Child → List Choice
-backRun g t n zero ks = []
-backRun g t n (suc r) [] = []
-backRun g t n (suc r) (k ∷ ks) =
+unfoldable pub choicesByLevel : ℕ → ℕ → ℕ → ℕ → List Child → List Choice
+choicesByLevel g t n zero ks = []
+choicesByLevel g t n (suc r) [] = []
+choicesByLevel g t n (suc r) (k ∷ ks) =
     record { mark = lastMark r; second = takes g t (n - pick (eqb (k .gain) g) 1 0) (k .gain) }
-    ∷ backRun g t (n - pick (eqb (k .gain) g) 1 0) r ks
+    ∷ choicesByLevel g t (n - pick (eqb (k .gain) g) 1 0) r ks
 
 pub lastChildren-append : (r : ℕ) (run ks : List Child) → lastChildren r run ks ≡ lastChildren r [] ks ++ run
 unfolding lastChildren
@@ -179,13 +179,13 @@ unfolding asMember pick
 takeLast-taken true k = refl
 takeLast-taken false k = refl
 
-pub back-run : (g t r : ℕ) (ks : List Child) → r ≤ length ks
-    → backRun g t (countGain g (asMembers (lastChildren r [] ks))) r ks
+pub choicesByLevel-run : (g t r : ℕ) (ks : List Child) → r ≤ length ks
+    → choicesByLevel g t (countGain g (asMembers (lastChildren r [] ks))) r ks
     ≡ reverse (runChoices begins (takeDownTo g t (asMembers (lastChildren r [] ks))))
-unfolding backRun lastChildren takeDownTo runChoices asMember
-back-run g t zero ks h = refl
-back-run g t (suc r) [] h = absurd (omega arith)
-back-run g t (suc r) (k ∷ ks) h =
+unfolding choicesByLevel lastChildren takeDownTo runChoices asMember
+choicesByLevel-run g t zero ks h = refl
+choicesByLevel-run g t (suc r) [] h = absurd (omega arith)
+choicesByLevel-run g t (suc r) (k ∷ ks) h =
     let P : List Child = lastChildren r [] ks in
     let n : ℕ = countGain g (asMembers P) in
     let ms : List Member = takeDownTo g t (asMembers P) in
@@ -205,8 +205,9 @@ back-run g t (suc r) (k ∷ ks) h =
     ∙ reverse-append (runChoices begins ms) (record { mark = lastMark (length ms); second = last .taken } ∷ [])
     ∙ ap₂ (λ x y. record { mark = lastMark x; second = y } ∷ reverse (runChoices begins ms)) long
     (takeLast-taken (takes g t n (k .gain)) k) in
-    ap (λ x. record { mark = lastMark r; second = takes g t x (k .gain) } ∷ backRun g t x r ks) count
-    ∙ ap (λ l. record { mark = lastMark r; second = takes g t n (k .gain) } ∷ l) (back-run g t r ks (omega arith))
+    ap (λ x. record { mark = lastMark r; second = takes g t x (k .gain) } ∷ choicesByLevel g t x r ks) count
+    ∙ ap (λ l. record { mark = lastMark r; second = takes g t n (k .gain) } ∷ l)
+    (choicesByLevel-run g t r ks (omega arith))
     ∙ sym laid
 
 -- ---- The level, one choice a turn

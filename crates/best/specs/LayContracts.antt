@@ -1,5 +1,5 @@
 -- What laying marks relies on, and what it leaves: for a run, for a node's children.
--- Defines runBack, SecondsGain, SumReady, RunReady, RunDone, startOf, NodeReady, NodeDone. Assumes nothing.
+-- Defines runChoicesBack, SecondsGain, SumReady, RunReady, RunDone, startOf, NodeReady, NodeDone. Assumes nothing.
 use Prim.Native.Nat.{ℕ, _≤_}
 use mathlib.Core.Path.{_≡_}
 use mathlib.Core.Bool.{Bool}
@@ -20,8 +20,8 @@ use Rattle.best.specs.LayChosen.{chosenIn, LaidRun}
 -- ---- A run
 
 -- the choices of a run of the last n children, the last first
-abbrev pub runBack : ℕ → ℕ → List Child → List Choice
-runBack K n ks = reverse (runChoices begins (runOf K (lastChildren n [] ks)))
+abbrev pub runChoicesBack : ℕ → ℕ → List Child → List Choice
+runChoicesBack K n ks = reverse (runChoices begins (runOf K (lastChildren n [] ks)))
 
 -- a node that follows its second plan has one
 abbrev pub SecondsGain : List ℕ → List ℕ → Type 0
@@ -48,7 +48,7 @@ pub record RunReady (K c n : ℕ) (rests gains prevs marks seconds : List ℕ) :
 
 -- the run is laid, and r is the sibling before it
 pub record RunDone (K c n : ℕ) (rests gains prevs marks seconds marks′ seconds′ : List ℕ) (r : ℕ) : Type 0 where
-  pub laid : LaidRun prevs n c (runBack K n (childrenIn rests gains prevs c)) marks seconds marks′ seconds′
+  pub laid : LaidRun prevs n c (runChoicesBack K n (childrenIn rests gains prevs c)) marks seconds marks′ seconds′
   pub wide : length seconds′ ≡ slots
   pub seconds-gain : SecondsGain gains seconds′
   pub next : r ≡ nthPrev prevs n c

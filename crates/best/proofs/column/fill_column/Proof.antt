@@ -227,12 +227,11 @@ returns-3 c =
 pub fill-column-spec : {M : Type 1} → statement M
 fill-column-spec =
     tie.close
-    (tie.spec Inv-loop μ-loop Inv-stretch μ-stretch (λ c κs. search needs) (λ c. search needs)
-    (λ c. search needs) cast-block-at block-at-requires-2 (λ c. search needs) (λ c. search needs) cast-stay
-    stay-requires stretch-holds (λ c. search needs) (λ c. search needs) (λ c. search needs) (λ c. search needs)
-    join-requires (λ c. search needs) (λ c. search needs) cast-next (λ c. search needs) (λ c. search needs)
-    array-read-left loop-holds (λ c. search needs) (λ c. search needs) (λ c. search needs) (λ c. search needs)
-    (λ c. search needs) loop-less loop-again (λ c. search needs) (λ c. search needs) (λ c. search needs)
-    (λ c. search needs) (λ c. search needs) loop-again-2 block-at-requires-3 add-relax mul-relax relax-requires
-    cast-if3 sub-if3 stretch-less stretch-again (λ c. search needs) returns (λ c. search needs) returns-2
-    (λ c. search needs) returns-3)
+    (tie.spec Inv-loop μ-loop Inv-stretch μ-stretch (λ c κs. search needs) (λ c. search needs) (λ c. search needs)
+    cast-block-at block-at-requires-2 (λ c. search needs) (λ c. search needs) cast-stay stay-requires stretch-holds
+    (λ c. search needs) (λ c. search needs) (λ c. search needs) (λ c. search needs) join-requires (λ c. search needs)
+    (λ c. search needs) cast-next (λ c. search needs) (λ c. search needs) array-read-left loop-holds
+    (λ c. search needs) (λ c. search needs) (λ c. search needs) (λ c. search needs) (λ c. search needs) loop-less
+    loop-again (λ c. search needs) (λ c. search needs) (λ c. search needs) (λ c. search needs) (λ c. search needs)
+    loop-again-2 block-at-requires-3 add-relax mul-relax relax-requires cast-if3 sub-if3 stretch-less stretch-again
+    (λ c. search needs) returns (λ c. search needs) returns-2 (λ c. search needs) returns-3)
