@@ -25,8 +25,7 @@ use Rattle.theory.specs.Reduce.{Each, GainFits, sumOf, leastSum, reduce-least, 
 use Rattle.theory.specs.ReduceCount.{Sound, asMember-sound, hasGain, countGain, countGain-cons, Counted, Figures}
 use Rattle.theory.specs.ReduceCount.{figuresOf, takeUpTo, takeUpTo-room, byCount, byCount-room, reduce-by-count}
 use Rattle.best.specs.Cells.{Cell, pageWord, lower, tryRun, cellAt, longerRuns, GoodChild, GoodChildren}
-use Rattle.best.specs.Cells.{run-taken}
-use Rattle.best.specs.Cells.{entry-within, cell-entry}
+use Rattle.best.specs.Cells.{run-taken, entry-within, cell-entry}
 use Rattle.best.specs.CellsArrays.{Earlier, EachGood, childrenIn}
 
 -- ---- What is kept of a run
