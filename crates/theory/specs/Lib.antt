@@ -1,10 +1,11 @@
 -- Laws about the definitions of document 01, by group, each file after those that it rests on.
--- Bools, numbers 1 to n, and lists
+-- Bools, numbers 1 to n, lists, words
 pub mod Bools
 pub mod Ranges
 pub mod Sums
 pub mod Chosen
 pub mod Lists
+pub mod Words
 -- Lists of checks
 pub mod TableFacts
 pub mod Checks

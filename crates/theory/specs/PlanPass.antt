@@ -1,6 +1,7 @@
--- The page and the parent of a node by one step back, with no bound on the steps: what a pass over the nodes in their order computes.
--- Defines stepBack. Proves pageOf-none, pageOf-step, pageOf-le, parentAt-step; and sumTo-most (a bound of a sum). Assumes nothing.
-use Prim.Native.Nat.{ℕ, zero, suc, _-_, _*_, _≤_, _<_}
+-- The page and the parent of a node by one step back, with no bound on the steps, and the weights of the pages up to a node: what a
+-- pass over the nodes in their order computes.
+-- Defines stepBack, weightTo. Proves pageOf-none, pageOf-step, pageOf-le, weightTo-suc, parentAt-step. Assumes nothing.
+use Prim.Native.Nat.{ℕ, zero, suc, _+_, _-_, _≤_, _<_}
 use native.Mathlib.Omega.{arith}
 use mathlib.Core.Bool.{Bool, true, false}
 use mathlib.Core.Path.{_≡_, refl, sym, _∙_, ap}
@@ -8,9 +9,9 @@ use mathlib.Core.List.{List}
 use lib.Dec.{eqb}
 use borrow.Author.Tests.{eqb-true, eqb-false}
 use Rattle.model.specs.Basics.{pick, sumTo, countTo}
-use Rattle.model.specs.Table.{nodeCount, firstAt}
+use Rattle.model.specs.Table.{nodeCount, weightAt, firstAt}
 use Rattle.model.specs.Plan.{prevAt, parentAt, hasMark, begins, continues, pageFrom, pageOf}
-use Rattle.theory.specs.Ranges.{Upto, upto-less, upto-last, pick-true, pick-false, pick-both, sumTo-zero, sumTo-suc, countTo-zero, countTo-le}
+use Rattle.theory.specs.Ranges.{pick-true, pick-false, pick-both, sumTo-zero, sumTo-suc, countTo-zero, countTo-le}
 use Rattle.theory.specs.TableFacts.{SoundFacts}
 use Rattle.theory.specs.TableLinks.{first-step, prevAt-none, prevAt-less, parentAt-none, parentAt-one, parentAt-less, parentAt-later, parent-low, parent-first}
 
@@ -87,6 +88,21 @@ pub pageOf-le : (t m : List ℕ) (v : ℕ) → pageOf t m v ≤ v
 unfolding pageOf
 pageOf-le t m v = pageFrom-le v t m v
 
+-- ---- Weights
+
+-- the weight of those of the nodes 1 to v that the plan has on page p
+unfoldable pub weightTo : ℕ → List ℕ → List ℕ → ℕ → ℕ
+weightTo v t m p = sumTo v (λ u. pick (eqb (pageOf t m u) p) (weightAt t u) 0)
+
+pub weightTo-zero : (t m : List ℕ) (p : ℕ) → weightTo 0 t m p ≡ 0
+unfolding weightTo
+weightTo-zero t m p = sumTo-zero (λ u. pick (eqb (pageOf t m u) p) (weightAt t u) 0)
+
+pub weightTo-suc : (v : ℕ) (t m : List ℕ) (p : ℕ)
+    → weightTo (suc v) t m p ≡ weightTo v t m p + pick (eqb (pageOf t m (suc v)) p) (weightAt t (suc v)) 0
+unfolding weightTo
+weightTo-suc v t m p = sumTo-suc v (λ u. pick (eqb (pageOf t m u) p) (weightAt t u) 0)
+
 -- ---- Parents
 
 -- a node with no sibling before it comes just after its parent
@@ -110,15 +126,3 @@ parentAt-step {t} s v low high = go (eqb (prevAt t v) 0) refl (eqb v 1) refl
         first-step s (parentAt t v) (parent-low s v (omega arith) high) (omega (arith, parentAt-less t v low)) (omega arith) in
         let z : parentAt t v ≡ v - 1 = omega arith in
         z ∙ sym (pick-true (eqb (prevAt t v) 0) (v - 1) (parentAt t (prevAt t v)) q)
-
--- ---- Sums
-
-pub sumTo-most : (n k : ℕ) (f : ℕ → ℕ) → Upto n (λ v. f v ≤ k) → sumTo n f ≤ n * k
-sumTo-most zero k f h = omega (arith, sumTo-zero f)
-sumTo-most (suc n) k f h =
-    omega (
-      arith,
-      sumTo-suc n f,
-      sumTo-most n k f (upto-less (λ v. f v ≤ k) n h),
-      upto-last (λ v. f v ≤ k) n h,
-    )

@@ -1,5 +1,5 @@
--- Marks and runs in plain numbers, as the archive asks for them: the marks that are allowed, the earlier brother with mark 1 whose run a
--- node with mark 2 is in, the mark 2 of each brother after a run's first node and up to its last, and runLast by the next sibling.
+-- Marks and runs in plain numbers, as the archive asks for them: the marks that are allowed, the earlier sibling with mark 1 whose run a
+-- node with mark 2 is in, the mark 2 of each sibling after a run's first node and up to its last, and runLast by the next sibling.
 -- Defines GoodMarks, InRunOf. Proves good-marks, in-run-of, runLast-low, runLast-marks, runLast-on, runLast-stop. Assumes nothing.
 use Prim.Native.Nat.{ℕ, _≤_, _<_}
 use native.Mathlib.Omega.{arith}
@@ -16,7 +16,7 @@ use Rattle.theory.specs.Bools.{either-true}
 use Rattle.theory.specs.Ranges.{Upto, pick-false}
 use Rattle.theory.specs.TableFacts.{SoundFacts}
 use Rattle.theory.specs.TableLinks.{next-le}
-use Rattle.theory.specs.SiblingChains.{After, Before, here, step, reach-after, reach-last, reach-total, reach-stop, reach-le, reach-between, reach-parent}
+use Rattle.theory.specs.SiblingChains.{After, LastLink, here, step, reach-after, reach-last, reach-total, reach-stop, reach-le, reach-between, reach-parent}
 use Rattle.theory.specs.SiblingsByParent.{sibling-after}
 use Rattle.theory.specs.PlanPages.{bad-none, good-first, good-later, good-continues, good-after}
 use Rattle.theory.specs.RunsMarked.{Goes, Ends, runLast-ends, ends-runLast, inRun-continues, Headed, headed}
@@ -88,7 +88,7 @@ pub record InRunOf (t m : List ℕ) (v b : ℕ) : Type 0 where
   pub low : 1 ≤ b
   pub less : b < v
   pub one : markAt m b ≡ 1
-  pub brother : parentAt t b ≡ parentAt t v
+  pub sibling : parentAt t b ≡ parentAt t v
   pub reached : v ≤ runLast t m b
 
 module _ {t : List ℕ} (s : SoundFacts t) (m : List ℕ) where
@@ -104,12 +104,12 @@ module _ {t : List ℕ} (s : SoundFacts t) (m : List ℕ) where
           low = h .low;
           less = omega (arith, h .high);
           one = one;
-          brother = sym (reach-parent s (h .goes) (h .low) top);
+          sibling = sym (reach-parent s (h .goes) (h .low) top);
           reached = reach-le s (reach-stop (h .goes) (e .goes) (e .stops)) low high .0;
         },
       )
 
-  -- the brothers after a run's first node and up to its last have mark 2
+  -- the siblings after a run's first node and up to its last have mark 2
   pub runLast-marks : (b v : ℕ) → 1 ≤ b → b < v → v ≤ nodeCount t → v ≤ runLast t m b → parentAt t b ≡ parentAt t v → markAt m v ≡ 2
   runLast-marks b v low less high within same = last (reach-last (by (reach-total run after)))
     where
@@ -126,6 +126,6 @@ module _ {t : List ℕ} (s : SoundFacts t) (m : List ℕ) where
           rw end at run
       by (inr r) = reach-between s run after (reach-after r) low (omega arith)
 
-      last : (b ≡ v) ⊎ Before t (λ w. hasMark m continues w ≡ true) b v → markAt m v ≡ 2
+      last : (b ≡ v) ⊎ LastLink t (λ w. hasMark m continues w ≡ true) b v → markAt m v ≡ 2
       last (inl e) = absurd (omega arith)
       last (inr x) = eqb-true (markAt m v) 2 (x .passed)

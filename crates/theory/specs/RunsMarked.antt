@@ -1,6 +1,6 @@
 -- The run that goes from a node by the marks: the node, and the siblings after it that continue the run. It stops at runLast, its
 -- members are the nodes that it goes to, no two nodes that begin a run go to the same one, and each node in a run has a first node.
--- Defines Goes, Ends, runAt, Headed. Proves length-runsOf, runLast-ends, goes-member, member-goes, goes-one, headed. Assumes nothing.
+-- Defines Goes, Ends, planRun, Headed. Proves length-runsOf, runLast-ends, goes-member, member-goes, goes-one, headed. Assumes nothing.
 use Prim.Native.Nat.{ℕ, zero, suc, _+_, _≤_, _<_}
 use native.Mathlib.Omega.{arith}
 use mathlib.Core.Bool.{Bool, true, false, not, _&&_, _||_, true≢false, false≢true}
@@ -19,7 +19,7 @@ use Rattle.theory.specs.Ranges.{pick-true, pick-false}
 use Rattle.theory.specs.TableFacts.{SoundFacts}
 use Rattle.theory.specs.TableLinks.{next-later, next-le, prevAt-less, prevAt-next}
 use Rattle.theory.specs.PlanPages.{good-node, good-continues, good-after}
-use Rattle.theory.specs.SiblingChains.{Reach, here, step, Before, reach-trans, reach-one, reach-after, reach-last, reach-stop, reach-stop-one, reach-common, reach-between}
+use Rattle.theory.specs.SiblingChains.{Reach, here, step, LastLink, reach-trans, reach-one, reach-after, reach-last, reach-stop, reach-stop-one, reach-common, reach-between}
 use Rattle.theory.specs.Chosen.{chosen, length-chosen}
 use Rattle.theory.specs.RunsFacts.{RunFacts, member-inside, inside-member}
 
@@ -62,17 +62,17 @@ goesOn-no t m v e a p =
     true≢false (sym on ∙ e)
 
 -- the run of node u
-abbrev pub runAt : List ℕ → List ℕ → ℕ → Run
-runAt t m u = record { first = u; last = runLast t m u }
+abbrev pub planRun : List ℕ → List ℕ → ℕ → Run
+planRun t m u = record { first = u; last = runLast t m u }
 
-pub runsOf-chosen : (t m : List ℕ) → runsOf t m ≡ chosen (hasMark m begins) (runAt t m) (nodeCount t)
+pub runsOf-chosen : (t m : List ℕ) → runsOf t m ≡ chosen (hasMark m begins) (planRun t m) (nodeCount t)
 unfolding runsOf
 runsOf-chosen t m = refl
 
 -- a run for each page
 pub length-runsOf : (t m : List ℕ) → length (runsOf t m) ≡ pageCount t m
 unfolding runsOf pageCount
-length-runsOf t m = length-chosen (hasMark m begins) (runAt t m) (nodeCount t)
+length-runsOf t m = length-chosen (hasMark m begins) (planRun t m) (nodeCount t)
 
 -- marks of the nodes of a run
 pub inRun-begins : (m : List ℕ) (v : ℕ) → hasMark m begins v ≡ true → inRun m v ≡ true
@@ -123,24 +123,24 @@ module _ {t : List ℕ} (s : SoundFacts t) (m : List ℕ) where
   pub ends-runLast : (u w : ℕ) → 1 ≤ u → u ≤ nodeCount t → Ends t m u w → runLast t m u ≡ w
   ends-runLast u w low high e = ends-same (runLast-ends u low high) e
 
-  pub runAt-facts : (u : ℕ) → 1 ≤ u → u ≤ nodeCount t → RunFacts t (runAt t m u)
-  runAt-facts u low high = record { low = low; high = high; after = reach-after (runLast-ends u low high .goes) }
+  pub planRun-facts : (u : ℕ) → 1 ≤ u → u ≤ nodeCount t → RunFacts t (planRun t m u)
+  planRun-facts u low high = record { low = low; high = high; after = reach-after (runLast-ends u low high .goes) }
 
   -- the run's members are the nodes that it goes to
-  pub goes-member : (u v : ℕ) → 1 ≤ u → u ≤ nodeCount t → Goes t m u v → isMember t v (runAt t m u) ≡ true
+  pub goes-member : (u v : ℕ) → 1 ≤ u → u ≤ nodeCount t → Goes t m u v → isMember t v (planRun t m u) ≡ true
   goes-member u v low high r =
       let e : Ends t m u (runLast t m u) = runLast-ends u low high in
-      inside-member s v (runAt t m u) (runAt-facts u low high) (reach-after r, reach-after (reach-stop r (e .goes) (e .stops)))
+      inside-member s v (planRun t m u) (planRun-facts u low high) (reach-after r, reach-after (reach-stop r (e .goes) (e .stops)))
 
-  pub member-goes : (u v : ℕ) → 1 ≤ u → u ≤ nodeCount t → isMember t v (runAt t m u) ≡ true → Goes t m u v
+  pub member-goes : (u v : ℕ) → 1 ≤ u → u ≤ nodeCount t → isMember t v (planRun t m u) ≡ true → Goes t m u v
   member-goes u v low high e =
-      let b = member-inside t v (runAt t m u) e in reach-between s (runLast-ends u low high .goes) (b .0) (b .1) low high
+      let b = member-inside t v (planRun t m u) e in reach-between s (runLast-ends u low high .goes) (b .0) (b .1) low high
 
   -- where it begins with a run's first node, they are in the run
   pub goes-inRun : (u v : ℕ) → hasMark m begins u ≡ true → Goes t m u v → inRun m v ≡ true
   goes-inRun u v first r = go (reach-last r)
     where
-      go : (u ≡ v) ⊎ Before t (λ w. hasMark m continues w ≡ true) u v → inRun m v ≡ true
+      go : (u ≡ v) ⊎ LastLink t (λ w. hasMark m continues w ≡ true) u v → inRun m v ≡ true
       go (inl e) = ap (inRun m) (sym e) ∙ inRun-begins m u first
       go (inr b) = inRun-continues m v (b .passed)
 
@@ -152,7 +152,7 @@ module _ {t : List ℕ} (s : SoundFacts t) (m : List ℕ) where
       both : (w : ℕ) → hasMark m begins w ≡ true → hasMark m continues w ≡ true → ⊥
       both w a b = omega (arith, eqb-true (markAt m w) 1 a, eqb-true (markAt m w) 2 b)
 
-      last : (w w′ : ℕ) → hasMark m begins w′ ≡ true → (w ≡ w′) ⊎ Before t (λ x. hasMark m continues x ≡ true) w w′ → w ≡ w′
+      last : (w w′ : ℕ) → hasMark m begins w′ ≡ true → (w ≡ w′) ⊎ LastLink t (λ x. hasMark m continues x ≡ true) w w′ → w ≡ w′
       last w w′ a (inl e) = e
       last w w′ a (inr b) = absurd (both w′ a (b .passed))
 

@@ -23,7 +23,7 @@ use Rattle.theory.specs.PlanPages.{pageOf-begins, pageOf-continues, page
 use Rattle.theory.specs.SiblingChains.{here, reach-trans, reach-one}
 use Rattle.theory.specs.Lists.{Mem, every-all, all-every, From, chosen-from, chosen-mem, countOf-chosen}
 use Rattle.theory.specs.RunsFacts.{run-path, none-runWith, HoldFacts, facts-holds, runWith-at, runWith-zero, home-run, home-up}
-use Rattle.theory.specs.RunsMarked.{Goes, Headed, headed, runAt, runsOf-chosen, neither-inRun, ends-runLast, runAt-facts, goes-member, member-goes, goes-inRun, goes-one}
+use Rattle.theory.specs.RunsMarked.{Goes, Headed, headed, planRun, runsOf-chosen, neither-inRun, ends-runLast, planRun-facts, goes-member, member-goes, goes-inRun, goes-one}
 
 -- the node that begins the page of v
 pub record OnPage (t m : List ℕ) (v : ℕ) : Type 0 where
@@ -37,51 +37,51 @@ pub record OnPage (t m : List ℕ) (v : ℕ) : Type 0 where
 module _ {t : List ℕ} (s : SoundFacts t) (m : List ℕ) (good : badMark t m ≡ Nowhere) where
   -- ---- They hold the tree
 
-  pub mem-from : (r : Run) → Mem r (runsOf t m) → From (hasMark m begins) (runAt t m) (nodeCount t) r
-  mem-from r h = chosen-from (hasMark m begins) (runAt t m) (nodeCount t) r (rw (runsOf-chosen t m) at h)
+  pub mem-from : (r : Run) → Mem r (runsOf t m) → From (hasMark m begins) (planRun t m) (nodeCount t) r
+  mem-from r h = chosen-from (hasMark m begins) (planRun t m) (nodeCount t) r (rw (runsOf-chosen t m) at h)
 
-  pub runs-mem : (u : ℕ) → 1 ≤ u → u ≤ nodeCount t → hasMark m begins u ≡ true → Mem (runAt t m u) (runsOf t m)
-  runs-mem u low high e = rw (runsOf-chosen t m) (chosen-mem (hasMark m begins) (runAt t m) (nodeCount t) u low high e)
+  pub runs-mem : (u : ℕ) → 1 ≤ u → u ≤ nodeCount t → hasMark m begins u ≡ true → Mem (planRun t m u) (runsOf t m)
+  runs-mem u low high e = rw (runsOf-chosen t m) (chosen-mem (hasMark m begins) (planRun t m) (nodeCount t) u low high e)
 
   -- a node is in the run of the node that begins it, and in no other
   members-count : (v : ℕ)
-      → countOf (isMember t v) (runsOf t m) ≡ countTo (nodeCount t) (λ u. hasMark m begins u && isMember t v (runAt t m u))
-  members-count v = rw (runsOf-chosen t m) (countOf-chosen (hasMark m begins) (runAt t m) (isMember t v) (nodeCount t))
+      → countOf (isMember t v) (runsOf t m) ≡ countTo (nodeCount t) (λ u. hasMark m begins u && isMember t v (planRun t m u))
+  members-count v = rw (runsOf-chosen t m) (countOf-chosen (hasMark m begins) (planRun t m) (isMember t v) (nodeCount t))
 
   pub in-one : (v : ℕ) → 1 ≤ v → v ≤ nodeCount t → inRun m v ≡ true → countOf (isMember t v) (runsOf t m) ≡ 1
   in-one v low high e =
       let h : Headed t m v = headed s m good v low high e in
       let top : h .head ≤ nodeCount t = omega (arith, h .high) in
-      let own : (hasMark m begins (h .head) && isMember t v (runAt t m (h .head))) ≡ true =
+      let own : (hasMark m begins (h .head) && isMember t v (planRun t m (h .head))) ≡ true =
       rw (h .mark, goes-member s m (h .head) v (h .low) top (h .goes)) in
       members-count v
-      ∙ countTo-only (λ u. hasMark m begins u && isMember t v (runAt t m u)) (nodeCount t) (h .head) (h .low) top own
+      ∙ countTo-only (λ u. hasMark m begins u && isMember t v (planRun t m u)) (nodeCount t) (h .head) (h .low) top own
       (λ u low′ high′ q.
-      let b = both-true (hasMark m begins u) (isMember t v (runAt t m u)) q in
+      let b = both-true (hasMark m begins u) (isMember t v (planRun t m u)) q in
       goes-one s m u (h .head) v low′ high′ (h .low) top (b .0) (h .mark) (member-goes s m u v low′ high′ (b .1)) (h .goes))
 
   not-member : (v : ℕ) → inRun m v ≡ false → (u : ℕ) → 1 ≤ u → u ≤ nodeCount t → hasMark m begins u ≡ true
-      → isMember t v (runAt t m u) ≡ false
-  not-member v e u low high a = go (isMember t v (runAt t m u)) refl
+      → isMember t v (planRun t m u) ≡ false
+  not-member v e u low high a = go (isMember t v (planRun t m u)) refl
     where
-      go : (b : Bool) → isMember t v (runAt t m u) ≡ b → isMember t v (runAt t m u) ≡ false
+      go : (b : Bool) → isMember t v (planRun t m u) ≡ b → isMember t v (planRun t m u) ≡ false
       go true q = absurd (true≢false (sym (goes-inRun s m u v a (member-goes s m u v low high q)) ∙ e))
       go false q = q
 
   pub in-none : (v : ℕ) → inRun m v ≡ false → countOf (isMember t v) (runsOf t m) ≡ 0
   in-none v e =
       members-count v
-      ∙ countTo-none (nodeCount t) (λ u. hasMark m begins u && isMember t v (runAt t m u))
+      ∙ countTo-none (nodeCount t) (λ u. hasMark m begins u && isMember t v (planRun t m u))
       (λ u low high. go u low high (hasMark m begins u) refl)
     where
       go : (u : ℕ) → 1 ≤ u → u ≤ nodeCount t → (b : Bool) → hasMark m begins u ≡ b
-          → (hasMark m begins u && isMember t v (runAt t m u)) ≡ false
+          → (hasMark m begins u && isMember t v (planRun t m u)) ≡ false
       go u low high true q = rw q (not-member v e u low high q)
       go u low high false q = rw q
 
-  root-run : runAt t m 1 ≡ rootRun
+  root-run : planRun t m 1 ≡ rootRun
   root-run =
-      run-path {r = runAt t m 1} {r′ = rootRun} refl
+      run-path {r = planRun t m 1} {r′ = rootRun} refl
       (ends-runLast s m 1 1 (omega arith) (s .count-low)
       (record { goes = here; stops = λ a e. omega (arith, s .root-alone) }))
 
@@ -90,7 +90,7 @@ module _ {t : List ℕ} (s : SoundFacts t) (m : List ℕ) (good : badMark t m �
       record {
         each =
             λ r h. let f = mem-from r h in
-            rw (f .same) (runAt-facts s m (f .number) (f .low) (f .high));
+            rw (f .same) (planRun-facts s m (f .number) (f .low) (f .high));
         root = rw root-run at (runs-mem 1 (omega arith) (s .count-low) (root-begins s m good));
         once = λ v low high. go v low high (inRun m v) refl;
       }
@@ -109,12 +109,12 @@ module _ {t : List ℕ} (s : SoundFacts t) (m : List ℕ) (good : badMark t m �
 
   pub runWith-goes : (u v : ℕ) → 1 ≤ u → u ≤ nodeCount t → hasMark m begins u ≡ true → Goes t m u v → runWith t (runsOf t m) v ≡ At u
   runWith-goes u v low high e r =
-      runWith-at s (runsOf t m) runs-facts v (runAt t m u) (runs-mem u low high e) (goes-member s m u v low high r)
+      runWith-at s (runsOf t m) runs-facts v (planRun t m u) (runs-mem u low high e) (goes-member s m u v low high r)
 
   pub runWith-out : (v : ℕ) → inRun m v ≡ false → runWith t (runsOf t m) v ≡ Nowhere
   runWith-out v e = none-runWith t (runsOf t m) v (λ r h. go r (mem-from r h))
     where
-      go : (r : Run) → From (hasMark m begins) (runAt t m) (nodeCount t) r → isMember t v r ≡ false
+      go : (r : Run) → From (hasMark m begins) (planRun t m) (nodeCount t) r → isMember t v r ≡ false
       go r f = ap (isMember t v) (f .same) ∙ not-member v e (f .number) (f .low) (f .high) (f .passed)
 
   page-upto : (f v : ℕ) → v ≤ f → 1 ≤ v → v ≤ nodeCount t → OnPage t m v
@@ -210,12 +210,12 @@ module _ {t : List ℕ} (s : SoundFacts t) (m : List ℕ) (good : badMark t m �
     λ e. firstTo-none (countTo (nodeCount t) (hasMark m begins)) (λ p. ltb (limitOf t) (pageWeight t m p))
         (λ p low high.
         let c = ranked (hasMark m begins) (nodeCount t) p low high in
-        let w : runWeight t (runsOf t m) (runAt t m (c .0)) ≤ limitOf t =
-        leb-true (runWeight t (runsOf t m) (runAt t m (c .0))) (limitOf t)
-        (every-all (λ r. leb (runWeight t (runsOf t m) r) (limitOf t)) (runsOf t m) e (runAt t m (c .0))
+        let w : runWeight t (runsOf t m) (planRun t m (c .0)) ≤ limitOf t =
+        leb-true (runWeight t (runsOf t m) (planRun t m (c .0))) (limitOf t)
+        (every-all (λ r. leb (runWeight t (runsOf t m) r) (limitOf t)) (runsOf t m) e (planRun t m (c .0))
         (runs-mem (c .0) (c .1 .low) (c .1 .high) (c .1 .passed))) in
         le-ltb (limitOf t) (pageWeight t m p)
-        (omega (arith, weight-first (c .0) (runAt t m (c .0)) refl (c .1 .passed), ap (pageWeight t m) (c .1 .rank)))),
+        (omega (arith, weight-first (c .0) (planRun t m (c .0)) refl (c .1 .passed), ap (pageWeight t m) (c .1 .rank)))),
     λ e. all-every (λ r. leb (runWeight t (runsOf t m) r) (limitOf t)) (runsOf t m)
         (λ r h.
         let f = mem-from r h in

@@ -1,10 +1,10 @@
 -- The chain of siblings after a node. `Reach t P u v` says: v is u, or comes after it by links to siblings that each satisfy P;
 -- `After t u v` asks nothing of them. In a table of sound form it is what `comesAfter` tests; it goes by number, two nodes after one or
--- before one are in one order, and all nodes of a chain have one parent. Defines Reach, After, Before. Assumes nothing.
+-- before one are in one order, and all nodes of a chain have one parent. Defines Reach, After, LastLink. Assumes nothing.
 use Prim.Native.Nat.{ℕ, zero, suc, _+_, _≤_, _<_}
 use native.Mathlib.Omega.{arith}
 use mathlib.Core.Bool.{Bool, true, false, not, _&&_, _||_}
-use mathlib.Core.Path.{_≡_, refl, sym, _∙_}
+use mathlib.Core.Path.{_≡_, refl, _∙_}
 use mathlib.Core.Logic.{_⊎_, inl, inr}
 use mathlib.Core.List.{List}
 use lib.Dec.{eqb}
@@ -43,18 +43,18 @@ reach-first here = inl refl
 reach-first (step a p r) = inr (a, p, r)
 
 -- the last link, or none
-pub record Before (t : List ℕ) (P : ℕ → Type 0) (u v : ℕ) : Type 0 where
+pub record LastLink (t : List ℕ) (P : ℕ → Type 0) (u v : ℕ) : Type 0 where
   pub from : ℕ
   pub low : 1 ≤ v
   pub link : nextAt t from ≡ v
   pub passed : P v
   pub reach : Reach t P u from
 
-pub reach-last : {t : List ℕ} {P : ℕ → Type 0} {u v : ℕ} → Reach t P u v → (u ≡ v) ⊎ Before t P u v
+pub reach-last : {t : List ℕ} {P : ℕ → Type 0} {u v : ℕ} → Reach t P u v → (u ≡ v) ⊎ LastLink t P u v
 reach-last here = inl refl
 reach-last {t} {P} {u} {v} (step a p r) = go (reach-last r)
   where
-    go : (nextAt t u ≡ v) ⊎ Before t P (nextAt t u) v → (u ≡ v) ⊎ Before t P u v
+    go : (nextAt t u ≡ v) ⊎ LastLink t P (nextAt t u) v → (u ≡ v) ⊎ LastLink t P u v
     go (inl e) = inr (record { from = u; low = rw e at a; link = e; passed = rw e at p; reach = here })
     go (inr b) = inr (record { from = b .from; low = b .low; link = b .link; passed = b .passed; reach = step a p (b .reach) })
 
@@ -129,7 +129,7 @@ module _ {t : List ℕ} (s : SoundFacts t) where
       → (u ≡ v) ⊎ ((1 ≤ prevAt t v) × P v × Reach t P u (prevAt t v))
   reach-prev {P} {u} {v} r low high = go (reach-last r)
     where
-      go : (u ≡ v) ⊎ Before t P u v → (u ≡ v) ⊎ ((1 ≤ prevAt t v) × P v × Reach t P u (prevAt t v))
+      go : (u ≡ v) ⊎ LastLink t P u v → (u ≡ v) ⊎ ((1 ≤ prevAt t v) × P v × Reach t P u (prevAt t v))
       go (inl e) = inl e
       go (inr b) =
           let range = reach-le (b .reach) low high in
@@ -148,7 +148,7 @@ module _ {t : List ℕ} (s : SoundFacts t) where
       go (inl x) = inl (step a p x)
       go (inr x) = back (reach-last x)
         where
-          back : (v ≡ nextAt t u) ⊎ Before t Q v (nextAt t u) → Reach t P u v ⊎ Reach t Q v u
+          back : (v ≡ nextAt t u) ⊎ LastLink t Q v (nextAt t u) → Reach t P u v ⊎ Reach t Q v u
           back (inl e) = inl (rw e (reach-one a p))
           back (inr b) =
               let range = reach-le (b .reach) low′ high′ in

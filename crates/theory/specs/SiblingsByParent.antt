@@ -1,4 +1,4 @@
--- Brothers of a table of sound form: a later node with the same parent comes after it in the chain (sibling-after). So the next sibling
+-- Siblings of a table of sound form: a later node with the same parent comes after it in the chain (sibling-after). So the next sibling
 -- of a node is the next node with its parent (next-by-parent), and its first child is the node after it where that has it for its parent
 -- (first-by-parent). Assumes nothing.
 use Prim.Native.Nat.{ℕ, zero, suc, _+_, _≤_, _<_}
@@ -67,7 +67,7 @@ module _ {t : List ℕ} (s : SoundFacts t) where
           by-order (prevAt t u) (prevAt-less t u (omega arith)) (prevAt-next t u one) one (parentAt-later t u (omega arith) one) ih
           (order-cases v (prevAt t u))
 
-  -- a later brother comes after it in the chain
+  -- a later sibling comes after it in the chain
   pub sibling-after : (v u : ℕ) → 1 ≤ v → v < u → u ≤ nodeCount t → parentAt t v ≡ parentAt t u → After t v u
   sibling-after v u low less high same = sibling-upto u u v (omega arith) low less high same
 

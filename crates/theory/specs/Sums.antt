@@ -1,6 +1,6 @@
--- Laws of sums of 1 to n beyond those of Ranges: sums by rows and by columns, a sum with one term, one term of a sum, the terms of a
--- choice. Assumes nothing.
-use Prim.Native.Nat.{ℕ, zero, suc, _+_, _≤_}
+-- Laws of sums of 1 to n beyond those of Ranges: sums by rows and by columns, a sum with one term, one term of a sum, a bound of
+-- all terms, the terms of a choice. Assumes nothing.
+use Prim.Native.Nat.{ℕ, zero, suc, _+_, _*_, _≤_}
 use native.Mathlib.Omega.{arith}
 use mathlib.Core.Bool.{Bool, true, false}
 use mathlib.Core.Path.{_≡_, refl, sym, _∙_, ap}
@@ -8,7 +8,7 @@ use mathlib.Core.Logic.{_⊎_, inl, inr}
 use lib.Dec.{eqb}
 use borrow.Author.Tests.{eq-eqb, ne-eqb}
 use Rattle.model.specs.Basics.{pick, sumTo}
-use Rattle.theory.specs.Ranges.{pick-true, pick-false, upto-suc, sumTo-zero, sumTo-suc, sumTo-cong, sumTo-add, sumTo-none}
+use Rattle.theory.specs.Ranges.{Upto, pick-true, pick-false, upto-suc, upto-less, upto-last, sumTo-zero, sumTo-suc, sumTo-cong, sumTo-add, sumTo-none}
 
 -- ---- Choices of numbers
 
@@ -64,3 +64,14 @@ sumTo-one (suc n) v f low high = go (upto-suc n v high) (sumTo-one n v f low)
     go : (v ≤ n) ⊎ (v ≡ suc n) → (v ≤ n → f v ≤ sumTo n f) → f v ≤ sumTo (suc n) f
     go (inl l) ih = omega (arith, ih l, sumTo-suc n f)
     go (inr e) ih = omega (arith, sumTo-suc n f, ap f e)
+
+-- all terms are k at most
+pub sumTo-most : (n k : ℕ) (f : ℕ → ℕ) → Upto n (λ v. f v ≤ k) → sumTo n f ≤ n * k
+sumTo-most zero k f h = omega (arith, sumTo-zero f)
+sumTo-most (suc n) k f h =
+    omega (
+      arith,
+      sumTo-suc n f,
+      sumTo-most n k f (upto-less (λ v. f v ≤ k) n h),
+      upto-last (λ v. f v ≤ k) n h,
+    )

@@ -1,17 +1,17 @@
 -- The table of a limit and a tree by shape. A table of sound form is the table of its limit and its tree, and the table of a limit
 -- and a tree with one root is of sound form, with that limit and that tree.
 -- Defines linkTo, records, encoded, Holds, Fits. Assumes nothing.
-use Prim.Native.Nat.{ℕ, zero, suc, _+_, _-_, _*_, _/_, _%_, _≤_, _<_}
+use Prim.Native.Nat.{ℕ, suc, _+_, _-_, _*_, _≤_, _<_}
 use native.Mathlib.Omega.{arith}
 use native.Mathlib.Nat.{add-zero, zero-add}
 use mathlib.Core.Path.{_≡_, refl, sym, _∙_, ap, ap₂}
 use mathlib.Core.List.{List, [], _∷_, _++_}
-use lib.ListN.{length, getD, drop, length-append, drop-of-length-le}
-use lib.Seq.{drop-cons}
+use lib.ListN.{length, length-append}
 use Rattle.model.specs.Table.{Bytes, maxNodes, maxLimit, wordAt, bytesOf, nodeCount, limitOf, fieldAt, weightAt, labelAt, firstAt, nextAt, tableBytes, Chain, end, node, treeOf}
+use Rattle.theory.specs.Words.{Words, word-small, words-nil, words-cons, words-append, words-bytes, length-bytesOf, wordAt-bytesOf, Holds, holds-bytesOf, holds-append, holds-join, holds-all}
 use Rattle.theory.specs.PlanShape.{size, EachWithin, Positive}
 use Rattle.theory.specs.TableFacts.{SoundFacts, AcceptedFacts}
-use Rattle.theory.specs.TableNumbered.{Numbered, none, some, size-node, numbered-some, numbered-size, numbered-walk, numbered-chain, sound-tree, tree-size, Each, numbered-each, positive-numbered, within-accepted}
+use Rattle.theory.specs.TableNumbered.{Numbered, none, some, size-node, numbered-some, numbered-size, numbered-walk, numbered-chain, sound-tree, tree-size, EachNode, numbered-each, positive-numbered, within-accepted}
 
 -- the link to a chain whose nodes are numbered from m + 1
 unfoldable pub linkTo : ℕ → Chain → ℕ
@@ -26,84 +26,6 @@ records m (node w l kids next) =
 
 unfoldable pub encoded : ℕ → Chain → List ℕ
 encoded K c = bytesOf (size c ∷ K ∷ records 0 c)
-
--- the words of a string from word i on
-unfoldable pub Holds : List ℕ → ℕ → List ℕ → Type 0
-Holds t i [] = Unit {0}
-Holds t i (w ∷ ws) = (wordAt t i ≡ w) × Holds t (suc i) ws
-
--- ---- Words and bytes
-
-pub length-bytesOf : (ws : List ℕ) → length (bytesOf ws) ≡ 2 * length ws
-unfolding bytesOf
-length-bytesOf [] = refl
-length-bytesOf (w ∷ ws) = omega (arith, length-bytesOf ws)
-
--- a word after the first two bytes is a word of the rest
-wordAt-suc : (a b : ℕ) (t : List ℕ) (i : ℕ) → wordAt (a ∷ b ∷ t) (suc i) ≡ wordAt t i
-unfolding wordAt
-wordAt-suc a b t i =
-    let high : 2 * suc i ≡ suc (suc (2 * i)) = omega arith in
-    let low : 2 * suc i + 1 ≡ suc (suc (2 * i + 1)) = omega arith in
-    rw (low, high)
-
-pub wordAt-bytesOf : (ws : List ℕ) (i : ℕ) → wordAt (bytesOf ws) i ≡ getD ws i 0
-unfolding wordAt bytesOf
-wordAt-bytesOf [] i = refl
-wordAt-bytesOf (w ∷ ws) zero = omega arith
-wordAt-bytesOf (w ∷ ws) (suc i) = wordAt-suc (w / 256) (w % 256) (bytesOf ws) i ∙ wordAt-bytesOf ws i
-
-holds-words : (t : List ℕ) (i : ℕ) (ws : List ℕ) → ((j : ℕ) → wordAt t (i + j) ≡ getD ws j 0) → Holds t i ws
-unfolding Holds
-holds-words t i [] h = tt
-holds-words t i (w ∷ ws) h = (
-  ap (wordAt t) (omega arith) ∙ h 0,
-  holds-words t (suc i) ws (λ j. ap (wordAt t) (omega arith) ∙ h (suc j)),
-)
-
-holds-bytesOf : (ws : List ℕ) → Holds (bytesOf ws) 0 ws
-holds-bytesOf ws = holds-words (bytesOf ws) 0 ws (λ j. ap (wordAt (bytesOf ws)) (omega arith) ∙ wordAt-bytesOf ws j)
-
-holds-at : (t : List ℕ) {i j : ℕ} (ws : List ℕ) → i ≡ j → Holds t i ws → Holds t j ws
-holds-at t ws q h = rw q at h
-
-holds-append : (t : List ℕ) (i : ℕ) (xs ys : List ℕ) → Holds t i (xs ++ ys) → Holds t i xs × Holds t (i + length xs) ys
-unfolding Holds
-holds-append t i [] ys h = (tt, holds-at t ys (omega arith) h)
-holds-append t i (x ∷ xs) ys h =
-    let both = holds-append t (suc i) xs ys (h .1) in
-    ((h .0, both .0), holds-at t ys (omega arith) (both .1))
-
-holds-join : (t : List ℕ) (i : ℕ) (xs ys : List ℕ) → Holds t i xs → Holds t (i + length xs) ys → Holds t i (xs ++ ys)
-unfolding Holds
-holds-join t i [] ys h k = holds-at t ys (omega arith) k
-holds-join t i (x ∷ xs) ys h k = (h .0, holds-join t (suc i) xs ys (h .1) (holds-at t ys (omega arith) k))
-
-word-bytes : (t : List ℕ) (i : ℕ) → Bytes t → (wordAt t i / 256 ≡ getD t (2 * i) 0) × (wordAt t i % 256 ≡ getD t (2 * i + 1) 0)
-unfolding wordAt
-word-bytes t i h = omega (arith, h (2 * i), h (2 * i + 1))
-
-pub word-small : (t : List ℕ) (i : ℕ) → Bytes t → wordAt t i < 65536
-unfolding wordAt
-word-small t i h = omega (arith, h (2 * i), h (2 * i + 1))
-
--- the words of a string of bytes tell it
-holds-drop : (t : List ℕ) (i : ℕ) (ws : List ℕ) → Bytes t → Holds t i ws → length t ≡ 2 * (i + length ws)
-    → drop (2 * i) t ≡ bytesOf ws
-unfolding Holds bytesOf
-holds-drop t i [] h k long = drop-of-length-le t {i = 2 * i} (omega arith)
-holds-drop t i (w ∷ ws) h k long =
-    let two = word-bytes t i h in
-    let high : w / 256 ≡ getD t (2 * i) 0 = ap (λ x. x / 256) (sym (k .0)) ∙ two .0 in
-    let low : w % 256 ≡ getD t (suc (2 * i)) 0 = ap (λ x. x % 256) (sym (k .0)) ∙ two .1 ∙ ap (λ j. getD t j 0) (omega arith) in
-    let rest : drop (2 * suc i) t ≡ bytesOf ws = holds-drop t (suc i) ws h (k .1) (omega arith) in
-    let same : 2 * suc i ≡ suc (suc (2 * i)) = omega arith in
-    drop-cons t (2 * i) 0 (omega arith)
-    ∙ ap₂ _∷_ (sym high)
-    (drop-cons t (suc (2 * i)) 0 (omega arith) ∙ ap₂ _∷_ (sym low) (ap (λ j. drop j t) (sym same) ∙ rest))
-
-pub holds-all : (t ws : List ℕ) → Bytes t → Holds t 0 ws → length t ≡ 2 * length ws → t ≡ bytesOf ws
-holds-all t ws h k long = holds-drop t 0 ws h k (omega arith)
 
 -- ---- Records
 
@@ -265,21 +187,6 @@ module _ (K w l : ℕ) (kids : Chain) where
 
 -- ---- Bytes
 
-Small : List ℕ → Type 0
-Small [] = Unit {0}
-Small (w ∷ ws) = (w < 65536) × Small ws
-
-small-append : (xs ys : List ℕ) → Small xs → Small ys → Small (xs ++ ys)
-unfolding Small
-small-append [] ys h k = k
-small-append (x ∷ xs) ys h k = (h .0, small-append xs ys (h .1) k)
-
-small-bytes : (ws : List ℕ) → Small ws → Bytes (bytesOf ws)
-unfolding Small bytesOf
-small-bytes [] h = λ i. omega arith
-small-bytes (w ∷ ws) h =
-    λ i. elim i [ zero ↦ omega arith | suc j ↦ elim j [ zero ↦ omega arith | suc k ↦ small-bytes ws (h .1) k ] ]
-
 -- the weight and the label of each node fit a word
 abbrev pub Fits : ℕ → ℕ → Type 0
 Fits w l = (w < 65536) × (l < 65536)
@@ -289,33 +196,30 @@ unfolding linkTo size
 linkTo-le m end = omega arith
 linkTo-le m (node w l kids next) = omega arith
 
-records-small : (m : ℕ) (c : Chain) → Each Fits c → m + size c ≤ maxNodes → Small (records m c)
-unfolding Small records Each size
-records-small m end h k = tt
-records-small m (node w l kids next) h k = (
-  h .0 .0,
-  (
-    h .0 .1,
-    (
-      omega (arith, linkTo-le (suc m) kids),
-      (
-        omega (arith, linkTo-le (suc m + size kids) next),
-        small-append (records (suc m) kids) (records (suc m + size kids) next)
-            (records-small (suc m) kids (h .1) (omega arith))
-            (records-small (suc m + size kids) next (h .2) (omega arith)),
-      ),
-    ),
-  ),
-)
+records-words : (m : ℕ) (c : Chain) → EachNode Fits c → m + size c ≤ maxNodes → Words (records m c)
+unfolding records EachNode size
+records-words m end h k = words-nil
+records-words m (node w l kids next) h k =
+    let last : ℕ = suc m + size kids in
+    let a : ℕ = linkTo (suc m) kids in
+    let b : ℕ = linkTo last next in
+    let rest : List ℕ = records (suc m) kids ++ records last next in
+    words-cons w (l ∷ a ∷ b ∷ rest) (h .0 .0)
+    (words-cons l (a ∷ b ∷ rest) (h .0 .1)
+    (words-cons a (b ∷ rest) (omega (arith, linkTo-le (suc m) kids))
+    (words-cons b rest (omega (arith, linkTo-le last next))
+    (words-append (records (suc m) kids) (records last next)
+    (records-words (suc m) kids (h .1) (omega arith)) (records-words last next (h .2) (omega arith))))))
 
-pub encoded-bytes : (K : ℕ) (c : Chain) → K ≤ maxLimit → size c ≤ maxNodes → Each Fits c → Bytes (encoded K c)
-unfolding encoded Small
+pub encoded-bytes : (K : ℕ) (c : Chain) → K ≤ maxLimit → size c ≤ maxNodes → EachNode Fits c → Bytes (encoded K c)
+unfolding encoded
 encoded-bytes K c high small fits =
-    small-bytes (size c ∷ K ∷ records 0 c)
-    (omega arith, (omega arith, records-small 0 c fits (omega arith)))
+    words-bytes (size c ∷ K ∷ records 0 c)
+    (words-cons (size c) (K ∷ records 0 c) (omega arith)
+    (words-cons K (records 0 c) (omega arith) (records-words 0 c fits (omega arith))))
 
 -- the tree of a table of bytes has weights and labels of a word
-pub tree-fits : {t : List ℕ} → SoundFacts t → Bytes t → Each Fits (treeOf t)
+pub tree-fits : {t : List ℕ} → SoundFacts t → Bytes t → EachNode Fits (treeOf t)
 unfolding fieldAt
 tree-fits {t} s h =
     numbered-each Fits (sound-tree s) (λ u low high. (word-small t (2 + 4 * (u - 1) + 0) h, word-small t (2 + 4 * (u - 1) + 1) h))

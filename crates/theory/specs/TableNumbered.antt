@@ -50,7 +50,7 @@ numbered-none none z = (refl, refl)
 numbered-none (some k s) z = absurd (omega arith)
 
 -- a link v: the node v, its children up to some number, and its siblings after them
-pub record Taken (t : List ℕ) (m v : ℕ) (c : Chain) (e : ℕ) : Type 0 where
+pub record NumberedNode (t : List ℕ) (m v : ℕ) (c : Chain) (e : ℕ) : Type 0 where
   pub kids : Chain
   pub next : Chain
   pub last : ℕ
@@ -59,7 +59,7 @@ pub record Taken (t : List ℕ) (m v : ℕ) (c : Chain) (e : ℕ) : Type 0 where
   pub below : Numbered t v (firstAt t v) kids last
   pub after : Numbered t last (nextAt t v) next e
 
-pub numbered-some : {t : List ℕ} {m v e : ℕ} {c : Chain} → Numbered t m v c e → 1 ≤ v → Taken t m v c e
+pub numbered-some : {t : List ℕ} {m v e : ℕ} {c : Chain} → Numbered t m v c e → 1 ≤ v → NumberedNode t m v c e
 numbered-some none low = absurd (omega arith)
 numbered-some (some {e₁ = last} {kids = kids} {next = next} k s) low =
     record { kids = kids; next = next; last = last; here = refl; shape = refl; below = k; after = s }
@@ -193,7 +193,7 @@ pub record Rooted (t : List ℕ) : Type 0 where
 
 pub sound-root : {t : List ℕ} → SoundFacts t → Rooted t
 sound-root {t} s =
-    let r : Taken t 0 1 (treeOf t) (nodeCount t) = numbered-some (sound-tree s) (omega arith) in
+    let r : NumberedNode t 0 1 (treeOf t) (nodeCount t) = numbered-some (sound-tree s) (omega arith) in
     let alone = numbered-none (r .after) (s .root-alone) in
     record {
       kids = r .kids;
@@ -207,9 +207,9 @@ tree-size s = omega (arith, numbered-size (sound-tree s))
 -- ---- What holds of every node
 
 -- P of the weight and the label of each node of a chain
-unfoldable pub Each : (ℕ → ℕ → Type 0) → Chain → Type 0
-Each P end = Unit {0}
-Each P (node w l kids next) = P w l × Each P kids × Each P next
+unfoldable pub EachNode : (ℕ → ℕ → Type 0) → Chain → Type 0
+EachNode P end = Unit {0}
+EachNode P (node w l kids next) = P w l × EachNode P kids × EachNode P next
 
 abbrev pub Between : ℕ → ℕ → (ℕ → Type 0) → Type 0
 Between m e P = (u : ℕ) → m < u → u ≤ e → P u
@@ -225,8 +225,8 @@ between-join P m e₁ e₂ here below after u low high = go (leb u (suc m)) refl
 
 module _ (P : ℕ → ℕ → Type 0) where
   pub numbered-each : {t : List ℕ} {m v e : ℕ} {c : Chain} → Numbered t m v c e → Between m e (λ u. P (weightAt t u) (labelAt t u))
-      → Each P c
-  unfolding Each
+      → EachNode P c
+  unfolding EachNode
   numbered-each none h = tt
   numbered-each (some {m = m} k s) h = (
     h (suc m) (omega arith) (omega (arith, numbered-le k, numbered-le s)),
@@ -234,23 +234,23 @@ module _ (P : ℕ → ℕ → Type 0) where
     numbered-each s (λ u low high. h u (omega (arith, numbered-le k)) (omega arith)),
   )
 
-  pub each-numbered : {t : List ℕ} {m v e : ℕ} {c : Chain} → Numbered t m v c e → Each P c
+  pub each-numbered : {t : List ℕ} {m v e : ℕ} {c : Chain} → Numbered t m v c e → EachNode P c
       → Between m e (λ u. P (weightAt t u) (labelAt t u))
-  unfolding Each
+  unfolding EachNode
   each-numbered none h = λ u low high. absurd (omega arith)
   each-numbered {t} (some {m = m} {e₁ = e₁} {e₂ = e₂} k s) h =
       between-join (λ u. P (weightAt t u) (labelAt t u)) m e₁ e₂ (h .0) (each-numbered k (h .1)) (each-numbered s (h .2))
 
-pub each-within : (K : ℕ) (c : Chain) → Each (λ w l. w ≤ K) c ↔ EachWithin K c
-unfolding Each EachWithin
+pub each-within : (K : ℕ) (c : Chain) → EachNode (λ w l. w ≤ K) c ↔ EachWithin K c
+unfolding EachNode EachWithin
 each-within K end = (λ h. h, λ h. h)
 each-within K (node w l kids next) = (
   λ h. (h .0, each-within K kids .0 (h .1), each-within K next .0 (h .2)),
   λ h. (h .0, each-within K kids .1 (h .1), each-within K next .1 (h .2)),
 )
 
-pub each-positive : (c : Chain) → Each (λ w l. 1 ≤ w) c ↔ Positive c
-unfolding Each Positive
+pub each-positive : (c : Chain) → EachNode (λ w l. 1 ≤ w) c ↔ Positive c
+unfolding EachNode Positive
 each-positive end = (λ h. h, λ h. h)
 each-positive (node w l kids next) = (
   λ h. (h .0, each-positive kids .0 (h .1), each-positive next .0 (h .2)),
