@@ -12,7 +12,8 @@ use lib.Seq.{getD-append-seam}
 use lib.Dec.{leb}
 use borrow.Author.Tests.{leb-true, leb-false}
 use Rattle.model.specs.Basics.{pick, countTo, listTo}
-use Rattle.theory.specs.Ranges.{Upto, pick-true, pick-false, upto-suc, countTo-zero, countTo-suc, countTo-yes, countTo-no, listTo-zero, listTo-suc, append-nil}
+use Rattle.theory.specs.Ranges.{Upto, pick-true, pick-false, upto-suc, countTo-zero, countTo-suc, countTo-yes}
+use Rattle.theory.specs.Ranges.{countTo-no, listTo-zero, listTo-suc, append-nil}
 
 module _ (p : ℕ → Bool) where
   countTo-step : (n : ℕ) → countTo n p ≤ countTo (suc n) p

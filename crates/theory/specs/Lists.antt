@@ -5,7 +5,8 @@ use native.Mathlib.Omega.{arith}
 use mathlib.Core.Bool.{Bool, true, false, _&&_, true≢false}
 use mathlib.Core.Path.{_≡_, refl, sym, _∙_, ap}
 use mathlib.Core.Logic.{_⊎_, inl, inr}
-use mathlib.Core.List.{List, [], _∷_, _++_, List·Memᴰ, List·Memᴰ·head, List·Memᴰ·tail, List·Memᴰ·not-nil, List·Memᴰ·append-cases, List·Memᴰ·eq-of-singleton, Memᴰ·append-left, Memᴰ·append-right}
+use mathlib.Core.List.{List, [], _∷_, _++_, List·Memᴰ, List·Memᴰ·head, List·Memᴰ·tail, List·Memᴰ·not-nil}
+use mathlib.Core.List.{List·Memᴰ·append-cases, List·Memᴰ·eq-of-singleton, Memᴰ·append-left, Memᴰ·append-right}
 use Rattle.model.specs.Basics.{countTo, every}
 use Rattle.model.specs.Runs.{countOf}
 use Rattle.theory.specs.Bools.{both-true}
@@ -43,7 +44,7 @@ module _ {ℓ} {X : Type ℓ} (p : X → Bool) where
   unfolding countOf
   countOf-no x xs e = pick-false (p x) (suc (countOf p xs)) (countOf p xs) e
 
-  pub countOf-more : (x : X) (xs : List X) → countOf p xs ≤ countOf p (x ∷ xs)
+  countOf-more : (x : X) (xs : List X) → countOf p xs ≤ countOf p (x ∷ xs)
   countOf-more x xs = go (p x) refl
     where
       go : (b : Bool) → p x ≡ b → countOf p xs ≤ countOf p (x ∷ xs)
@@ -74,7 +75,7 @@ module _ {ℓ} {X : Type ℓ} (p : X → Bool) where
   countOf-one (z ∷ zs) x y h (List·Memᴰ·tail a) (List·Memᴰ·tail b) e e′ =
       countOf-one zs x y (omega (arith, countOf-more z zs)) a b e e′
 
-  pub countOf-append : (xs ys : List X) → countOf p (xs ++ ys) ≡ countOf p xs + countOf p ys
+  countOf-append : (xs ys : List X) → countOf p (xs ++ ys) ≡ countOf p xs + countOf p ys
   countOf-append [] ys = omega (arith, countOf-nil)
   countOf-append (x ∷ xs) ys = go (p x) refl (countOf-append xs ys)
     where

@@ -27,7 +27,7 @@ use Rattle.theory.specs.PlanMarks.{weighed-from, allowed-from}
 
 -- ---- What page x weighs, where the pages of a list are numbered from n + 1
 
-unfoldable pub pageIn : ℕ → List ℕ → ℕ → ℕ
+unfoldable pageIn : ℕ → List ℕ → ℕ → ℕ
 pageIn n [] x = 0
 pageIn n (p ∷ ps) x = pick (eqb (suc n) x) p 0 + pageIn (suc n) ps x
 
@@ -67,9 +67,9 @@ pageIn-at n (p ∷ ps) (suc i) =
 
 -- The nodes v + 1 to e, in a chain under a parent on page q and after a sibling on page r, come to w: so much stays on q, so much is
 -- carried to r, and the pages that begin are the next ones, in order.
-pub record Adds (t m : List ℕ) (v e q r : ℕ) (w : Weights) : Type 0 where
-  pub count : countTo e (hasMark m begins) ≡ countTo v (hasMark m begins) + length (w .pages)
-  pub weight : (x : ℕ)
+record Adds (t m : List ℕ) (v e q r : ℕ) (w : Weights) : Type 0 where
+  count : countTo e (hasMark m begins) ≡ countTo v (hasMark m begins) + length (w .pages)
+  weight : (x : ℕ)
       → weightTo e t m x
       ≡ weightTo v t m x + pick (eqb q x) (w .stay) 0 + pick (eqb r x) (w .carry) 0 + pageIn (countTo v (hasMark m begins)) (w .pages) x
 

@@ -9,7 +9,8 @@ use native.Mathlib.Omega.{arith}
 use lib.ListN.{length, getD}
 use Rattle.model.specs.Table.{Chain, end, node}
 use Rattle.theory.specs.PlanShape.{size, allowed, joined, weighed, AllWithin}
-use Rattle.theory.specs.PlanWeighs.{Weighs, weighs-end, weighs-stays, weighs-begins, weighs-continues, node-weighed}
+use Rattle.theory.specs.PlanWeighs.{Weighs, weighs-end, weighs-stays, weighs-begins, weighs-continues}
+use Rattle.theory.specs.PlanWeighs.{node-weighed}
 
 -- what the marks of a chain come to, however many pages begin in it
 pub record MarksLaid (K : ℕ) (run : Bool) (c : Chain) (marks : List ℕ) (stay carry : ℕ) : Type 0 where
@@ -29,7 +30,7 @@ module _ (K w l : ℕ) {kids next : Chain} {a b : List ℕ} {sa ca sb cb : ℕ} 
       record { count = _; weighs = weighs-begins w l kids next a b run (in-kids .weighs) (in-next .weighs) fits }
 
   -- the page that the node begins comes first
-  pub laid-begins-page : MarksLaid K true next b sb cb
+  laid-begins-page : MarksLaid K true next b sb cb
       → weighed (node w l kids next) (1 ∷ (a ++ b)) .pages ≡ (w + sa + cb) ∷ (weighed kids a .pages ++ weighed next b .pages)
   unfolding joined
   laid-begins-page in-next =

@@ -20,14 +20,15 @@ use Rattle.theory.specs.Bools.{three-true}
 use Rattle.theory.specs.Ranges.{Upto}
 use Rattle.theory.specs.TableFacts.{SoundFacts}
 use Rattle.theory.specs.PlanShape.{size, runs, allowedMark, allowed, joined, weighed}
-use Rattle.theory.specs.TableNumbered.{Numbered, none, some, numbered-size, numbered-le, Between, between-join, Rooted, sound-root}
+use Rattle.theory.specs.TableNumbered.{Numbered, none, some, numbered-size, numbered-le, Between, between-join}
+use Rattle.theory.specs.TableNumbered.{Rooted, sound-root}
 use Rattle.theory.specs.TableLinks.{next-prev, first-prev}
 use Rattle.theory.specs.PlanPages.{bad-none, good-first, good-later}
 
 -- ---- The marks of a chain, taken from the marks of the table
 
 -- the marks from node v on
-pub marks-from : (m : List ℕ) (v : ℕ) → v < length m → drop v m ≡ markAt m (suc v) ∷ drop (suc v) m
+marks-from : (m : List ℕ) (v : ℕ) → v < length m → drop v m ≡ markAt m (suc v) ∷ drop (suc v) m
 unfolding markAt
 marks-from m v h = let same : suc v - 1 ≡ v = omega arith in rw same (drop-cons m v 0 h)
 
@@ -47,7 +48,7 @@ module _ (m : List ℕ) (v w l : ℕ) (kids next : Chain) (last : ℕ) (ends : l
 -- ---- Good marks are allowed marks
 
 -- the sibling just before a node is there, and in a run
-unfoldable pub afterRun : List ℕ → List ℕ → ℕ → Bool
+unfoldable afterRun : List ℕ → List ℕ → ℕ → Bool
 afterRun t m v = not (eqb (prevAt t v) 0) && inRun m (prevAt t v)
 
 mark-allowed : (after : Bool) (k : ℕ) → pick (eqb k 2) after (eqb k 0 || eqb k 1) ≡ allowedMark after k

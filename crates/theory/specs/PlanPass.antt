@@ -13,7 +13,8 @@ use Rattle.model.specs.Table.{nodeCount, weightAt, firstAt}
 use Rattle.model.specs.Plan.{prevAt, parentAt, hasMark, begins, continues, pageFrom, pageOf}
 use Rattle.theory.specs.Ranges.{pick-true, pick-false, pick-both, sumTo-zero, sumTo-suc, countTo-zero, countTo-le}
 use Rattle.theory.specs.TableFacts.{SoundFacts}
-use Rattle.theory.specs.TableLinks.{first-step, prevAt-none, prevAt-less, parentAt-none, parentAt-one, parentAt-less, parentAt-later, parent-low, parent-first}
+use Rattle.theory.specs.TableLinks.{first-step, prevAt-none, prevAt-less, parentAt-none, parentAt-one}
+use Rattle.theory.specs.TableLinks.{parentAt-less, parentAt-later, parent-low, parent-first}
 
 -- ---- The step back
 

@@ -12,7 +12,7 @@ use lib.Seq.{drop-append-le, drop-at}
 use Rattle.model.specs.Table.{Chain, end, node}
 use Rattle.theory.specs.PlanShape.{size, runs, allowedMark, allowed, joined, weighed, AllWithin}
 
-pub weighed-front : (c : Chain) (ms ns : List ℕ) → size c ≤ length ms → weighed c (ms ++ ns) ≡ weighed c ms
+weighed-front : (c : Chain) (ms ns : List ℕ) → size c ≤ length ms → weighed c (ms ++ ns) ≡ weighed c ms
 unfolding size weighed
 weighed-front end ms ns h = refl
 weighed-front (node w l kids next) [] ns h = absurd (omega arith)
@@ -20,7 +20,7 @@ weighed-front (node w l kids next) (k ∷ ms) ns h =
     let kept : size next ≤ length (drop (size kids) ms) = simp length-drop (omega arith) in
     rw (weighed-front kids ms ns (omega arith), drop-append-le (size kids) ms ns (omega arith), weighed-front next (drop (size kids) ms) ns kept)
 
-pub allowed-front : (after : Bool) (c : Chain) (ms ns : List ℕ) → size c ≤ length ms → allowed after c (ms ++ ns) ≡ allowed after c ms
+allowed-front : (after : Bool) (c : Chain) (ms ns : List ℕ) → size c ≤ length ms → allowed after c (ms ++ ns) ≡ allowed after c ms
 unfolding size allowed
 allowed-front after end ms ns h = refl
 allowed-front after (node w l kids next) [] ns h = absurd (omega arith)
@@ -28,7 +28,7 @@ allowed-front after (node w l kids next) (k ∷ ms) ns h =
     let kept : size next ≤ length (drop (size kids) ms) = simp length-drop (omega arith) in
     rw (allowed-front false kids ms ns (omega arith), drop-append-le (size kids) ms ns (omega arith), allowed-front (runs k) next (drop (size kids) ms) ns kept)
 
-pub all-within-append : (K : ℕ) (ps qs : List ℕ) → AllWithin K ps → AllWithin K qs → AllWithin K (ps ++ qs)
+all-within-append : (K : ℕ) (ps qs : List ℕ) → AllWithin K ps → AllWithin K qs → AllWithin K (ps ++ qs)
 unfolding AllWithin
 all-within-append K [] qs p q = q
 all-within-append K (x ∷ ps) qs p q = (p .0, all-within-append K ps qs (p .1) q)

@@ -53,7 +53,7 @@ unfolding when
 when-nowhere true p e = absurd (at-nowhere p e)
 when-nowhere false p e = refl
 
-pub when-at : (b : Bool) (p q : ℕ) → when b p ≡ At q → (b ≡ true) × (p ≡ q)
+when-at : (b : Bool) (p q : ℕ) → when b p ≡ At q → (b ≡ true) × (p ≡ q)
 unfolding when
 when-at true p q e = (refl, at-same e)
 when-at false p q e = absurd (at-nowhere q (sym e))
@@ -93,7 +93,7 @@ upto-suc n v h = go (leb v n) refl
     go false e = let l : n < v = leb-false v n e in inr (omega arith)
 
 -- what holds of 1 to n and of n + 1 holds of 1 to n + 1, and back
-pub upto-add {ℓ} : (P : ℕ → Type ℓ) (n : ℕ) → Upto n P → P (suc n) → Upto (suc n) P
+upto-add {ℓ} : (P : ℕ → Type ℓ) (n : ℕ) → Upto n P → P (suc n) → Upto (suc n) P
 upto-add P n below last v low high = go (upto-suc n v high)
   where
     go : (v ≤ n) ⊎ (v ≡ suc n) → P v
@@ -190,7 +190,7 @@ pub firstTo-suc : (n : ℕ) (p : ℕ → Bool) → firstTo (suc n) p ≡ atPlace
 unfolding firstTo
 firstTo-suc n p = refl
 
-pub firstTo-found : (n v : ℕ) (p : ℕ → Bool) → firstTo n p ≡ At v → firstTo (suc n) p ≡ At v
+firstTo-found : (n v : ℕ) (p : ℕ → Bool) → firstTo n p ≡ At v → firstTo (suc n) p ≡ At v
 firstTo-found n v p e = firstTo-suc n p ∙ atPlace-at (firstTo n p) v At (when (p (suc n)) (suc n)) e
 
 pub firstTo-further : (n : ℕ) (p : ℕ → Bool) → firstTo n p ≡ Nowhere → firstTo (suc n) p ≡ when (p (suc n)) (suc n)
@@ -268,7 +268,7 @@ pub lastTo-zero : (p : ℕ → Bool) → lastTo 0 p ≡ 0
 unfolding lastTo
 lastTo-zero p = refl
 
-pub lastTo-suc : (n : ℕ) (p : ℕ → Bool) → lastTo (suc n) p ≡ pick (p (suc n)) (suc n) (lastTo n p)
+lastTo-suc : (n : ℕ) (p : ℕ → Bool) → lastTo (suc n) p ≡ pick (p (suc n)) (suc n) (lastTo n p)
 unfolding lastTo
 lastTo-suc n p = refl
 
@@ -291,7 +291,7 @@ lastTo-none zero p h = lastTo-zero p
 lastTo-none (suc n) p h =
     lastTo-no n p (upto-last (λ v. p v ≡ false) n h) ∙ lastTo-none n p (upto-less (λ v. p v ≡ false) n h)
 
-pub lastTo-nothing : (n : ℕ) (p : ℕ → Bool) → lastTo n p ≡ 0 → Upto n (λ v. p v ≡ false)
+lastTo-nothing : (n : ℕ) (p : ℕ → Bool) → lastTo n p ≡ 0 → Upto n (λ v. p v ≡ false)
 lastTo-nothing zero p e = λ v low high. absurd (omega arith)
 lastTo-nothing (suc n) p e = go (p (suc n)) refl (lastTo-nothing n p)
   where
@@ -324,7 +324,7 @@ lastTo-at (suc n) v p e low = go (p (suc n)) refl (lastTo-at n v p)
         }
 
 -- the last one that passes is found
-pub lastTo-last : (n v : ℕ) (p : ℕ → Bool) → Last n p v → lastTo n p ≡ v
+lastTo-last : (n v : ℕ) (p : ℕ → Bool) → Last n p v → lastTo n p ≡ v
 lastTo-last n v p f = go (leb 1 (lastTo n p)) refl
   where
     go : (b : Bool) → leb 1 (lastTo n p) ≡ b → lastTo n p ≡ v

@@ -10,13 +10,15 @@ use mathlib.Core.List.{List}
 use lib.Dec.{eqb}
 use borrow.Author.Tests.{eqb-true, eqb-false, eq-eqb}
 use Rattle.model.specs.Table.{nodeCount, nextAt}
-use Rattle.model.specs.Plan.{prevAt, parentAt, stays, begins, continues, markAt, hasMark, inRun, goodMark, badMark, runLast}
+use Rattle.model.specs.Plan.{prevAt, parentAt, stays, begins, continues, markAt, hasMark, inRun, goodMark, badMark}
+use Rattle.model.specs.Plan.{runLast}
 use Rattle.model.specs.declared.Place.the-variants.{Nowhere}
 use Rattle.theory.specs.Bools.{either-true}
 use Rattle.theory.specs.Ranges.{Upto, pick-false}
 use Rattle.theory.specs.TableFacts.{SoundFacts}
 use Rattle.theory.specs.TableLinks.{next-le}
-use Rattle.theory.specs.SiblingChains.{After, LastLink, here, step, reach-after, reach-last, reach-total, reach-stop, reach-le, reach-between, reach-parent}
+use Rattle.theory.specs.SiblingChains.{After, LastLink, here, step, reach-after, reach-last, reach-total}
+use Rattle.theory.specs.SiblingChains.{reach-stop, reach-le, reach-between, reach-parent}
 use Rattle.theory.specs.SiblingsByParent.{sibling-after}
 use Rattle.theory.specs.PlanPages.{bad-none, good-first, good-later, good-continues, good-after}
 use Rattle.theory.specs.RunsMarked.{Goes, Ends, runLast-ends, ends-runLast, inRun-continues, Headed, headed}

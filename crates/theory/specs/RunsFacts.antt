@@ -11,11 +11,13 @@ use borrow.Author.Tests.{eqb-true, eq-eqb, leb-true, le-leb}
 use Rattle.model.specs.Basics.{countTo, every}
 use Rattle.model.specs.Table.{nodeCount}
 use Rattle.model.specs.Plan.{parentAt}
-use Rattle.model.specs.Runs.{Run, comesAfter, isRun, isMember, rootRun, isRootRun, countOf, inOneAtMost, holds, runWith, homeFrom, homeOf}
+use Rattle.model.specs.Runs.{Run, comesAfter, isRun, isMember, rootRun, isRootRun, countOf, inOneAtMost, holds, runWith}
+use Rattle.model.specs.Runs.{homeFrom, homeOf}
 use Rattle.model.specs.declared.Place.{Place}
 use Rattle.model.specs.declared.Place.the-variants.{At, Nowhere}
 use Rattle.theory.specs.Bools.{both-true}
-use Rattle.theory.specs.Ranges.{Upto, pick-true, pick-false, at-nowhere, at-same, atPlace-at, atPlace-nowhere, countTo-all, countTo-full}
+use Rattle.theory.specs.Ranges.{Upto, pick-true, pick-false, at-nowhere, at-same, atPlace-at, atPlace-nowhere}
+use Rattle.theory.specs.Ranges.{countTo-all, countTo-full}
 use Rattle.theory.specs.TableFacts.{SoundFacts}
 use Rattle.theory.specs.TableLinks.{parentAt-none, parentAt-less, parent-low}
 use Rattle.theory.specs.SiblingChains.{After, here, reach-le, comesAfter-after, after-comesAfter}
@@ -28,7 +30,7 @@ pub record RunFacts (t : List ℕ) (r : Run) : Type 0 where
   pub high : r .first ≤ nodeCount t
   pub after : After t (r .first) (r .last)
 
-pub run-facts : (t : List ℕ) (r : Run) → isRun t r ≡ true → RunFacts t r
+run-facts : (t : List ℕ) (r : Run) → isRun t r ≡ true → RunFacts t r
 unfolding isRun
 run-facts t r e =
     let c = both-true (leb 1 (r .first) && leb (r .first) (nodeCount t)) (comesAfter t (r .first) (r .last)) e in
@@ -53,7 +55,7 @@ member-inside t v r e =
     (comesAfter-after t (r .first) v (b .0), comesAfter-after t v (r .last) (b .1))
 
 module _ {t : List ℕ} (s : SoundFacts t) where
-  pub facts-run : (r : Run) → RunFacts t r → isRun t r ≡ true
+  facts-run : (r : Run) → RunFacts t r → isRun t r ≡ true
   unfolding isRun
   facts-run r f =
       rw (
@@ -79,15 +81,15 @@ module _ {t : List ℕ} (s : SoundFacts t) where
 
 -- ---- The run that a node is in
 
-pub runWith-nil : (t : List ℕ) (v : ℕ) → runWith t [] v ≡ Nowhere
+runWith-nil : (t : List ℕ) (v : ℕ) → runWith t [] v ≡ Nowhere
 unfolding runWith
 runWith-nil t v = refl
 
-pub runWith-yes : (t : List ℕ) (r : Run) (rs : List Run) (v : ℕ) → isMember t v r ≡ true → runWith t (r ∷ rs) v ≡ At (r .first)
+runWith-yes : (t : List ℕ) (r : Run) (rs : List Run) (v : ℕ) → isMember t v r ≡ true → runWith t (r ∷ rs) v ≡ At (r .first)
 unfolding runWith
 runWith-yes t r rs v e = pick-true (isMember t v r) (At (r .first)) (runWith t rs v) e
 
-pub runWith-no : (t : List ℕ) (r : Run) (rs : List Run) (v : ℕ) → isMember t v r ≡ false → runWith t (r ∷ rs) v ≡ runWith t rs v
+runWith-no : (t : List ℕ) (r : Run) (rs : List Run) (v : ℕ) → isMember t v r ≡ false → runWith t (r ∷ rs) v ≡ runWith t rs v
 unfolding runWith
 runWith-no t r rs v e = pick-false (isMember t v r) (At (r .first)) (runWith t rs v) e
 

@@ -11,7 +11,8 @@ use lib.ListN.{length}
 use lib.Dec.{eqb}
 use borrow.Author.Tests.{eqb-true, eqb-false, ne-eqb, not-true}
 use Rattle.model.specs.Table.{nodeCount, nextAt}
-use Rattle.model.specs.Plan.{prevAt, badMark, begins, continues, markAt, hasMark, inRun, pageCount, runLastFrom, runLast}
+use Rattle.model.specs.Plan.{prevAt, badMark, begins, continues, markAt, hasMark, inRun, pageCount, runLastFrom}
+use Rattle.model.specs.Plan.{runLast}
 use Rattle.model.specs.Runs.{Run, isMember, runsOf}
 use Rattle.model.specs.declared.Place.the-variants.{Nowhere}
 use Rattle.theory.specs.Bools.{both-true}
@@ -19,7 +20,8 @@ use Rattle.theory.specs.Ranges.{pick-true, pick-false}
 use Rattle.theory.specs.TableFacts.{SoundFacts}
 use Rattle.theory.specs.TableLinks.{next-later, next-le, prevAt-less, prevAt-next}
 use Rattle.theory.specs.PlanPages.{good-node, good-continues, good-after}
-use Rattle.theory.specs.SiblingChains.{Reach, here, step, LastLink, reach-trans, reach-one, reach-after, reach-last, reach-stop, reach-stop-one, reach-common, reach-between}
+use Rattle.theory.specs.SiblingChains.{Reach, here, step, LastLink, reach-trans, reach-one, reach-after}
+use Rattle.theory.specs.SiblingChains.{reach-last, reach-stop, reach-stop-one, reach-common, reach-between}
 use Rattle.theory.specs.Chosen.{chosen, length-chosen}
 use Rattle.theory.specs.RunsFacts.{RunFacts, member-inside, inside-member}
 
@@ -34,7 +36,7 @@ pub record Ends (t m : List ℕ) (u w : ℕ) : Type 0 where
   pub goes : Goes t m u w
   pub stops : 1 ≤ nextAt t w → hasMark m continues (nextAt t w) ≡ true → ⊥
 
-pub ends-same : {t m : List ℕ} {u w w′ : ℕ} → Ends t m u w → Ends t m u w′ → w ≡ w′
+ends-same : {t m : List ℕ} {u w w′ : ℕ} → Ends t m u w → Ends t m u w′ → w ≡ w′
 ends-same e e′ = reach-stop-one (e .goes) (e′ .goes) (e .stops) (e′ .stops)
 
 abbrev goesOn : List ℕ → List ℕ → ℕ → Bool

@@ -11,28 +11,34 @@ use lib.Dec.{eqb, leb, ltb}
 use borrow.Author.Tests.{eqb-true, eq-eqb, leb-true, le-leb, ltb-false, le-ltb}
 use Rattle.model.specs.Basics.{pick, countTo}
 use Rattle.model.specs.Table.{nodeCount, limitOf, weightAt, nextAt}
-use Rattle.model.specs.Plan.{prevAt, parentAt, begins, continues, hasMark, inRun, pageOf, pageCount, pageWeight, badMark, heavyPage}
-use Rattle.model.specs.Runs.{Run, isMember, rootRun, countOf, holds, runWith, homeOf, runWeight, withinLimit, rootWeight, runsOf}
+use Rattle.model.specs.Plan.{prevAt, parentAt, begins, continues, hasMark, inRun, pageOf, pageCount, pageWeight}
+use Rattle.model.specs.Plan.{badMark, heavyPage}
+use Rattle.model.specs.Runs.{Run, isMember, rootRun, countOf, holds, runWith, homeOf, runWeight, withinLimit}
+use Rattle.model.specs.Runs.{rootWeight, runsOf}
 use Rattle.model.specs.declared.Place.the-variants.{At, Nowhere}
 use Rattle.theory.specs.Bools.{both-true, same-true}
-use Rattle.theory.specs.Ranges.{sumTo-cong, countTo-zero, countTo-yes, countTo-none, firstTo-none, firstTo-nowhere}
+use Rattle.theory.specs.Ranges.{sumTo-cong, countTo-zero, countTo-yes, countTo-none, firstTo-none}
+use Rattle.theory.specs.Ranges.{firstTo-nowhere}
 use Rattle.theory.specs.Chosen.{countTo-mono, countTo-some, ranked, countTo-same, countTo-only}
 use Rattle.theory.specs.TableFacts.{SoundFacts}
 use Rattle.theory.specs.TableLinks.{prevAt-less, prevAt-next, parentAt-less, parent-low}
-use Rattle.theory.specs.PlanPages.{pageOf-begins, pageOf-continues, pageOf-stays, good-node, good-continues, good-after, root-begins}
+use Rattle.theory.specs.PlanPages.{pageOf-begins, pageOf-continues, pageOf-stays, good-node, good-continues}
+use Rattle.theory.specs.PlanPages.{good-after, root-begins}
 use Rattle.theory.specs.SiblingChains.{here, reach-trans, reach-one}
 use Rattle.theory.specs.Lists.{Mem, every-all, all-every, From, chosen-from, chosen-mem, countOf-chosen}
-use Rattle.theory.specs.RunsFacts.{run-path, none-runWith, HoldFacts, facts-holds, runWith-at, runWith-zero, home-run, home-up}
-use Rattle.theory.specs.RunsMarked.{Goes, Headed, headed, planRun, runsOf-chosen, neither-inRun, ends-runLast, planRun-facts, goes-member, member-goes, goes-inRun, goes-one}
+use Rattle.theory.specs.RunsFacts.{run-path, none-runWith, HoldFacts, facts-holds, runWith-at, runWith-zero}
+use Rattle.theory.specs.RunsFacts.{home-run, home-up}
+use Rattle.theory.specs.RunsMarked.{Goes, Headed, headed, planRun, runsOf-chosen, neither-inRun, ends-runLast}
+use Rattle.theory.specs.RunsMarked.{planRun-facts, goes-member, member-goes, goes-inRun, goes-one}
 
 -- the node that begins the page of v
-pub record OnPage (t m : List ℕ) (v : ℕ) : Type 0 where
-  pub first : ℕ
-  pub low : 1 ≤ first
-  pub high : first ≤ v
-  pub mark : hasMark m begins first ≡ true
-  pub home : homeOf t (runsOf t m) v ≡ first
-  pub page : pageOf t m v ≡ countTo first (hasMark m begins)
+record OnPage (t m : List ℕ) (v : ℕ) : Type 0 where
+  first : ℕ
+  low : 1 ≤ first
+  high : first ≤ v
+  mark : hasMark m begins first ≡ true
+  home : homeOf t (runsOf t m) v ≡ first
+  page : pageOf t m v ≡ countTo first (hasMark m begins)
 
 module _ {t : List ℕ} (s : SoundFacts t) (m : List ℕ) (good : badMark t m ≡ Nowhere) where
   -- ---- They hold the tree
@@ -48,7 +54,7 @@ module _ {t : List ℕ} (s : SoundFacts t) (m : List ℕ) (good : badMark t m �
       → countOf (isMember t v) (runsOf t m) ≡ countTo (nodeCount t) (λ u. hasMark m begins u && isMember t v (planRun t m u))
   members-count v = rw (runsOf-chosen t m) (countOf-chosen (hasMark m begins) (planRun t m) (isMember t v) (nodeCount t))
 
-  pub in-one : (v : ℕ) → 1 ≤ v → v ≤ nodeCount t → inRun m v ≡ true → countOf (isMember t v) (runsOf t m) ≡ 1
+  in-one : (v : ℕ) → 1 ≤ v → v ≤ nodeCount t → inRun m v ≡ true → countOf (isMember t v) (runsOf t m) ≡ 1
   in-one v low high e =
       let h : Headed t m v = headed s m good v low high e in
       let top : h .head ≤ nodeCount t = omega (arith, h .high) in
@@ -68,7 +74,7 @@ module _ {t : List ℕ} (s : SoundFacts t) (m : List ℕ) (good : badMark t m �
       go true q = absurd (true≢false (sym (goes-inRun s m u v a (member-goes s m u v low high q)) ∙ e))
       go false q = q
 
-  pub in-none : (v : ℕ) → inRun m v ≡ false → countOf (isMember t v) (runsOf t m) ≡ 0
+  in-none : (v : ℕ) → inRun m v ≡ false → countOf (isMember t v) (runsOf t m) ≡ 0
   in-none v e =
       members-count v
       ∙ countTo-none (nodeCount t) (λ u. hasMark m begins u && isMember t v (planRun t m u))
@@ -171,7 +177,7 @@ module _ {t : List ℕ} (s : SoundFacts t) (m : List ℕ) (good : badMark t m �
           }
 
   -- a node's home is the node that begins its page
-  pub home-page : (v : ℕ) → 1 ≤ v → v ≤ nodeCount t → OnPage t m v
+  home-page : (v : ℕ) → 1 ≤ v → v ≤ nodeCount t → OnPage t m v
   home-page v low high = page-upto v v (omega arith) low high
 
   -- ---- Weights

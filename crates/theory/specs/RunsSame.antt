@@ -12,15 +12,18 @@ use borrow.Author.Tests.{eqb-true, eq-eqb, leb-true, leb-false}
 use Rattle.model.specs.Basics.{pick, atPlace, sumTo, every}
 use Rattle.model.specs.Table.{nodeCount, limitOf, weightAt}
 use Rattle.model.specs.Plan.{parentAt}
-use Rattle.model.specs.Runs.{Run, isMember, rootRun, countOf, runWith, homeFrom, homeOf, runWeight, withinLimit, rootWeight}
+use Rattle.model.specs.Runs.{Run, isMember, rootRun, countOf, runWith, homeFrom, homeOf, runWeight, withinLimit}
+use Rattle.model.specs.Runs.{rootWeight}
 use Rattle.model.specs.declared.Place.{Place}
 use Rattle.model.specs.declared.Place.the-variants.{At, Nowhere}
 use Rattle.theory.specs.Bools.{both-true, same-true}
 use Rattle.theory.specs.Ranges.{Upto, pick-true, pick-false, sumTo-cong, sumTo-add, sumTo-none}
 use Rattle.theory.specs.Sums.{sumTo-only}
 use Rattle.theory.specs.TableFacts.{SoundFacts}
-use Rattle.theory.specs.Lists.{Mem, every-all, all-every, countOf-nil, countOf-yes, countOf-no, countOf-some, countOf-find, countOf-le}
-use Rattle.theory.specs.RunsFacts.{RunFacts, FoundRun, HoldFacts, first-member, runWith-found, runWith-none, none-runWith, runWith-at}
+use Rattle.theory.specs.Lists.{Mem, every-all, all-every, countOf-nil, countOf-yes, countOf-no, countOf-some}
+use Rattle.theory.specs.Lists.{countOf-find, countOf-le}
+use Rattle.theory.specs.RunsFacts.{RunFacts, FoundRun, HoldFacts, first-member, runWith-found, runWith-none}
+use Rattle.theory.specs.RunsFacts.{none-runWith, runWith-at}
 
 pub record SameRuns (rs rs′ : List Run) : Type 0 where
   pub there : (r : Run) → Mem r rs → Mem r rs′

@@ -18,15 +18,19 @@ use Rattle.model.specs.Plan.{prevAt, begins, continues, stays, markAt, hasMark,
 use Rattle.model.specs.Runs.{Run, runWith, runsOf}
 use Rattle.model.specs.declared.Place.{Place}
 use Rattle.model.specs.declared.Place.the-variants.{At, Nowhere}
-use Rattle.theory.specs.Ranges.{pick-true, pick-false, atPlace-at, atPlace-nowhere, listTo-cong, length-listTo, getD-listTo}
+use Rattle.theory.specs.Ranges.{pick-true, pick-false, atPlace-at, atPlace-nowhere, listTo-cong, length-listTo}
+use Rattle.theory.specs.Ranges.{getD-listTo}
 use Rattle.theory.specs.TableFacts.{SoundFacts}
 use Rattle.theory.specs.TableLinks.{next-later, next-le, next-prev, prevAt-next}
 use Rattle.theory.specs.PlanPages.{bad-none, good-node, good-first, good-later, root-begins}
 use Rattle.theory.specs.SiblingChains.{here, step, After, reach-trans, reach-one, reach-le, reach-prev}
 use Rattle.theory.specs.Lists.{Mem, From}
-use Rattle.theory.specs.RunsFacts.{RunFacts, run-path, Inside, member-inside, member-range, inside-member, first-member, FoundRun, runWith-found, HoldFacts, runs-apart, runWith-at, runWith-root}
+use Rattle.theory.specs.RunsFacts.{RunFacts, run-path, Inside, member-inside, member-range, inside-member}
+use Rattle.theory.specs.RunsFacts.{first-member, FoundRun, runWith-found, HoldFacts, runs-apart, runWith-at}
+use Rattle.theory.specs.RunsFacts.{runWith-root}
 use Rattle.theory.specs.RunsSame.{SameRuns, same-runWith}
-use Rattle.theory.specs.RunsMarked.{Goes, Headed, headed, planRun, inRun-begins, inRun-continues, ends-runLast, neither-inRun}
+use Rattle.theory.specs.RunsMarked.{Goes, Headed, headed, planRun, inRun-begins, inRun-continues, ends-runLast}
+use Rattle.theory.specs.RunsMarked.{neither-inRun}
 use Rattle.theory.specs.RunsOfPlan.{runs-facts, runs-mem, mem-from, runWith-goes, runWith-out}
 
 -- 1 for the first node of a run, 2 for any other node of one, else 0
@@ -42,13 +46,13 @@ markOfRuns-at : (t : List ℕ) (rs : List Run) (v u : ℕ) → runWith t rs v �
 unfolding markOfRuns
 markOfRuns-at t rs v u e = atPlace-at (runWith t rs v) u (λ u. pick (eqb u v) 1 2) 0 e
 
-pub markOfRuns-first : (t : List ℕ) (rs : List Run) (v u : ℕ) → runWith t rs v ≡ At u → u ≡ v → markOfRuns t rs v ≡ 1
+markOfRuns-first : (t : List ℕ) (rs : List Run) (v u : ℕ) → runWith t rs v ≡ At u → u ≡ v → markOfRuns t rs v ≡ 1
 markOfRuns-first t rs v u e q = markOfRuns-at t rs v u e ∙ pick-true (eqb u v) 1 2 (eq-eqb u v q)
 
-pub markOfRuns-other : (t : List ℕ) (rs : List Run) (v u : ℕ) → runWith t rs v ≡ At u → (u ≡ v → ⊥) → markOfRuns t rs v ≡ 2
+markOfRuns-other : (t : List ℕ) (rs : List Run) (v u : ℕ) → runWith t rs v ≡ At u → (u ≡ v → ⊥) → markOfRuns t rs v ≡ 2
 markOfRuns-other t rs v u e q = markOfRuns-at t rs v u e ∙ pick-false (eqb u v) 1 2 (ne-eqb u v q)
 
-pub markOfRuns-none : (t : List ℕ) (rs : List Run) (v : ℕ) → runWith t rs v ≡ Nowhere → markOfRuns t rs v ≡ 0
+markOfRuns-none : (t : List ℕ) (rs : List Run) (v : ℕ) → runWith t rs v ≡ Nowhere → markOfRuns t rs v ≡ 0
 unfolding markOfRuns
 markOfRuns-none t rs v e = atPlace-nowhere (runWith t rs v) (λ u. pick (eqb u v) 1 2) 0 e
 
@@ -81,12 +85,12 @@ markAt-suc : (m : List ℕ) (i : ℕ) → markAt m (suc i) ≡ getD m i 0
 unfolding markAt
 markAt-suc m i = let e : suc i - 1 ≡ i = omega arith in ap (λ k. getD m k 0) e
 
-pub marks-at : (t : List ℕ) (rs : List Run) (v : ℕ) → 1 ≤ v → v ≤ nodeCount t → markAt (marksOf t rs) v ≡ markOfRuns t rs v
+marks-at : (t : List ℕ) (rs : List Run) (v : ℕ) → 1 ≤ v → v ≤ nodeCount t → markAt (marksOf t rs) v ≡ markOfRuns t rs v
 marks-at t rs zero low high = absurd (omega arith)
 marks-at t rs (suc i) low high = markAt-suc (marksOf t rs) i ∙ getD-marks t rs i high
 
 -- sequences that put each node in the same run have the same plan
-pub marks-same : (t : List ℕ) (rs rs′ : List Run) → ((v : ℕ) → runWith t rs v ≡ runWith t rs′ v) → marksOf t rs ≡ marksOf t rs′
+marks-same : (t : List ℕ) (rs rs′ : List Run) → ((v : ℕ) → runWith t rs v ≡ runWith t rs′ v) → marksOf t rs ≡ marksOf t rs′
 unfolding marksOf markOfRuns
 marks-same t rs rs′ h =
     listTo-cong (nodeCount t) (λ v. markOfRuns t rs v ∷ []) (λ v. markOfRuns t rs′ v ∷ [])
@@ -302,7 +306,7 @@ module _ {t : List ℕ} (s : SoundFacts t) (m : List ℕ) (good : badMark t m �
           markOfRuns-none t (runsOf t m) v (runWith-out s m good v (neither-inRun m v q q′))
           ∙ sym (stays-zero v low high q q′)
 
-  pub marks-of-runs : length m ≡ nodeCount t → marksOf t (runsOf t m) ≡ m
+  marks-of-runs : length m ≡ nodeCount t → marksOf t (runsOf t m) ≡ m
   marks-of-runs long =
       ext-getD 0 (marksOf t (runsOf t m)) m (marks-length t (runsOf t m) ∙ sym long)
       (λ i fits.

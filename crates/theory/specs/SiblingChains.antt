@@ -98,7 +98,7 @@ comesFrom-step f t u v a e = go (eqb u v)
     go false = far
 
 -- where the test passes, v is u or comes after it
-pub comesFrom-after : (f : ℕ) (t : List ℕ) (u v : ℕ) → comesFrom f t u v ≡ true → After t u v
+comesFrom-after : (f : ℕ) (t : List ℕ) (u v : ℕ) → comesFrom f t u v ≡ true → After t u v
 unfolding comesFrom
 comesFrom-after zero t u v e = rw (eqb-true u v e) here
 comesFrom-after (suc f) t u v e = go (eqb u v) refl e (comesFrom-after f t (nextAt t u) v)
@@ -177,7 +177,7 @@ module _ {t : List ℕ} (s : SoundFacts t) where
       reach-parent r a (next-le s u low high) ∙ next-parent s u (nextAt t u) low high a refl
 
   -- the test follows as many links as there are
-  pub after-comesFrom : {u v : ℕ} (f : ℕ) → After t u v → 1 ≤ u → u ≤ nodeCount t → nodeCount t ≤ f + u → comesFrom f t u v ≡ true
+  after-comesFrom : {u v : ℕ} (f : ℕ) → After t u v → 1 ≤ u → u ≤ nodeCount t → nodeCount t ≤ f + u → comesFrom f t u v ≡ true
   after-comesFrom {u} f here low high enough = comesFrom-here f t u u refl
   after-comesFrom {u} zero (step a p r) low high enough =
       absurd (omega (arith, next-later s u low high a, next-le s u low high))

@@ -13,10 +13,13 @@ use Rattle.model.specs.Basics.{pick, atPlace, firstTo}
 use Rattle.model.specs.Table.{nodeCount, firstAt, nextAt}
 use Rattle.model.specs.Plan.{prevAt, parentAt}
 use Rattle.theory.specs.Bools.{and-true, and-false-left, and-false-right, both-true}
-use Rattle.theory.specs.Ranges.{order-cases, pick-true, pick-false, atPlace-at, atPlace-nowhere, firstTo-none, firstTo-first}
+use Rattle.theory.specs.Ranges.{order-cases, pick-true, pick-false, atPlace-at, atPlace-nowhere, firstTo-none}
+use Rattle.theory.specs.Ranges.{firstTo-first}
 use Rattle.theory.specs.TableFacts.{SoundFacts}
 use Rattle.theory.specs.SiblingChains.{After, reach-first, reach-one, reach-trans, reach-le}
-use Rattle.theory.specs.TableLinks.{Source, next-le, first-step, first-cases, next-cases, linked, prevAt-less, prevAt-next, parentAt-later, parentAt-less, next-parent, first-parent, parent-low, parent-first}
+use Rattle.theory.specs.TableLinks.{Source, next-le, first-step, first-cases, next-cases, linked, prevAt-less}
+use Rattle.theory.specs.TableLinks.{prevAt-next, parentAt-later, parentAt-less, next-parent, first-parent}
+use Rattle.theory.specs.TableLinks.{parent-low, parent-first}
 
 module _ {t : List ℕ} (s : SoundFacts t) where
   abbrev Follows : ℕ → ℕ → Type 0

@@ -1,14 +1,15 @@
--- Laws of sums of 1 to n beyond those of Ranges: sums by rows and by columns, a sum with one term, one term of a sum, a bound of
--- all terms, the terms of a choice. Assumes nothing.
+-- Laws of sums of 1 to n beyond those of Ranges: a sum with one term, one term of a sum, a bound of all terms, the terms of a choice.
+-- Assumes nothing.
 use Prim.Native.Nat.{ℕ, zero, suc, _+_, _*_, _≤_}
 use native.Mathlib.Omega.{arith}
 use mathlib.Core.Bool.{Bool, true, false}
-use mathlib.Core.Path.{_≡_, refl, sym, _∙_, ap}
+use mathlib.Core.Path.{_≡_, refl, ap}
 use mathlib.Core.Logic.{_⊎_, inl, inr}
 use lib.Dec.{eqb}
 use borrow.Author.Tests.{eq-eqb, ne-eqb}
 use Rattle.model.specs.Basics.{pick, sumTo}
-use Rattle.theory.specs.Ranges.{Upto, pick-true, pick-false, upto-suc, upto-less, upto-last, sumTo-zero, sumTo-suc, sumTo-cong, sumTo-add, sumTo-none}
+use Rattle.theory.specs.Ranges.{Upto, pick-true, pick-false, upto-suc, upto-less, upto-last, sumTo-zero}
+use Rattle.theory.specs.Ranges.{sumTo-suc, sumTo-none}
 
 -- ---- Choices of numbers
 
@@ -23,20 +24,6 @@ pick-none true = refl
 pick-none false = refl
 
 -- ---- Sums
-
--- rows first or columns first
-pub sumTo-swap : (m n : ℕ) (f : ℕ → ℕ → ℕ) → sumTo m (λ p. sumTo n (f p)) ≡ sumTo n (λ v. sumTo m (λ p. f p v))
-sumTo-swap zero n f =
-    sumTo-zero (λ p. sumTo n (f p)) ∙ sym (sumTo-none n (λ v. sumTo 0 (λ p. f p v)) (λ v low high. sumTo-zero (λ p. f p v)))
-sumTo-swap (suc m) n f =
-    omega (
-      arith,
-      sumTo-suc m (λ p. sumTo n (f p)),
-      sumTo-swap m n f,
-      sumTo-add n (λ v. sumTo m (λ p. f p v)) (f (suc m)),
-      sumTo-cong n (λ v. sumTo (suc m) (λ p. f p v)) (λ v. sumTo m (λ p. f p v) + f (suc m) v)
-          (λ v low high. sumTo-suc m (λ p. f p v)),
-    )
 
 -- all but one of the terms are 0
 pub sumTo-only : (n q x : ℕ) → 1 ≤ q → q ≤ n → sumTo n (λ p. pick (eqb q p) x 0) ≡ x

@@ -8,7 +8,8 @@ use mathlib.Core.List.{List}
 use Rattle.model.specs.Table.{nodeCount, limitOf, weightAt, labelAt, firstAt, nextAt, Chain, end, node, chainFrom}
 use Rattle.theory.specs.PlanShape.{size, EachWithin}
 use Rattle.theory.specs.TableFacts.{SoundFacts, AcceptedFacts}
-use Rattle.theory.specs.TableNumbered.{Numbered, none, some, size-node, numbered-size, numbered-le, numbered-chain, numbered-within, Between, between-join, sound-tree}
+use Rattle.theory.specs.TableNumbered.{Numbered, none, some, size-node, numbered-size, numbered-le}
+use Rattle.theory.specs.TableNumbered.{numbered-chain, numbered-within, Between, between-join, sound-tree}
 
 unfoldable pub chainAt : List ℕ → ℕ → Chain
 chainAt t v = chainFrom (nodeCount t) t v

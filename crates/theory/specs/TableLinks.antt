@@ -10,18 +10,19 @@ use lib.Dec.{eqb}
 use borrow.Author.Tests.{eqb-true, eqb-false, eq-eqb, ne-eqb}
 use Rattle.model.specs.Table.{nodeCount, firstAt, nextAt, Chain}
 use Rattle.model.specs.Plan.{prevAt, ownerAt, parentFrom, parentAt}
-use Rattle.theory.specs.Ranges.{Upto, pick-true, pick-false, lastTo-zero, lastTo-le, lastTo-none, lastTo-only, lastTo-at}
+use Rattle.theory.specs.Ranges.{Upto, pick-true, pick-false, lastTo-zero, lastTo-le, lastTo-none, lastTo-only}
+use Rattle.theory.specs.Ranges.{lastTo-at}
 use Rattle.theory.specs.TableFacts.{SoundFacts}
 use Rattle.theory.specs.TableNumbered.{Numbered, none, some, numbered-le, Between, between-join, sound-tree}
 
 -- ---- Within a numbering
 
 -- the links of node u, where e is the last number
-pub record NodeLinks (t : List ℕ) (e u : ℕ) : Type 0 where
-  pub first-step : 1 ≤ firstAt t u → firstAt t u ≡ suc u
-  pub first-high : firstAt t u ≤ e
-  pub next-later : 1 ≤ nextAt t u → u < nextAt t u
-  pub next-high : nextAt t u ≤ e
+record NodeLinks (t : List ℕ) (e u : ℕ) : Type 0 where
+  first-step : 1 ≤ firstAt t u → firstAt t u ≡ suc u
+  first-high : firstAt t u ≤ e
+  next-later : 1 ≤ nextAt t u → u < nextAt t u
+  next-high : nextAt t u ≤ e
 
 links-more : {t : List ℕ} {e e′ u : ℕ} → e ≤ e′ → NodeLinks t e u → NodeLinks t e′ u
 links-more h l =
@@ -33,15 +34,15 @@ links-more h l =
     }
 
 -- a link that is not 0 is the number after m, and at most e
-pub entry-step : {t : List ℕ} {m v e : ℕ} {c : Chain} → Numbered t m v c e → 1 ≤ v → v ≡ suc m
+entry-step : {t : List ℕ} {m v e : ℕ} {c : Chain} → Numbered t m v c e → 1 ≤ v → v ≡ suc m
 entry-step none low = absurd (omega arith)
 entry-step (some k s) low = refl
 
-pub entry-high : {t : List ℕ} {m v e : ℕ} {c : Chain} → Numbered t m v c e → v ≤ e
+entry-high : {t : List ℕ} {m v e : ℕ} {c : Chain} → Numbered t m v c e → v ≤ e
 entry-high none = omega arith
 entry-high (some k s) = omega (arith, numbered-le k, numbered-le s)
 
-pub numbered-links : {t : List ℕ} {m v e : ℕ} {c : Chain} → Numbered t m v c e → Between m e (NodeLinks t e)
+numbered-links : {t : List ℕ} {m v e : ℕ} {c : Chain} → Numbered t m v c e → Between m e (NodeLinks t e)
 numbered-links none = λ u low high. absurd (omega arith)
 numbered-links {t} (some {m = m} {e₁ = e₁} {e₂ = e₂} k s) =
     let kids = numbered-links k in
@@ -219,7 +220,7 @@ pub prevAt-one : (t : List ℕ) → prevAt t 1 ≡ 0
 unfolding prevAt
 prevAt-one t = lastTo-zero (λ u. eqb (nextAt t u) 1)
 
-pub ownerAt-one : (t : List ℕ) → ownerAt t 1 ≡ 0
+ownerAt-one : (t : List ℕ) → ownerAt t 1 ≡ 0
 unfolding ownerAt
 ownerAt-one t = lastTo-zero (λ u. eqb (firstAt t u) 1)
 
@@ -227,7 +228,7 @@ pub prevAt-less : (t : List ℕ) (v : ℕ) → 1 ≤ v → prevAt t v < v
 unfolding prevAt
 prevAt-less t v low = omega (arith, lastTo-le (v - 1) (λ u. eqb (nextAt t u) v))
 
-pub ownerAt-less : (t : List ℕ) (v : ℕ) → 1 ≤ v → ownerAt t v < v
+ownerAt-less : (t : List ℕ) (v : ℕ) → 1 ≤ v → ownerAt t v < v
 unfolding ownerAt
 ownerAt-less t v low = omega (arith, lastTo-le (v - 1) (λ u. eqb (firstAt t u) v))
 
@@ -237,7 +238,7 @@ unfolding prevAt
 prevAt-next t v low =
     eqb-true (nextAt t (prevAt t v)) v (lastTo-at (v - 1) (prevAt t v) (λ u. eqb (nextAt t u) v) refl low .passed)
 
-pub ownerAt-first : (t : List ℕ) (v : ℕ) → 1 ≤ ownerAt t v → firstAt t (ownerAt t v) ≡ v
+ownerAt-first : (t : List ℕ) (v : ℕ) → 1 ≤ ownerAt t v → firstAt t (ownerAt t v) ≡ v
 unfolding ownerAt
 ownerAt-first t v low =
     eqb-true (firstAt t (ownerAt t v)) v (lastTo-at (v - 1) (ownerAt t v) (λ u. eqb (firstAt t u) v) refl low .passed)
@@ -271,7 +272,7 @@ parentFrom-enough (suc f) t v (suc g) low a b = go (eqb (prevAt t v) 0) refl (pa
         parentFrom-later f t v one ∙ ih one (omega (arith, less)) (omega (arith, less)) ∙ sym (parentFrom-later g t v one)
 
 -- the parent of a node with no sibling before it, and of one with some
-pub parentAt-first : (t : List ℕ) (v : ℕ) → 1 ≤ v → prevAt t v ≡ 0 → parentAt t v ≡ ownerAt t v
+parentAt-first : (t : List ℕ) (v : ℕ) → 1 ≤ v → prevAt t v ≡ 0 → parentAt t v ≡ ownerAt t v
 unfolding parentAt
 parentAt-first t zero low z = absurd (omega arith)
 parentAt-first t (suc v) low z = parentFrom-first v t (suc v) z
@@ -324,7 +325,7 @@ module _ {t : List ℕ} (s : SoundFacts t) where
       ne-eqb (nextAt t w) v
       (λ e. first-not-next s u w low high low′ (omega (arith, first-le s u low high)) (omega arith) (q ∙ sym e)))
 
-  pub first-owner : (u v : ℕ) → 1 ≤ u → u ≤ nodeCount t → 1 ≤ v → firstAt t u ≡ v → ownerAt t v ≡ u
+  first-owner : (u v : ℕ) → 1 ≤ u → u ≤ nodeCount t → 1 ≤ v → firstAt t u ≡ v → ownerAt t v ≡ u
   unfolding ownerAt
   first-owner u v low high one q =
       lastTo-only (v - 1) u (λ w. eqb (firstAt t w) v) low

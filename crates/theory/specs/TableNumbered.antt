@@ -5,12 +5,12 @@ use Prim.Native.Nat.{ℕ, zero, suc, _+_, _*_, _≤_, _<_}
 use native.Mathlib.Omega.{arith}
 use mathlib.Core.Bool.{Bool, true, false, not, _&&_}
 use mathlib.Core.Path.{_≡_, refl, sym, _∙_, ap}
-use mathlib.Core.Logic.{_↔_}
 use mathlib.Core.List.{List, [], _∷_}
 use lib.Dec.{eqb, ltb, leb}
 use borrow.Author.Tests.{eqb-true, eq-eqb, lt-ltb, leb-true, leb-false, not-false}
 use Rattle.model.specs.Basics.{pick, when}
-use Rattle.model.specs.Table.{nodeCount, limitOf, weightAt, labelAt, firstAt, nextAt, walkFrom, Chain, end, node, chainFrom, treeOf}
+use Rattle.model.specs.Table.{nodeCount, limitOf, weightAt, labelAt, firstAt, nextAt, walkFrom, Chain, end, node}
+use Rattle.model.specs.Table.{chainFrom, treeOf}
 use Rattle.model.specs.declared.Place.{Place}
 use Rattle.model.specs.declared.Place.the-variants.{At, Nowhere}
 use Rattle.theory.specs.Bools.{both-true}
@@ -26,7 +26,7 @@ pub data Numbered (t : List ℕ) : ℕ → ℕ → Chain → ℕ → Type 0 wher
 
 -- ---- Sizes
 
-pub size-end : size end ≡ 0
+size-end : size end ≡ 0
 unfolding size
 size-end = refl
 
@@ -45,21 +45,21 @@ numbered-le r = omega (arith, numbered-size r)
 -- ---- What a numbering is, by its link
 
 -- no link: no node
-pub numbered-none : {t : List ℕ} {m v e : ℕ} {c : Chain} → Numbered t m v c e → v ≡ 0 → (c ≡ end) × (e ≡ m)
+numbered-none : {t : List ℕ} {m v e : ℕ} {c : Chain} → Numbered t m v c e → v ≡ 0 → (c ≡ end) × (e ≡ m)
 numbered-none none z = (refl, refl)
 numbered-none (some k s) z = absurd (omega arith)
 
 -- a link v: the node v, its children up to some number, and its siblings after them
-pub record NumberedNode (t : List ℕ) (m v : ℕ) (c : Chain) (e : ℕ) : Type 0 where
-  pub kids : Chain
-  pub next : Chain
-  pub last : ℕ
-  pub here : v ≡ suc m
-  pub shape : c ≡ node (weightAt t v) (labelAt t v) kids next
-  pub below : Numbered t v (firstAt t v) kids last
-  pub after : Numbered t last (nextAt t v) next e
+record NumberedNode (t : List ℕ) (m v : ℕ) (c : Chain) (e : ℕ) : Type 0 where
+  kids : Chain
+  next : Chain
+  last : ℕ
+  here : v ≡ suc m
+  shape : c ≡ node (weightAt t v) (labelAt t v) kids next
+  below : Numbered t v (firstAt t v) kids last
+  after : Numbered t last (nextAt t v) next e
 
-pub numbered-some : {t : List ℕ} {m v e : ℕ} {c : Chain} → Numbered t m v c e → 1 ≤ v → NumberedNode t m v c e
+numbered-some : {t : List ℕ} {m v e : ℕ} {c : Chain} → Numbered t m v c e → 1 ≤ v → NumberedNode t m v c e
 numbered-some none low = absurd (omega arith)
 numbered-some (some {e₁ = last} {kids = kids} {next = next} k s) low =
     record { kids = kids; next = next; last = last; here = refl; shape = refl; below = k; after = s }
@@ -126,7 +126,7 @@ pending-one : {t : List ℕ} {m v e : ℕ} → Pending t m (v ∷ []) e → (c :
 pending-one (more {c = c} r done) = (c, r)
 
 -- a walk that does not fail numbers the nodes
-pub walk-numbered : (f : ℕ) (t : List ℕ) (n met v : ℕ) → walkFrom f t n met (v ∷ []) ≡ Nowhere → (c : Chain) × Numbered t met v c n
+walk-numbered : (f : ℕ) (t : List ℕ) (n met v : ℕ) → walkFrom f t n met (v ∷ []) ≡ Nowhere → (c : Chain) × Numbered t met v c n
 walk-numbered f t n met v e = pending-one (walk-pending f t n met (v ∷ []) e)
 
 -- the walk passes over what is numbered
@@ -241,43 +241,23 @@ module _ (P : ℕ → ℕ → Type 0) where
   each-numbered {t} (some {m = m} {e₁ = e₁} {e₂ = e₂} k s) h =
       between-join (λ u. P (weightAt t u) (labelAt t u)) m e₁ e₂ (h .0) (each-numbered k (h .1)) (each-numbered s (h .2))
 
-pub each-within : (K : ℕ) (c : Chain) → EachNode (λ w l. w ≤ K) c ↔ EachWithin K c
+each-within : (K : ℕ) (c : Chain) → EachNode (λ w l. w ≤ K) c → EachWithin K c
 unfolding EachNode EachWithin
-each-within K end = (λ h. h, λ h. h)
-each-within K (node w l kids next) = (
-  λ h. (h .0, each-within K kids .0 (h .1), each-within K next .0 (h .2)),
-  λ h. (h .0, each-within K kids .1 (h .1), each-within K next .1 (h .2)),
-)
+each-within K end h = tt
+each-within K (node w l kids next) h = (h .0, each-within K kids (h .1), each-within K next (h .2))
 
-pub each-positive : (c : Chain) → EachNode (λ w l. 1 ≤ w) c ↔ Positive c
+each-positive : (c : Chain) → EachNode (λ w l. 1 ≤ w) c → Positive c
 unfolding EachNode Positive
-each-positive end = (λ h. h, λ h. h)
-each-positive (node w l kids next) = (
-  λ h. (h .0, each-positive kids .0 (h .1), each-positive next .0 (h .2)),
-  λ h. (h .0, each-positive kids .1 (h .1), each-positive next .1 (h .2)),
-)
+each-positive end h = tt
+each-positive (node w l kids next) h = (h .0, each-positive kids (h .1), each-positive next (h .2))
 
 pub numbered-within : {t : List ℕ} {m v e : ℕ} {c : Chain} (K : ℕ) → Numbered t m v c e → Between m e (λ u. weightAt t u ≤ K)
     → EachWithin K c
-numbered-within {c} K r h = each-within K c .0 (numbered-each (λ w l. w ≤ K) r h)
-
-pub within-numbered : {t : List ℕ} {m v e : ℕ} {c : Chain} (K : ℕ) → Numbered t m v c e → EachWithin K c
-    → Between m e (λ u. weightAt t u ≤ K)
-within-numbered {c} K r h = each-numbered (λ w l. w ≤ K) r (each-within K c .1 h)
-
-pub numbered-positive : {t : List ℕ} {m v e : ℕ} {c : Chain} → Numbered t m v c e → Between m e (λ u. 1 ≤ weightAt t u) → Positive c
-numbered-positive {c} r h = each-positive c .0 (numbered-each (λ w l. 1 ≤ w) r h)
-
-pub positive-numbered : {t : List ℕ} {m v e : ℕ} {c : Chain} → Numbered t m v c e → Positive c → Between m e (λ u. 1 ≤ weightAt t u)
-positive-numbered {c} r h = each-numbered (λ w l. 1 ≤ w) r (each-positive c .1 h)
+numbered-within {c} K r h = each-within K c (numbered-each (λ w l. w ≤ K) r h)
 
 -- the tree of a table of sound form: every node weighs something, and none outweighs the limit where the tree is accepted
 pub tree-positive : {t : List ℕ} → SoundFacts t → Positive (treeOf t)
-tree-positive s = numbered-positive (sound-tree s) (λ u low high. s .weighs u low high)
+tree-positive {t} s = each-positive (treeOf t) (numbered-each (λ w l. 1 ≤ w) (sound-tree s) (λ u low high. s .weighs u low high))
 
 pub tree-within : {t : List ℕ} → AcceptedFacts t → EachWithin (limitOf t) (treeOf t)
 tree-within {t} a = numbered-within (limitOf t) (sound-tree (a .sound)) (λ u low high. a .light u low high)
-
-pub within-accepted : {t : List ℕ} → SoundFacts t → EachWithin (limitOf t) (treeOf t) → AcceptedFacts t
-within-accepted {t} s h =
-    record { sound = s; light = λ v low high. within-numbered (limitOf t) (sound-tree s) h v low high }

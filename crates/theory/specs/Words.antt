@@ -91,11 +91,6 @@ holds-append t i (x ∷ xs) ys h =
     let both = holds-append t (suc i) xs ys (h .1) in
     ((h .0, both .0), holds-at t ys (omega arith) (both .1))
 
-pub holds-join : (t : List ℕ) (i : ℕ) (xs ys : List ℕ) → Holds t i xs → Holds t (i + length xs) ys → Holds t i (xs ++ ys)
-unfolding Holds
-holds-join t i [] ys h k = holds-at t ys (omega arith) k
-holds-join t i (x ∷ xs) ys h k = (h .0, holds-join t (suc i) xs ys (h .1) (holds-at t ys (omega arith) k))
-
 -- ---- A string of bytes is that of its words
 
 word-bytes : (t : List ℕ) (i : ℕ) → Bytes t
@@ -117,7 +112,7 @@ holds-drop t i (w ∷ ws) h k long =
     ∙ ap₂ _∷_ (sym high)
     (drop-cons t (suc (2 * i)) 0 (omega arith) ∙ ap₂ _∷_ (sym low) (ap (λ j. drop j t) (sym same) ∙ rest))
 
-pub holds-all : (t ws : List ℕ) → Bytes t → Holds t 0 ws → length t ≡ 2 * length ws → t ≡ bytesOf ws
+holds-all : (t ws : List ℕ) → Bytes t → Holds t 0 ws → length t ≡ 2 * length ws → t ≡ bytesOf ws
 holds-all t ws h k long = holds-drop t 0 ws h k (omega arith)
 
 pub bytesOf-words : (t ws : List ℕ) → Bytes t → length t ≡ 2 * length ws → ((j : ℕ) → j < length ws → wordAt t j ≡ getD ws j 0)
