@@ -12,7 +12,7 @@ use lib.Seq.{getD-append-seam}
 use lib.Dec.{leb}
 use borrow.Author.Tests.{leb-true, leb-false}
 use Rattle.model.specs.Basics.{pick, countTo, listTo}
-use Rattle.theory.specs.Ranges.{Upto, pick-true, pick-false, upto-suc, countTo-zero, countTo-suc, countTo-yes}
+use Rattle.theory.specs.Ranges.{Upto, pick-true, pick-false, order-cases, upto-suc, countTo-zero, countTo-suc, countTo-yes}
 use Rattle.theory.specs.Ranges.{countTo-no, listTo-zero, listTo-suc, append-nil}
 
 module _ (p : ℕ → Bool) where
@@ -61,13 +61,12 @@ module _ (p : ℕ → Bool) where
 
   -- two that pass and count the same are the same
   pub countTo-same : (u v : ℕ) → p u ≡ true → p v ≡ true → countTo u p ≡ countTo v p → u ≡ v
-  countTo-same u v a b e = go (leb u v) refl (leb v u) refl
+  countTo-same u v a b e = go (order-cases u v)
     where
-      go : (x : Bool) → leb u v ≡ x → (y : Bool) → leb v u ≡ y → u ≡ v
-      go true q true q′ = omega (arith, leb-true u v q, leb-true v u q′)
-      go true q false q′ =
-          let h : u < v = leb-false v u q′ in absurd (omega (arith, countTo-pass v (omega arith) b u h))
-      go false q y q′ = let h : v < u = leb-false u v q in absurd (omega (arith, countTo-pass u (omega arith) a v h))
+      go : (u < v) ⊎ ((u ≡ v) ⊎ (v < u)) → u ≡ v
+      go (inl h) = absurd (omega (arith, countTo-pass v (omega arith) b u h))
+      go (inr (inl q)) = q
+      go (inr (inr h)) = absurd (omega (arith, countTo-pass u (omega arith) a v h))
 
   -- there is one of each rank
   pub ranked-one : {n q u v : ℕ} → Ranked n q u → Ranked n q v → u ≡ v

@@ -11,7 +11,7 @@ use borrow.Author.Tests.{eqb-true, eqb-false}
 use Rattle.model.specs.Basics.{pick, sumTo, countTo}
 use Rattle.model.specs.Table.{nodeCount, weightAt, firstAt}
 use Rattle.model.specs.Plan.{prevAt, parentAt, hasMark, begins, continues, pageFrom, pageOf}
-use Rattle.theory.specs.Ranges.{pick-true, pick-false, pick-both, sumTo-zero, sumTo-suc, countTo-zero, countTo-le}
+use Rattle.theory.specs.Ranges.{steps-enough, pick-true, pick-false, pick-both, sumTo-zero, sumTo-suc, countTo-zero, countTo-le}
 use Rattle.theory.specs.TableFacts.{SoundFacts}
 use Rattle.theory.specs.TableLinks.{first-step, prevAt-none, prevAt-less, parentAt-none, parentAt-one}
 use Rattle.theory.specs.TableLinks.{parentAt-less, parentAt-later, parent-low, parent-first}
@@ -44,21 +44,12 @@ pageFrom-none (suc f) t m =
     (countTo-zero (hasMark m begins)) (ap (pageFrom f t m) (back-none t m) ∙ pageFrom-none f t m)
 
 -- the page is found with v steps or more
-pageFrom-enough : (f : ℕ) (t m : List ℕ) (v g : ℕ) → v ≤ f → v ≤ g → pageFrom f t m v ≡ pageFrom g t m v
-pageFrom-enough zero t m v g a b =
-    let none : v ≡ 0 = omega arith in rw none (pageFrom-none zero t m ∙ sym (pageFrom-none g t m))
-pageFrom-enough (suc f) t m v g a b = go v g a b (pageFrom-enough f t m)
-  where
-    go : (v g : ℕ) → v ≤ suc f → v ≤ g → ((u h : ℕ) → u ≤ f → u ≤ h → pageFrom f t m u ≡ pageFrom h t m u)
-        → pageFrom (suc f) t m v ≡ pageFrom g t m v
-    go zero g a b ih = pageFrom-none (suc f) t m ∙ sym (pageFrom-none g t m)
-    go (suc v) zero a b ih = absurd (omega arith)
-    go (suc v) (suc g) a b ih =
-        let less : stepBack t m (suc v) < suc v = back-less t m (suc v) (omega arith) in
-        pageFrom-suc f t m (suc v)
-        ∙ ap (pick (hasMark m begins (suc v)) (countTo (suc v) (hasMark m begins)))
-        (ih (stepBack t m (suc v)) g (omega arith) (omega arith))
-        ∙ sym (pageFrom-suc g t m (suc v))
+pageFrom-enough : (t m : List ℕ) (f g v : ℕ) → v ≤ f → v ≤ g → pageFrom f t m v ≡ pageFrom g t m v
+unfolding pageFrom
+pageFrom-enough t m =
+    steps-enough (λ f v. pageFrom f t m v) (stepBack t m) (back-less t m)
+    (λ f g. pageFrom-none f t m ∙ sym (pageFrom-none g t m))
+    (λ f g v e. ap (pick (hasMark m begins v) (countTo v (hasMark m begins))) e)
 
 pub pageOf-none : (t m : List ℕ) → pageOf t m 0 ≡ 0
 unfolding pageOf
@@ -73,7 +64,7 @@ pageOf-step t m (suc v) low =
     let less : stepBack t m (suc v) < suc v = back-less t m (suc v) low in
     pageFrom-suc v t m (suc v)
     ∙ ap (pick (hasMark m begins (suc v)) (countTo (suc v) (hasMark m begins)))
-    (pageFrom-enough v t m (stepBack t m (suc v)) (stepBack t m (suc v)) (omega arith) (omega arith))
+    (pageFrom-enough t m v (stepBack t m (suc v)) (stepBack t m (suc v)) (omega arith) (omega arith))
 
 pageFrom-le : (f : ℕ) (t m : List ℕ) (v : ℕ) → pageFrom f t m v ≤ v
 unfolding pageFrom

@@ -4,7 +4,7 @@ use Prim.Native.Nat.{ℕ, zero, suc, _+_, _≤_, _<_}
 use native.Mathlib.Omega.{arith}
 use mathlib.Core.Bool.{Bool, true, false, true≢false, false≢true}
 use mathlib.Core.Path.{_≡_, refl, sym, _∙_, ap}
-use mathlib.Core.Logic.{_⊎_, inl, inr}
+use mathlib.Core.Logic.{_⊎_, inl, inr, ⊎-elim}
 use mathlib.Core.List.{List, [], _∷_, _++_}
 use lib.ListN.{length, getD, length-append, List·getD-append}
 use lib.Seq.{getD-append-seam}
@@ -81,6 +81,32 @@ order-cases a b = go (ltb a b) refl (ltb b a) refl
     go true e y h = inl (ltb-true a b e)
     go false e true h = inr (inr (ltb-true b a h))
     go false e false h = inr (inl (omega (arith, ltb-false a b e, ltb-false b a h)))
+
+pub le-cases : (a b : ℕ) → a ≤ b → (b ≡ a) ⊎ (a < b)
+le-cases a b h = ⊎-elim inr (⊎-elim (λ e. inl (sym e)) (λ l. absurd (omega arith))) (order-cases a b)
+
+pub zero-cases : (n : ℕ) → (n ≡ 0) ⊎ (1 ≤ n)
+zero-cases n = le-cases 0 n (omega arith)
+
+-- what holds of a number where it holds of all earlier ones holds of every number
+pub by-earlier {ℓ} : (P : ℕ → Type ℓ) → ((v : ℕ) → ((u : ℕ) → u < v → P u) → P v) → (v : ℕ) → P v
+by-earlier P turn v = upto (suc v) v (omega arith)
+  where
+    upto : (f u : ℕ) → u < f → P u
+    upto zero u h = absurd (omega arith)
+    upto (suc f) u h = turn u (λ w less. upto f w (omega arith))
+
+-- what is found by steps back from v is found with v steps or more
+pub steps-enough {ℓ} : {X : Type ℓ} (found : ℕ → ℕ → X) (back : ℕ → ℕ) → ((v : ℕ) → 1 ≤ v → back v < v)
+    → ((f g : ℕ) → found f 0 ≡ found g 0)
+    → ((f g v : ℕ) → found f (back v) ≡ found g (back v) → found (suc f) v ≡ found (suc g) v)
+    → (f g v : ℕ) → v ≤ f → v ≤ g → found f v ≡ found g v
+steps-enough found back less none turn zero g v a b = let z : v ≡ 0 = omega arith in rw z (none 0 g)
+steps-enough found back less none turn (suc f) zero v a b = let z : v ≡ 0 = omega arith in rw z (none (suc f) 0)
+steps-enough found back less none turn (suc f) (suc g) zero a b = none (suc f) (suc g)
+steps-enough found back less none turn (suc f) (suc g) (suc v) a b =
+    let l : back (suc v) < suc v = less (suc v) (omega arith) in
+    turn f g (suc v) (steps-enough found back less none turn f g (back (suc v)) (omega arith) (omega arith))
 
 abbrev pub Upto {ℓ} : ℕ → (ℕ → Type ℓ) → Type ℓ
 Upto n P = (v : ℕ) → 1 ≤ v → v ≤ n → P v
@@ -251,16 +277,15 @@ firstTo-first n v p f = go (firstTo n p) refl
   where
     go : (o : Place) → firstTo n p ≡ o → firstTo n p ≡ At v
     go Nowhere e = absurd (true≢false (sym (f .passed) ∙ firstTo-nowhere n p e v (f .low) (f .high)))
-    go (At u) e = e ∙ ap At (same (leb u v) refl (leb v u) refl)
+    go (At u) e = e ∙ ap At (same (order-cases u v))
       where
         g : First n p u
         g = firstTo-at n u p e
 
-        same : (b : Bool) → leb u v ≡ b → (c : Bool) → leb v u ≡ c → u ≡ v
-        same true d true d′ = let h : u ≤ v = leb-true u v d in let k : v ≤ u = leb-true v u d′ in omega arith
-        same true d false d′ =
-            let h : u < v = leb-false v u d′ in absurd (true≢false (sym (g .passed) ∙ f .before u (g .low) h))
-        same false d c d′ = let h : v < u = leb-false u v d in absurd (true≢false (sym (f .passed) ∙ g .before v (f .low) h))
+        same : (u < v) ⊎ ((u ≡ v) ⊎ (v < u)) → u ≡ v
+        same (inl h) = absurd (true≢false (sym (g .passed) ∙ f .before u (g .low) h))
+        same (inr (inl q)) = q
+        same (inr (inr h)) = absurd (true≢false (sym (f .passed) ∙ g .before v (f .low) h))
 
 -- ---- The last that passes
 
@@ -325,27 +350,22 @@ lastTo-at (suc n) v p e low = go (p (suc n)) refl (lastTo-at n v p)
 
 -- the last one that passes is found
 lastTo-last : (n v : ℕ) (p : ℕ → Bool) → Last n p v → lastTo n p ≡ v
-lastTo-last n v p f = go (leb 1 (lastTo n p)) refl
+lastTo-last n v p f = go (zero-cases u)
   where
-    go : (b : Bool) → leb 1 (lastTo n p) ≡ b → lastTo n p ≡ v
-    go true e = same (leb u v) refl (leb v u) refl
+    u : ℕ
+    u = lastTo n p
+
+    go : (u ≡ 0) ⊎ (1 ≤ u) → u ≡ v
+    go (inl z) = absurd (true≢false (sym (f .passed) ∙ lastTo-nothing n p z v (f .low) (f .high)))
+    go (inr one) = same (order-cases u v)
       where
-        u : ℕ
-        u = lastTo n p
-
         g : Last n p u
-        g = lastTo-at n u p refl (leb-true 1 u e)
+        g = lastTo-at n u p refl one
 
-        same : (b : Bool) → leb u v ≡ b → (c : Bool) → leb v u ≡ c → u ≡ v
-        same true d true d′ = let h : u ≤ v = leb-true u v d in let k : v ≤ u = leb-true v u d′ in omega arith
-        same true d false d′ =
-            let h : u < v = leb-false v u d′ in absurd (true≢false (sym (f .passed) ∙ g .after v h (f .high)))
-        same false d c d′ =
-            let h : v < u = leb-false u v d in absurd (true≢false (sym (g .passed) ∙ f .after u h (g .high)))
-    go false e =
-        let l : lastTo n p < 1 = leb-false 1 (lastTo n p) e in
-        let z : lastTo n p ≡ 0 = omega arith in
-        absurd (true≢false (sym (f .passed) ∙ lastTo-nothing n p z v (f .low) (f .high)))
+        same : (u < v) ⊎ ((u ≡ v) ⊎ (v < u)) → u ≡ v
+        same (inl h) = absurd (true≢false (sym (f .passed) ∙ g .after v h (f .high)))
+        same (inr (inl q)) = q
+        same (inr (inr h)) = absurd (true≢false (sym (g .passed) ∙ f .after u h (g .high)))
 
 -- the only one that passes is found
 pub lastTo-only : (n v : ℕ) (p : ℕ → Bool) → 1 ≤ v → v ≤ n → p v ≡ true → Upto n (λ u. p u ≡ true → u ≡ v) → lastTo n p ≡ v

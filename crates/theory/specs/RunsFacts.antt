@@ -8,7 +8,7 @@ use mathlib.Core.Path.{_≡_, refl, sym, _∙_, ap}
 use mathlib.Core.List.{List, [], _∷_, List·Memᴰ·head, List·Memᴰ·tail, List·Memᴰ·not-nil}
 use lib.Dec.{eqb, leb}
 use borrow.Author.Tests.{eqb-true, eq-eqb, leb-true, le-leb}
-use Rattle.model.specs.Basics.{countTo, every}
+use Rattle.model.specs.Basics.{atPlace, countTo, every}
 use Rattle.model.specs.Table.{nodeCount}
 use Rattle.model.specs.Plan.{parentAt}
 use Rattle.model.specs.Runs.{Run, comesAfter, isRun, isMember, rootRun, isRootRun, countOf, inOneAtMost, holds, runWith}
@@ -16,7 +16,7 @@ use Rattle.model.specs.Runs.{homeFrom, homeOf}
 use Rattle.model.specs.declared.Place.{Place}
 use Rattle.model.specs.declared.Place.the-variants.{At, Nowhere}
 use Rattle.theory.specs.Bools.{both-true}
-use Rattle.theory.specs.Ranges.{Upto, pick-true, pick-false, at-nowhere, at-same, atPlace-at, atPlace-nowhere}
+use Rattle.theory.specs.Ranges.{Upto, by-earlier, steps-enough, pick-true, pick-false, at-nowhere, at-same, atPlace-at, atPlace-nowhere}
 use Rattle.theory.specs.Ranges.{countTo-all, countTo-full}
 use Rattle.theory.specs.TableFacts.{SoundFacts}
 use Rattle.theory.specs.TableLinks.{parentAt-none, parentAt-less, parent-low}
@@ -202,31 +202,18 @@ homeFrom-up : (f : ℕ) (t : List ℕ) (rs : List Run) (v : ℕ) → runWith t r
 unfolding homeFrom
 homeFrom-up f t rs v e = atPlace-nowhere (runWith t rs v) (λ w. w) (homeFrom f t rs (parentAt t v)) e
 
-homeFrom-zero : (t : List ℕ) (rs : List Run) (v : ℕ) → homeFrom 0 t rs v ≡ 0
-unfolding homeFrom
-homeFrom-zero t rs v = refl
-
 module _ (t : List ℕ) (rs : List Run) (z : runWith t rs 0 ≡ Nowhere) where
   homeFrom-none : (f : ℕ) → homeFrom f t rs 0 ≡ 0
-  homeFrom-none zero = homeFrom-zero t rs 0
+  unfolding homeFrom
+  homeFrom-none zero = refl
   homeFrom-none (suc f) = homeFrom-up f t rs 0 z ∙ ap (homeFrom f t rs) (parentAt-none t) ∙ homeFrom-none f
 
   -- the page is found with v steps or more
   homeFrom-enough : (f g v : ℕ) → v ≤ f → v ≤ g → homeFrom f t rs v ≡ homeFrom g t rs v
-  homeFrom-enough zero g v a b = let n : v ≡ 0 = omega arith in rw n (homeFrom-none 0 ∙ sym (homeFrom-none g))
-  homeFrom-enough (suc f) zero v a b = let n : v ≡ 0 = omega arith in rw n (homeFrom-none (suc f) ∙ sym (homeFrom-none 0))
-  homeFrom-enough (suc f) (suc g) zero a b = homeFrom-none (suc f) ∙ sym (homeFrom-none (suc g))
-  homeFrom-enough (suc f) (suc g) (suc v) a b = go (runWith t rs (suc v)) refl (homeFrom-enough f g (parentAt t (suc v)))
-    where
-      less : parentAt t (suc v) < suc v
-      less = parentAt-less t (suc v) (omega arith)
-
-      go : (o : Place) → runWith t rs (suc v) ≡ o
-          → (parentAt t (suc v) ≤ f → parentAt t (suc v) ≤ g → homeFrom f t rs (parentAt t (suc v)) ≡ homeFrom g t rs (parentAt t (suc v)))
-          → homeFrom (suc f) t rs (suc v) ≡ homeFrom (suc g) t rs (suc v)
-      go (At u) q ih = homeFrom-run f t rs (suc v) u q ∙ sym (homeFrom-run g t rs (suc v) u q)
-      go Nowhere q ih =
-          homeFrom-up f t rs (suc v) q ∙ ih (omega (arith, less)) (omega (arith, less)) ∙ sym (homeFrom-up g t rs (suc v) q)
+  unfolding homeFrom
+  homeFrom-enough =
+      steps-enough (λ f v. homeFrom f t rs v) (parentAt t) (parentAt-less t) (λ f g. homeFrom-none f ∙ sym (homeFrom-none g))
+      (λ f g v e. ap (atPlace (runWith t rs v) (λ u. u)) e)
 
   -- a node in a run is on that run's page, any other on its parent's page
   pub home-run : (v u : ℕ) → 1 ≤ v → runWith t rs v ≡ At u → homeOf t rs v ≡ u
@@ -243,25 +230,23 @@ module _ (t : List ℕ) (rs : List Run) (z : runWith t rs 0 ≡ Nowhere) where
 
 -- the first node of a page is the first of a run
 module _ {t : List ℕ} (s : SoundFacts t) (rs : List Run) (h : HoldFacts t rs) where
-  home-upto : (f v : ℕ) → v ≤ f → 1 ≤ v → v ≤ nodeCount t → (r : Run) × Mem r rs × (r .first ≡ homeOf t rs v)
-  home-upto zero v bound low high = absurd (omega arith)
-  home-upto (suc f) v bound low high = go (runWith t rs v) refl (home-upto f)
+  abbrev HomeRun : ℕ → Type 0
+  HomeRun v = 1 ≤ v → v ≤ nodeCount t → (r : Run) × Mem r rs × (r .first ≡ homeOf t rs v)
+
+  pub home-first : (v : ℕ) → HomeRun v
+  home-first = by-earlier HomeRun (λ v earlier low high. go v low high earlier (runWith t rs v) refl)
     where
       z : runWith t rs 0 ≡ Nowhere
       z = runWith-zero s rs h
 
-      go : (o : Place) → runWith t rs v ≡ o
-          → ((u : ℕ) → u ≤ f → 1 ≤ u → u ≤ nodeCount t → (r : Run) × Mem r rs × (r .first ≡ homeOf t rs u))
+      go : (v : ℕ) → 1 ≤ v → v ≤ nodeCount t → ((u : ℕ) → u < v → HomeRun u) → (o : Place) → runWith t rs v ≡ o
           → (r : Run) × Mem r rs × (r .first ≡ homeOf t rs v)
-      go (At u) q ih =
+      go v low high earlier (At u) q =
           let found : FoundRun t rs v u = runWith-found t rs v u q in
           (found .run, found .listed, found .first ∙ sym (home-run t rs z v u low q))
-      go Nowhere q ih =
+      go v low high earlier Nowhere q =
           let other : v ≡ 1 → ⊥ = λ e. at-nowhere 1 (sym (runWith-root s rs h) ∙ ap (runWith t rs) (sym e) ∙ q) in
           let two : 2 ≤ v = omega (arith, other) in
           let less : parentAt t v < v = parentAt-less t v low in
-          let up = ih (parentAt t v) (omega arith) (parent-low s v two high) (omega arith) in
+          let up = earlier (parentAt t v) less (parent-low s v two high) (omega arith) in
           (up .0, up .1, up .2 ∙ sym (home-up t rs z v low q))
-
-  pub home-first : (v : ℕ) → 1 ≤ v → v ≤ nodeCount t → (r : Run) × Mem r rs × (r .first ≡ homeOf t rs v)
-  home-first v low high = home-upto v v (omega arith) low high

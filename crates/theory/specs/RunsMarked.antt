@@ -15,12 +15,12 @@ use Rattle.model.specs.Plan.{prevAt, badMark, begins, continues, markAt, hasMar
 use Rattle.model.specs.Plan.{runLast}
 use Rattle.model.specs.Runs.{Run, isMember, runsOf}
 use Rattle.model.specs.declared.Place.the-variants.{Nowhere}
-use Rattle.theory.specs.Bools.{both-true}
-use Rattle.theory.specs.Ranges.{pick-true, pick-false}
+use Rattle.theory.specs.Bools.{both-true, both-false}
+use Rattle.theory.specs.Ranges.{by-earlier, pick-true, pick-false}
 use Rattle.theory.specs.TableFacts.{SoundFacts}
-use Rattle.theory.specs.TableLinks.{next-later, next-le, prevAt-less, prevAt-next}
+use Rattle.theory.specs.TableLinks.{next-later, next-le, prevAt-less}
 use Rattle.theory.specs.PlanPages.{good-node, good-continues, good-after}
-use Rattle.theory.specs.SiblingChains.{Reach, here, step, LastLink, reach-trans, reach-one, reach-after}
+use Rattle.theory.specs.SiblingChains.{Reach, here, step, LastLink, reach-trans, reach-prev-one, reach-after}
 use Rattle.theory.specs.SiblingChains.{reach-last, reach-stop, reach-stop-one, reach-common, reach-between}
 use Rattle.theory.specs.Chosen.{chosen, length-chosen}
 use Rattle.theory.specs.RunsFacts.{RunFacts, member-inside, inside-member}
@@ -92,6 +92,10 @@ inRun-continues m v e = go (hasMark m begins v)
 pub neither-inRun : (m : List ℕ) (v : ℕ) → hasMark m begins v ≡ false → hasMark m continues v ≡ false → inRun m v ≡ false
 unfolding inRun
 neither-inRun m v a b = rw (a, b)
+
+pub inRun-neither : (m : List ℕ) (v : ℕ) → inRun m v ≡ false → (hasMark m begins v ≡ false) × (hasMark m continues v ≡ false)
+unfolding inRun
+inRun-neither m v e = both-false (hasMark m begins v) (hasMark m continues v) e
 
 module _ {t : List ℕ} (s : SoundFacts t) (m : List ℕ) where
   ends-here : (f u : ℕ) → goesOn t m u ≡ false → Ends t m u (runLastFrom f t m u)
@@ -173,29 +177,26 @@ pub record Headed (t m : List ℕ) (v : ℕ) : Type 0 where
   pub goes : Goes t m head v
 
 module _ {t : List ℕ} (s : SoundFacts t) (m : List ℕ) (good : badMark t m ≡ Nowhere) where
-  head-upto : (f v : ℕ) → v ≤ f → 1 ≤ v → v ≤ nodeCount t → inRun m v ≡ true → Headed t m v
-  head-upto zero v bound low high e = absurd (omega arith)
-  head-upto (suc f) v bound low high e = go (hasMark m begins v) refl (hasMark m continues v) refl (head-upto f (prevAt t v))
+  abbrev HeadedAt : ℕ → Type 0
+  HeadedAt v = 1 ≤ v → v ≤ nodeCount t → inRun m v ≡ true → Headed t m v
+
+  pub headed : (v : ℕ) → 1 ≤ v → v ≤ nodeCount t → inRun m v ≡ true → Headed t m v
+  headed =
+      by-earlier HeadedAt (λ v earlier low high e. go v earlier low high e (hasMark m begins v) refl (hasMark m continues v) refl)
     where
-      go : (b : Bool) → hasMark m begins v ≡ b → (c : Bool) → hasMark m continues v ≡ c
-          → (prevAt t v ≤ f → 1 ≤ prevAt t v → prevAt t v ≤ nodeCount t → inRun m (prevAt t v) ≡ true → Headed t m (prevAt t v))
-          → Headed t m v
-      go true q c q′ ih = record { head = v; low = low; high = omega arith; mark = q; goes = here }
-      go false q true q′ ih =
+      go : (v : ℕ) → ((u : ℕ) → u < v → HeadedAt u) → 1 ≤ v → v ≤ nodeCount t → inRun m v ≡ true
+          → (b : Bool) → hasMark m begins v ≡ b → (c : Bool) → hasMark m continues v ≡ c → Headed t m v
+      go v earlier low high e true q c q′ = record { head = v; low = low; high = omega arith; mark = q; goes = here }
+      go v earlier low high e false q true q′ =
           let less : prevAt t v < v = prevAt-less t v low in
-          let one : 1 ≤ prevAt t v = good-continues t m v low (good-node s m good v low high) q′ in
-          let next : nextAt t (prevAt t v) ≡ v = prevAt-next t v one in
-          let p : Headed t m (prevAt t v) = ih (omega arith) one (omega arith) (good-after t m v low (good-node s m good v low high) q′) in
-          let last : Goes t m (prevAt t v) (nextAt t (prevAt t v)) =
-          reach-one (omega (arith, next)) (ap (hasMark m continues) next ∙ q′) in
+          let fine = good-node s m good v low high in
+          let one : 1 ≤ prevAt t v = good-continues t m v low fine q′ in
+          let p : Headed t m (prevAt t v) = earlier (prevAt t v) less one (omega arith) (good-after t m v low fine q′) in
           record {
             head = p .head;
             low = p .low;
             high = omega (arith, p .high);
             mark = p .mark;
-            goes = reach-trans (p .goes) (rw next at last);
+            goes = reach-trans (p .goes) (reach-prev-one t v low one q′);
           }
-      go false q false q′ ih = absurd (false≢true (sym (neither-inRun m v q q′) ∙ e))
-
-  pub headed : (v : ℕ) → 1 ≤ v → v ≤ nodeCount t → inRun m v ≡ true → Headed t m v
-  headed v low high e = head-upto v v (omega arith) low high e
+      go v earlier low high e false q false q′ = absurd (false≢true (sym (neither-inRun m v q q′) ∙ e))

@@ -1,7 +1,7 @@
 -- The runs of a plan with no bad mark, in a table of sound form: they hold the tree; a node is in one of them where its mark says so,
 -- its home is the node that begins its page, and each run weighs what its page weighs.
 -- Defines OnPage. Proves in-one, in-none, runs-hold, home-page, root-weight, within-heavy. Assumes nothing.
-use Prim.Native.Nat.{ℕ, zero, suc, _≤_, _<_}
+use Prim.Native.Nat.{ℕ, suc, _≤_, _<_}
 use native.Mathlib.Omega.{arith}
 use mathlib.Core.Bool.{Bool, true, false, _&&_, true≢false}
 use mathlib.Core.Path.{_≡_, refl, sym, _∙_, ap}
@@ -11,24 +11,23 @@ use lib.Dec.{eqb, leb, ltb}
 use borrow.Author.Tests.{eqb-true, eq-eqb, leb-true, le-leb, ltb-false, le-ltb}
 use Rattle.model.specs.Basics.{pick, countTo}
 use Rattle.model.specs.Table.{nodeCount, limitOf, weightAt, nextAt}
-use Rattle.model.specs.Plan.{prevAt, parentAt, begins, continues, hasMark, inRun, pageOf, pageCount, pageWeight}
+use Rattle.model.specs.Plan.{parentAt, begins, hasMark, inRun, pageOf, pageCount, pageWeight}
 use Rattle.model.specs.Plan.{badMark, heavyPage}
 use Rattle.model.specs.Runs.{Run, isMember, rootRun, countOf, holds, runWith, homeOf, runWeight, withinLimit}
 use Rattle.model.specs.Runs.{rootWeight, runsOf}
 use Rattle.model.specs.declared.Place.the-variants.{At, Nowhere}
 use Rattle.theory.specs.Bools.{both-true, same-true}
-use Rattle.theory.specs.Ranges.{sumTo-cong, countTo-zero, countTo-yes, countTo-none, firstTo-none}
+use Rattle.theory.specs.Ranges.{by-earlier, sumTo-cong, countTo-zero, countTo-yes, countTo-none, firstTo-none}
 use Rattle.theory.specs.Ranges.{firstTo-nowhere}
 use Rattle.theory.specs.Chosen.{countTo-mono, countTo-some, ranked, countTo-same, countTo-only}
 use Rattle.theory.specs.TableFacts.{SoundFacts}
-use Rattle.theory.specs.TableLinks.{prevAt-less, prevAt-next, parentAt-less, parent-low}
-use Rattle.theory.specs.PlanPages.{pageOf-begins, pageOf-continues, pageOf-stays, good-node, good-continues}
-use Rattle.theory.specs.PlanPages.{good-after, root-begins}
-use Rattle.theory.specs.SiblingChains.{here, reach-trans, reach-one}
+use Rattle.theory.specs.TableLinks.{next-le, next-prev, parentAt-less, parent-low}
+use Rattle.theory.specs.PlanPages.{pageOf-begins, pageOf-continues, pageOf-stays, root-begins}
+use Rattle.theory.specs.SiblingChains.{here, step}
 use Rattle.theory.specs.Lists.{Mem, every-all, all-every, From, chosen-from, chosen-mem, countOf-chosen}
 use Rattle.theory.specs.RunsFacts.{run-path, none-runWith, HoldFacts, facts-holds, runWith-at, runWith-zero}
 use Rattle.theory.specs.RunsFacts.{home-run, home-up}
-use Rattle.theory.specs.RunsMarked.{Goes, Headed, headed, planRun, runsOf-chosen, neither-inRun, ends-runLast}
+use Rattle.theory.specs.RunsMarked.{Goes, Headed, headed, planRun, runsOf-chosen, inRun-neither, ends-runLast}
 use Rattle.theory.specs.RunsMarked.{planRun-facts, goes-member, member-goes, goes-inRun, goes-one}
 
 -- the node that begins the page of v
@@ -123,62 +122,47 @@ module _ {t : List ℕ} (s : SoundFacts t) (m : List ℕ) (good : badMark t m �
       go : (r : Run) → From (hasMark m begins) (planRun t m) (nodeCount t) r → isMember t v r ≡ false
       go r f = ap (isMember t v) (f .same) ∙ not-member v e (f .number) (f .low) (f .high) (f .passed)
 
-  page-upto : (f v : ℕ) → v ≤ f → 1 ≤ v → v ≤ nodeCount t → OnPage t m v
-  page-upto zero v bound low high = absurd (omega arith)
-  page-upto (suc f) v bound low high = go (hasMark m begins v) refl (hasMark m continues v) refl (page-upto f)
-    where
-      go : (b : Bool) → hasMark m begins v ≡ b → (c : Bool) → hasMark m continues v ≡ c
-          → ((u : ℕ) → u ≤ f → 1 ≤ u → u ≤ nodeCount t → OnPage t m u) → OnPage t m v
-      go true q c q′ ih =
-          record {
-            first = v;
-            low = low;
-            high = omega arith;
-            mark = q;
-            home = home-run t (runsOf t m) zero-none v v low (runWith-goes v v low high q here);
-            page = pageOf-begins t m v low q;
-          }
-      go false q true q′ ih =
-          let less : prevAt t v < v = prevAt-less t v low in
-          let one : 1 ≤ prevAt t v = good-continues t m v low (good-node s m good v low high) q′ in
-          let next : nextAt t (prevAt t v) ≡ v = prevAt-next t v one in
-          let p : OnPage t m (prevAt t v) = ih (prevAt t v) (omega arith) one (omega arith) in
-          let h : Headed t m (prevAt t v) = headed s m good (prevAt t v) one (omega arith) (good-after t m v low (good-node s m good v low high) q′) in
-          let top : h .head ≤ nodeCount t = omega (arith, h .high) in
-          let last : Goes t m (prevAt t v) (nextAt t (prevAt t v)) =
-          reach-one (omega (arith, next)) (ap (hasMark m continues) next ∙ q′) in
-          let here′ : homeOf t (runsOf t m) v ≡ h .head =
-          home-run t (runsOf t m) zero-none v (h .head) low
-          (runWith-goes (h .head) v (h .low) top (h .mark) (reach-trans (h .goes) (rw next at last))) in
-          let before : homeOf t (runsOf t m) (prevAt t v) ≡ h .head =
-          home-run t (runsOf t m) zero-none (prevAt t v) (h .head) one
-          (runWith-goes (h .head) (prevAt t v) (h .low) top (h .mark) (h .goes)) in
-          record {
-            first = p .first;
-            low = p .low;
-            high = omega (arith, p .high);
-            mark = p .mark;
-            home = here′ ∙ sym before ∙ p .home;
-            page = pageOf-continues t m v low q′ ∙ p .page;
-          }
-      go false q false q′ ih =
-          let other : v ≡ 1 → ⊥ = λ e. true≢false (sym (root-begins s m good) ∙ ap (hasMark m begins) (sym e) ∙ q) in
-          let two : 2 ≤ v = omega (arith, other) in
-          let less : parentAt t v < v = parentAt-less t v low in
-          let p : OnPage t m (parentAt t v) = ih (parentAt t v) (omega arith) (parent-low s v two high) (omega arith) in
-          record {
-            first = p .first;
-            low = p .low;
-            high = omega (arith, p .high);
-            mark = p .mark;
-            home =
-                home-up t (runsOf t m) zero-none v low (runWith-out v (neither-inRun m v q q′)) ∙ p .home;
-            page = pageOf-stays t m v low q q′ ∙ p .page;
-          }
+  goes-page : {u v : ℕ} → Goes t m u v → 1 ≤ u → u ≤ nodeCount t → pageOf t m v ≡ pageOf t m u
+  goes-page here low high = refl
+  goes-page {u} (step a p r) low high =
+      goes-page r a (next-le s u low high)
+      ∙ pageOf-continues t m (nextAt t u) a p
+      ∙ ap (pageOf t m) (next-prev s u (nextAt t u) low high a refl)
+
+  abbrev HomePage : ℕ → Type 0
+  HomePage v = 1 ≤ v → v ≤ nodeCount t → OnPage t m v
 
   -- a node's home is the node that begins its page
-  home-page : (v : ℕ) → 1 ≤ v → v ≤ nodeCount t → OnPage t m v
-  home-page v low high = page-upto v v (omega arith) low high
+  home-page : (v : ℕ) → HomePage v
+  home-page = by-earlier HomePage (λ v earlier low high. go v earlier low high (inRun m v) refl)
+    where
+      go : (v : ℕ) → ((u : ℕ) → u < v → HomePage u) → 1 ≤ v → v ≤ nodeCount t → (b : Bool) → inRun m v ≡ b → OnPage t m v
+      go v earlier low high true e =
+          let h : Headed t m v = headed s m good v low high e in
+          let top : h .head ≤ nodeCount t = omega (arith, h .high) in
+          let with-head = runWith-goes (h .head) v (h .low) top (h .mark) (h .goes) in
+          record {
+            first = h .head;
+            low = h .low;
+            high = h .high;
+            mark = h .mark;
+            home = home-run t (runsOf t m) zero-none v (h .head) low with-head;
+            page = goes-page (h .goes) (h .low) top ∙ pageOf-begins t m (h .head) (h .low) (h .mark);
+          }
+      go v earlier low high false e =
+          let q = inRun-neither m v e in
+          let other : v ≡ 1 → ⊥ = λ z. true≢false (sym (root-begins s m good) ∙ ap (hasMark m begins) (sym z) ∙ q .0) in
+          let two : 2 ≤ v = omega (arith, other) in
+          let less : parentAt t v < v = parentAt-less t v low in
+          let p : OnPage t m (parentAt t v) = earlier (parentAt t v) less (parent-low s v two high) (omega arith) in
+          record {
+            first = p .first;
+            low = p .low;
+            high = omega (arith, p .high);
+            mark = p .mark;
+            home = home-up t (runsOf t m) zero-none v low (runWith-out v e) ∙ p .home;
+            page = pageOf-stays t m v low (q .0) (q .1) ∙ p .page;
+          }
 
   -- ---- Weights
 

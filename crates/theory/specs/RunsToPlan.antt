@@ -21,9 +21,9 @@ use Rattle.model.specs.declared.Place.the-variants.{At, Nowhere}
 use Rattle.theory.specs.Ranges.{pick-true, pick-false, atPlace-at, atPlace-nowhere, listTo-cong, length-listTo}
 use Rattle.theory.specs.Ranges.{getD-listTo}
 use Rattle.theory.specs.TableFacts.{SoundFacts}
-use Rattle.theory.specs.TableLinks.{next-later, next-le, next-prev, prevAt-next}
+use Rattle.theory.specs.TableLinks.{next-later, next-le, next-prev}
 use Rattle.theory.specs.PlanPages.{bad-none, good-node, good-first, good-later, root-begins}
-use Rattle.theory.specs.SiblingChains.{here, step, After, reach-trans, reach-one, reach-le, reach-prev}
+use Rattle.theory.specs.SiblingChains.{here, step, After, reach-trans, reach-one, reach-prev-one, reach-le, reach-prev}
 use Rattle.theory.specs.Lists.{Mem, From}
 use Rattle.theory.specs.RunsFacts.{RunFacts, run-path, Inside, member-inside, member-range, inside-member}
 use Rattle.theory.specs.RunsFacts.{first-member, FoundRun, runWith-found, HoldFacts, runs-apart, runWith-at}
@@ -143,9 +143,8 @@ module _ {t : List ℕ} (s : SoundFacts t) (rs : List Run) (h : HoldFacts t rs) 
       go : (r .first ≡ v) ⊎ ((1 ≤ prevAt t v) × Unit {0} × After t (r .first) (prevAt t v)) → PrevInRun r v
       go (inl e) = absurd (other e)
       go (inr b) =
-          let next : nextAt t (prevAt t v) ≡ v = prevAt-next t v (b .0) in
-          let one : After t (prevAt t v) (nextAt t (prevAt t v)) = reach-one (omega (arith, next, member-range s v r f i .0)) tt in
-          record { low = b .0; inside = (b .2, reach-trans (rw next at one) (i .1)) }
+          let one : After t (prevAt t v) v = reach-prev-one t v (member-range s v r f i .0) (b .0) tt in
+          record { low = b .0; inside = (b .2, reach-trans one (i .1)) }
 
   -- its marks are good
   good-mark : (v : ℕ) → 1 ≤ v → v ≤ nodeCount t → goodMark t (marksOf t rs) v ≡ true

@@ -4,7 +4,7 @@
 use Prim.Native.Nat.{ℕ, zero, suc, _+_, _≤_, _<_}
 use native.Mathlib.Omega.{arith}
 use mathlib.Core.Bool.{Bool, true, false, not, _&&_, _||_}
-use mathlib.Core.Path.{_≡_, refl, _∙_}
+use mathlib.Core.Path.{_≡_, refl, sym, subst, _∙_}
 use mathlib.Core.Logic.{_⊎_, inl, inr}
 use mathlib.Core.List.{List}
 use lib.Dec.{eqb}
@@ -14,7 +14,7 @@ use Rattle.model.specs.Plan.{prevAt, parentAt}
 use Rattle.model.specs.Runs.{comesFrom, comesAfter}
 use Rattle.theory.specs.Bools.{both-true}
 use Rattle.theory.specs.TableFacts.{SoundFacts}
-use Rattle.theory.specs.TableLinks.{next-later, next-le, next-one, next-prev, next-parent}
+use Rattle.theory.specs.TableLinks.{next-later, next-le, next-one, next-prev, next-parent, prevAt-next}
 
 pub data Reach (t : List ℕ) (P : ℕ → Type 0) : ℕ → ℕ → Type 0 where
   here : {u : ℕ} → Reach t P u u
@@ -35,6 +35,13 @@ reach-after (step a p r) = step a tt (reach-after r)
 
 pub reach-one : {t : List ℕ} {P : ℕ → Type 0} {u : ℕ} → 1 ≤ nextAt t u → P (nextAt t u) → Reach t P u (nextAt t u)
 reach-one a p = step a p here
+
+-- a link to a node, from the sibling just before it
+pub reach-prev-one : (t : List ℕ) {P : ℕ → Type 0} (v : ℕ) → 1 ≤ v → 1 ≤ prevAt t v → P v → Reach t P (prevAt t v) v
+reach-prev-one t {P} v low one p =
+    let q : nextAt t (prevAt t v) ≡ v = prevAt-next t v one in
+    let link : Reach t P (prevAt t v) (nextAt t (prevAt t v)) = reach-one (omega (arith, q)) (subst P (sym q) p) in
+    rw q at link
 
 -- the first link, or none
 pub reach-first : {t : List ℕ} {P : ℕ → Type 0} {u v : ℕ} → Reach t P u v

@@ -4,13 +4,14 @@ use Prim.Native.Nat.{ℕ, zero, suc, _-_, _≤_, _<_}
 use native.Mathlib.Omega.{arith}
 use mathlib.Core.Bool.{Bool, true, false}
 use mathlib.Core.Path.{_≡_, refl, sym, _∙_, ap}
-use mathlib.Core.Logic.{_⊎_, inl, inr}
+use mathlib.Core.Logic.{_⊎_, inl, inr, ⊎-elim}
 use mathlib.Core.List.{List}
 use lib.Dec.{eqb}
 use borrow.Author.Tests.{eqb-true, eqb-false, eq-eqb, ne-eqb}
+use Rattle.model.specs.Basics.{pick}
 use Rattle.model.specs.Table.{nodeCount, firstAt, nextAt, Chain}
 use Rattle.model.specs.Plan.{prevAt, ownerAt, parentFrom, parentAt}
-use Rattle.theory.specs.Ranges.{Upto, pick-true, pick-false, lastTo-zero, lastTo-le, lastTo-none, lastTo-only}
+use Rattle.theory.specs.Ranges.{Upto, zero-cases, by-earlier, steps-enough, pick-true, pick-false, lastTo-zero, lastTo-le, lastTo-none, lastTo-only}
 use Rattle.theory.specs.Ranges.{lastTo-at}
 use Rattle.theory.specs.TableFacts.{SoundFacts}
 use Rattle.theory.specs.TableNumbered.{Numbered, none, some, numbered-le, Between, between-join, sound-tree}
@@ -162,14 +163,10 @@ module _ {t : List ℕ} (s : SoundFacts t) where
   first-le v low high = node-links v low high .first-high
 
   pub first-cases : (v : ℕ) → 1 ≤ v → v ≤ nodeCount t → (firstAt t v ≡ 0) ⊎ ((firstAt t v ≡ suc v) × (suc v ≤ nodeCount t))
-  first-cases v low high = go (eqb (firstAt t v) 0) refl
-    where
-      go : (b : Bool) → eqb (firstAt t v) 0 ≡ b → (firstAt t v ≡ 0) ⊎ ((firstAt t v ≡ suc v) × (suc v ≤ nodeCount t))
-      go true q = inl (eqb-true (firstAt t v) 0 q)
-      go false q =
-          let other : firstAt t v ≡ 0 → ⊥ = eqb-false (firstAt t v) 0 q in
-          let step : firstAt t v ≡ suc v = first-step v low high (omega arith) in
-          inr (step, omega (arith, first-le v low high))
+  first-cases v low high =
+      ⊎-elim inl
+      (λ one. inr (first-step v low high one, omega (arith, first-step v low high one, first-le v low high)))
+      (zero-cases (firstAt t v))
 
   -- the sibling after a node comes later
   pub next-later : (v : ℕ) → 1 ≤ v → v ≤ nodeCount t → 1 ≤ nextAt t v → v < nextAt t v
@@ -179,13 +176,7 @@ module _ {t : List ℕ} (s : SoundFacts t) where
   next-le v low high = node-links v low high .next-high
 
   pub next-cases : (v : ℕ) → 1 ≤ v → v ≤ nodeCount t → (nextAt t v ≡ 0) ⊎ ((v < nextAt t v) × (nextAt t v ≤ nodeCount t))
-  next-cases v low high = go (eqb (nextAt t v) 0) refl
-    where
-      go : (b : Bool) → eqb (nextAt t v) 0 ≡ b → (nextAt t v ≡ 0) ⊎ ((v < nextAt t v) × (nextAt t v ≤ nodeCount t))
-      go true q = inl (eqb-true (nextAt t v) 0 q)
-      go false q =
-          let other : nextAt t v ≡ 0 → ⊥ = eqb-false (nextAt t v) 0 q in
-          inr (next-later v low high (omega arith), next-le v low high)
+  next-cases v low high = ⊎-elim inl (λ one. inr (next-later v low high one, next-le v low high)) (zero-cases (nextAt t v))
 
   -- one node has v as its first child, one as the sibling after it, and not both
   pub first-one : (u u′ : ℕ) → 1 ≤ u → u ≤ nodeCount t → 1 ≤ u′ → u′ ≤ nodeCount t → 1 ≤ firstAt t u
@@ -211,6 +202,10 @@ module _ {t : List ℕ} (s : SoundFacts t) where
 pub prevAt-none : (t : List ℕ) → prevAt t 0 ≡ 0
 unfolding prevAt
 prevAt-none t = lastTo-zero (λ u. eqb (nextAt t u) 0)
+
+ownerAt-none : (t : List ℕ) → ownerAt t 0 ≡ 0
+unfolding ownerAt
+ownerAt-none t = lastTo-zero (λ u. eqb (firstAt t u) 0)
 
 pub parentAt-none : (t : List ℕ) → parentAt t 0 ≡ 0
 unfolding parentAt parentFrom
@@ -252,24 +247,17 @@ unfolding parentFrom
 parentFrom-later f t v low =
     pick-false (eqb (prevAt t v) 0) (ownerAt t v) (parentFrom f t (prevAt t v)) (ne-eqb (prevAt t v) 0 (λ z. omega arith))
 
--- the parent is found with v steps or more
-parentFrom-enough : (f : ℕ) (t : List ℕ) (v g : ℕ) → 1 ≤ v → v ≤ f → v ≤ g → parentFrom f t v ≡ parentFrom g t v
-parentFrom-enough zero t v g low a b = absurd (omega arith)
-parentFrom-enough (suc f) t v zero low a b = absurd (omega arith)
-parentFrom-enough (suc f) t v (suc g) low a b = go (eqb (prevAt t v) 0) refl (parentFrom-enough f t (prevAt t v) g)
-  where
-    less : prevAt t v < v
-    less = prevAt-less t v low
+parentFrom-none : (f : ℕ) (t : List ℕ) → parentFrom f t 0 ≡ 0
+unfolding parentFrom
+parentFrom-none zero t = refl
+parentFrom-none (suc f) t = parentFrom-first f t 0 (prevAt-none t) ∙ ownerAt-none t
 
-    go : (b : Bool) → eqb (prevAt t v) 0 ≡ b
-        → (1 ≤ prevAt t v → prevAt t v ≤ f → prevAt t v ≤ g → parentFrom f t (prevAt t v) ≡ parentFrom g t (prevAt t v))
-        → parentFrom (suc f) t v ≡ parentFrom (suc g) t v
-    go true q ih =
-        let z : prevAt t v ≡ 0 = eqb-true (prevAt t v) 0 q in parentFrom-first f t v z ∙ sym (parentFrom-first g t v z)
-    go false q ih =
-        let other : prevAt t v ≡ 0 → ⊥ = eqb-false (prevAt t v) 0 q in
-        let one : 1 ≤ prevAt t v = omega arith in
-        parentFrom-later f t v one ∙ ih one (omega (arith, less)) (omega (arith, less)) ∙ sym (parentFrom-later g t v one)
+-- the parent is found with v steps or more
+parentFrom-enough : (t : List ℕ) (f g v : ℕ) → v ≤ f → v ≤ g → parentFrom f t v ≡ parentFrom g t v
+unfolding parentFrom
+parentFrom-enough t =
+    steps-enough (λ f v. parentFrom f t v) (prevAt t) (prevAt-less t) (λ f g. parentFrom-none f t ∙ sym (parentFrom-none g t))
+    (λ f g v e. ap (pick (eqb (prevAt t v) 0) (ownerAt t v)) e)
 
 -- the parent of a node with no sibling before it, and of one with some
 parentAt-first : (t : List ℕ) (v : ℕ) → 1 ≤ v → prevAt t v ≡ 0 → parentAt t v ≡ ownerAt t v
@@ -281,28 +269,20 @@ pub parentAt-later : (t : List ℕ) (v : ℕ) → 1 ≤ v → 1 ≤ prevAt t v �
 unfolding parentAt
 parentAt-later t zero low one = absurd (omega arith)
 parentAt-later t (suc v) low one =
-    parentFrom-later v t (suc v) one
-    ∙ parentFrom-enough v t (prevAt t (suc v)) (prevAt t (suc v)) one (omega (arith, prevAt-less t (suc v) low)) (omega arith)
+    let less : prevAt t (suc v) < suc v = prevAt-less t (suc v) low in
+    parentFrom-later v t (suc v) one ∙ parentFrom-enough t v (prevAt t (suc v)) (prevAt t (suc v)) (omega arith) (omega arith)
 
 pub parentAt-one : (t : List ℕ) → parentAt t 1 ≡ 0
 parentAt-one t = parentAt-first t 1 (omega arith) (prevAt-one t) ∙ ownerAt-one t
 
-parentFrom-less : (f : ℕ) (t : List ℕ) (v : ℕ) → 1 ≤ v → parentFrom f t v < v
-unfolding parentFrom
-parentFrom-less zero t v low = low
-parentFrom-less (suc f) t v low = go (eqb (prevAt t v) 0) refl (parentFrom-less f t (prevAt t v))
-  where
-    go : (b : Bool) → eqb (prevAt t v) 0 ≡ b → (1 ≤ prevAt t v → parentFrom f t (prevAt t v) < prevAt t v)
-        → parentFrom (suc f) t v < v
-    go true q ih = omega (arith, parentFrom-first f t v (eqb-true (prevAt t v) 0 q), ownerAt-less t v low)
-    go false q ih =
-        let other : prevAt t v ≡ 0 → ⊥ = eqb-false (prevAt t v) 0 q in
-        let one : 1 ≤ prevAt t v = omega arith in
-        omega (arith, parentFrom-later f t v one, ih one, prevAt-less t v low)
-
 pub parentAt-less : (t : List ℕ) (v : ℕ) → 1 ≤ v → parentAt t v < v
-unfolding parentAt
-parentAt-less t v low = parentFrom-less v t v low
+parentAt-less t = by-earlier (λ v. 1 ≤ v → parentAt t v < v) (λ v earlier low. go v earlier low (zero-cases (prevAt t v)))
+  where
+    go : (v : ℕ) → ((u : ℕ) → u < v → 1 ≤ u → parentAt t u < u) → 1 ≤ v → (prevAt t v ≡ 0) ⊎ (1 ≤ prevAt t v) → parentAt t v < v
+    go v earlier low (inl z) = omega (arith, parentAt-first t v low z, ownerAt-less t v low)
+    go v earlier low (inr one) =
+        let less : prevAt t v < v = prevAt-less t v low in
+        omega (arith, parentAt-later t v low one, earlier (prevAt t v) less one)
 
 -- ---- Siblings and parents of a table of sound form
 
@@ -344,32 +324,25 @@ module _ {t : List ℕ} (s : SoundFacts t) where
   first-parent u v low high one q =
       parentAt-first t v one (first-prev u v low high one q) ∙ first-owner u v low high one q
 
-  -- every node but the root has a parent; f bounds the nodes
-  parent-upto : (f v : ℕ) → v ≤ f → 2 ≤ v → v ≤ nodeCount t → 1 ≤ parentAt t v
-  parent-upto zero v bound low high = absurd (omega arith)
-  parent-upto (suc f) v bound low high = go (linked s v low high) (parent-upto f)
-    where
-      go : Source t 0 v → ((u : ℕ) → u ≤ f → 2 ≤ u → u ≤ nodeCount t → 1 ≤ parentAt t u) → 1 ≤ parentAt t v
-      go src ih = by-link (src .link)
-        where
-          u : ℕ
-          u = src .from
-
-          within : u ≤ nodeCount t
-          within = omega (arith, src .earlier)
-
-          by-link : (firstAt t u ≡ v) ⊎ (nextAt t u ≡ v) → 1 ≤ parentAt t v
-          by-link (inl q) = omega (arith, first-parent u v (src .low) within (omega arith) q, src .low)
-          by-link (inr q) =
-              let other : u ≡ 1 → ⊥ = λ e. omega (arith, ap (nextAt t) e, s .root-alone, q) in
-              omega (
-                arith,
-                next-parent u v (src .low) within (omega arith) q,
-                ih u (omega (arith, src .earlier)) (omega (arith, src .low)) within,
-              )
-
+  -- every node but the root has a parent
   pub parent-low : (v : ℕ) → 2 ≤ v → v ≤ nodeCount t → 1 ≤ parentAt t v
-  parent-low v low high = parent-upto v v (omega arith) low high
+  parent-low =
+      by-earlier (λ v. 2 ≤ v → v ≤ nodeCount t → 1 ≤ parentAt t v)
+      (λ v earlier low high. let src = linked s v low high in go v earlier low high src (src .link))
+    where
+      go : (v : ℕ) → ((u : ℕ) → u < v → 2 ≤ u → u ≤ nodeCount t → 1 ≤ parentAt t u) → 2 ≤ v → v ≤ nodeCount t
+          → (src : Source t 0 v) → (firstAt t (src .from) ≡ v) ⊎ (nextAt t (src .from) ≡ v) → 1 ≤ parentAt t v
+      go v earlier low high src (inl q) =
+          omega (arith, first-parent (src .from) v (src .low) (omega (arith, src .earlier)) (omega arith) q, src .low)
+      go v earlier low high src (inr q) =
+          let u : ℕ = src .from in
+          let within : u ≤ nodeCount t = omega (arith, src .earlier) in
+          let other : u ≡ 1 → ⊥ = λ e. omega (arith, ap (nextAt t) e, s .root-alone, q) in
+          omega (
+            arith,
+            next-parent u v (src .low) within (omega arith) q,
+            earlier u (src .earlier) (omega (arith, src .low)) within,
+          )
 
   -- a node with no sibling before it is the first child of its parent
   pub parent-first : (v : ℕ) → 2 ≤ v → v ≤ nodeCount t → prevAt t v ≡ 0 → firstAt t (parentAt t v) ≡ v
