@@ -7,10 +7,10 @@ use mathlib.Core.Path.{_≡_, refl, sym, _∙_, ap}
 use mathlib.Core.Logic.{_⊎_, inl, inr}
 use mathlib.Core.List.{List, [], _∷_, _++_, List·Memᴰ, List·Memᴰ·head, List·Memᴰ·tail, List·Memᴰ·not-nil}
 use mathlib.Core.List.{List·Memᴰ·append-cases, List·Memᴰ·eq-of-singleton, Memᴰ·append-left, Memᴰ·append-right}
-use Rattle.model.specs.Basics.{countTo, every}
+use Rattle.model.specs.Basics.{pick, countTo, every}
 use Rattle.model.specs.Runs.{countOf}
-use Rattle.theory.specs.Bools.{both-true}
-use Rattle.theory.specs.Ranges.{upto-suc, pick-true, pick-false, countTo-zero, countTo-yes, countTo-no}
+use Rattle.theory.specs.Bools.{both-true, and-false-left}
+use Rattle.theory.specs.Ranges.{upto-suc, pick-true, pick-false, countTo-zero, countTo-suc, countTo-no}
 use Rattle.theory.specs.Chosen.{chosen, chosen-zero, chosen-yes, chosen-no}
 
 abbrev pub Mem {ℓ} : {X : Type ℓ} → X → List X → Type ℓ
@@ -35,6 +35,10 @@ module _ {ℓ} {X : Type ℓ} (p : X → Bool) where
   pub countOf-nil : countOf p [] ≡ 0
   unfolding countOf
   countOf-nil = refl
+
+  countOf-single : (x : X) → countOf p (x ∷ []) ≡ pick (p x) 1 0
+  unfolding countOf
+  countOf-single x = refl
 
   pub countOf-yes : (x : X) (xs : List X) → p x ≡ true → countOf p (x ∷ xs) ≡ suc (countOf p xs)
   unfolding countOf
@@ -136,30 +140,21 @@ module _ {ℓ} {X : Type ℓ} (p : ℕ → Bool) (f : ℕ → X) where
   -- what is counted in it
   pub countOf-chosen : (q : X → Bool) (n : ℕ) → countOf q (chosen p f n) ≡ countTo n (λ v. p v && q (f v))
   countOf-chosen q zero = ap (countOf q) (chosen-zero p f) ∙ countOf-nil q ∙ sym (countTo-zero (λ v. p v && q (f v)))
-  countOf-chosen q (suc n) = go (p (suc n)) refl (q (f (suc n))) refl (countOf-chosen q n)
+  countOf-chosen q (suc n) = go (p (suc n)) refl (countOf-chosen q n)
     where
-      go : (b : Bool) → p (suc n) ≡ b → (c : Bool) → q (f (suc n)) ≡ c → countOf q (chosen p f n) ≡ countTo n (λ v. p v && q (f v))
-          → countOf q (chosen p f (suc n)) ≡ countTo (suc n) (λ v. p v && q (f v))
-      go true e true e′ ih =
-          let yes′ : (p (suc n) && q (f (suc n))) ≡ true = rw (e, e′) in
+      both : ℕ → Bool
+      both v = p v && q (f v)
+
+      go : (b : Bool) → p (suc n) ≡ b → countOf q (chosen p f n) ≡ countTo n both
+          → countOf q (chosen p f (suc n)) ≡ countTo (suc n) both
+      go true e ih =
           omega (
             arith,
             ap (countOf q) (chosen-yes p f n e),
             countOf-append q (chosen p f n) (f (suc n) ∷ []),
-            countOf-yes q (f (suc n)) [] e′,
-            countOf-nil q,
-            countTo-yes n (λ v. p v && q (f v)) yes′,
+            countOf-single q (f (suc n)),
+            countTo-suc n both,
+            ap (λ b. pick {X = ℕ} (b && q (f (suc n))) 1 0) e,
           )
-      go true e false e′ ih =
-          let no′ : (p (suc n) && q (f (suc n))) ≡ false = rw (e, e′) in
-          omega (
-            arith,
-            ap (countOf q) (chosen-yes p f n e),
-            countOf-append q (chosen p f n) (f (suc n) ∷ []),
-            countOf-no q (f (suc n)) [] e′,
-            countOf-nil q,
-            countTo-no n (λ v. p v && q (f v)) no′,
-          )
-      go false e c e′ ih =
-          let no′ : (p (suc n) && q (f (suc n))) ≡ false = rw e in
-          ap (countOf q) (chosen-no p f n e) ∙ ih ∙ sym (countTo-no n (λ v. p v && q (f v)) no′)
+      go false e ih =
+          ap (countOf q) (chosen-no p f n e) ∙ ih ∙ sym (countTo-no n both (and-false-left (p (suc n)) (q (f (suc n))) e))

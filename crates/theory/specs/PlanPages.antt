@@ -1,11 +1,11 @@
 -- Pages by number: the page of a node by its mark, the marks that are good; with no bad mark there is a page.
 -- Proves pageOf-begins, pageOf-continues, pageOf-stays; bad-none, good-first, good-later, good-continues, good-after; with no bad mark
--- good-node, root-begins, pages-low. Assumes nothing.
+-- good-node, root-begins, not-root, pages-low. Assumes nothing.
 use Prim.Native.Nat.{ℕ, _≤_, _<_}
 use native.Mathlib.Omega.{arith}
-use mathlib.Core.Bool.{Bool, true, false, not, _&&_, _||_}
+use mathlib.Core.Bool.{true, false, not, _&&_, _||_, true≢false}
 use mathlib.Core.Path.{_≡_, refl, sym, _∙_, ap}
-use mathlib.Core.Logic.{_↔_}
+use mathlib.Core.Logic.{_↔_, _⊎_, inl, inr, ⊎-elim}
 use mathlib.Core.List.{List}
 use lib.Dec.{eqb}
 use borrow.Author.Tests.{eqb-true, eqb-false, ne-eqb, not-true, not-false}
@@ -15,10 +15,9 @@ use Rattle.model.specs.Plan.{prevAt, parentAt, begins, continues, stays, markAt
 use Rattle.model.specs.Plan.{pageCount, badMark}
 use Rattle.model.specs.declared.Place.the-variants.{Nowhere}
 use Rattle.theory.specs.Bools.{both-true}
-use Rattle.theory.specs.Ranges.{Upto, pick-true, pick-false, firstTo-none, firstTo-nowhere}
+use Rattle.theory.specs.Ranges.{Upto, le-cases, pick-true, pick-false, firstTo-none, firstTo-nowhere}
 use Rattle.theory.specs.Chosen.{countTo-some}
 use Rattle.theory.specs.TableFacts.{SoundFacts}
-use Rattle.theory.specs.TableLinks.{prevAt-less}
 use Rattle.theory.specs.PlanPass.{stepBack, pageOf-step}
 
 -- ---- The page of a node, by its mark
@@ -62,29 +61,29 @@ pub good-later : (t m : List ℕ) (v : ℕ) → 2 ≤ v
 unfolding goodMark
 good-later t m v low = pick-false (eqb v 1) (hasMark m begins v) _ (ne-eqb v 1 (λ z. omega arith))
 
--- a node that continues a run has a sibling before it
-pub good-continues : (t m : List ℕ) (v : ℕ) → 1 ≤ v → goodMark t m v ≡ true → hasMark m continues v ≡ true → 1 ≤ prevAt t v
-good-continues t m v low good e = go (eqb v 1) refl
+-- a node that continues a run has a sibling before it, in the run
+good-prev : (t m : List ℕ) (v : ℕ) → 1 ≤ v → goodMark t m v ≡ true → hasMark m continues v ≡ true
+    → (1 ≤ prevAt t v) × (inRun m (prevAt t v) ≡ true)
+good-prev t m v low good e = go (le-cases 1 v low)
   where
-    go : (b : Bool) → eqb v 1 ≡ b → 1 ≤ prevAt t v
-    go true q =
-        let one : v ≡ 1 = eqb-true v 1 q in
+    go : (v ≡ 1) ⊎ (1 < v) → (1 ≤ prevAt t v) × (inRun m (prevAt t v) ≡ true)
+    go (inl one) =
         let first : hasMark m begins 1 ≡ true = sym (good-first t m) ∙ ap (goodMark t m) (sym one) ∙ good in
         absurd (omega (arith, eqb-true (markAt m 1) 1 first, eqb-true (markAt m v) 2 e, ap (markAt m) one))
-    go false q =
-        let other : v ≡ 1 → ⊥ = eqb-false v 1 q in
-        let both = both-true (not (eqb (prevAt t v) 0)) (inRun m (prevAt t v))
-        (sym (pick-true (hasMark m continues v) _ _ e) ∙ sym (good-later t m v (omega arith)) ∙ good) in
+    go (inr two) =
+        let both =
+        both-true (not (eqb (prevAt t v) 0)) (inRun m (prevAt t v))
+        (sym (pick-true (hasMark m continues v) _ _ e) ∙ sym (good-later t m v two) ∙ good) in
         let some : prevAt t v ≡ 0 → ⊥ = eqb-false (prevAt t v) 0 (not-true (eqb (prevAt t v) 0) (both .0)) in
-        omega arith
+        (omega arith, both .1)
 
--- just after one in the run
-pub good-after : (t m : List ℕ) (v : ℕ) → 1 ≤ v → goodMark t m v ≡ true → hasMark m continues v ≡ true → inRun m (prevAt t v) ≡ true
-good-after t m v low good e =
-    let one : 1 ≤ prevAt t v = good-continues t m v low good e in
-    let less : prevAt t v < v = prevAt-less t v low in
-    both-true (not (eqb (prevAt t v) 0)) (inRun m (prevAt t v))
-    (sym (pick-true (hasMark m continues v) _ _ e) ∙ sym (good-later t m v (omega arith)) ∙ good) .1
+pub good-continues : (t m : List ℕ) (v : ℕ) → 1 ≤ v → goodMark t m v ≡ true → hasMark m continues v ≡ true
+    → 1 ≤ prevAt t v
+good-continues t m v low good e = good-prev t m v low good e .0
+
+pub good-after : (t m : List ℕ) (v : ℕ) → 1 ≤ v → goodMark t m v ≡ true → hasMark m continues v ≡ true
+    → inRun m (prevAt t v) ≡ true
+good-after t m v low good e = good-prev t m v low good e .1
 
 -- ---- A plan with no bad mark
 
@@ -98,3 +97,8 @@ module _ {t : List ℕ} (s : SoundFacts t) (m : List ℕ) (good : badMark t m �
   pub pages-low : 1 ≤ pageCount t m
   unfolding pageCount
   pages-low = countTo-some (hasMark m begins) (nodeCount t) 1 (omega arith) (s .count-low) root-begins
+
+  -- a node that begins no run is not the root
+  pub not-root : (v : ℕ) → 1 ≤ v → hasMark m begins v ≡ false → 2 ≤ v
+  not-root v low e =
+      ⊎-elim (λ q. absurd (true≢false (sym root-begins ∙ ap (hasMark m begins) (sym q) ∙ e))) (λ two. two) (le-cases 1 v low)

@@ -3,15 +3,15 @@
 -- Defines stepBack, weightTo. Proves pageOf-none, pageOf-step, pageOf-le, weightTo-suc, parentAt-step. Assumes nothing.
 use Prim.Native.Nat.{ℕ, zero, suc, _+_, _-_, _≤_, _<_}
 use native.Mathlib.Omega.{arith}
-use mathlib.Core.Bool.{Bool, true, false}
 use mathlib.Core.Path.{_≡_, refl, sym, _∙_, ap}
+use mathlib.Core.Logic.{_⊎_, inl, inr}
 use mathlib.Core.List.{List}
 use lib.Dec.{eqb}
-use borrow.Author.Tests.{eqb-true, eqb-false}
+use borrow.Author.Tests.{eq-eqb, ne-eqb}
 use Rattle.model.specs.Basics.{pick, sumTo, countTo}
 use Rattle.model.specs.Table.{nodeCount, weightAt, firstAt}
 use Rattle.model.specs.Plan.{prevAt, parentAt, hasMark, begins, continues, pageFrom, pageOf}
-use Rattle.theory.specs.Ranges.{steps-enough, pick-true, pick-false, pick-both, sumTo-zero, sumTo-suc, countTo-zero, countTo-le}
+use Rattle.theory.specs.Ranges.{le-cases, zero-cases, steps-enough, pick-true, pick-false, pick-both, sumTo-zero, sumTo-suc, countTo-zero, countTo-le}
 use Rattle.theory.specs.TableFacts.{SoundFacts}
 use Rattle.theory.specs.TableLinks.{first-step, prevAt-none, prevAt-less, parentAt-none, parentAt-one}
 use Rattle.theory.specs.TableLinks.{parentAt-less, parentAt-later, parent-low, parent-first}
@@ -100,21 +100,16 @@ weightTo-suc v t m p = sumTo-suc v (λ u. pick (eqb (pageOf t m u) p) (weightAt 
 -- a node with no sibling before it comes just after its parent
 pub parentAt-step : {t : List ℕ} → SoundFacts t → (v : ℕ) → 1 ≤ v → v ≤ nodeCount t
     → parentAt t v ≡ pick (eqb (prevAt t v) 0) (v - 1) (parentAt t (prevAt t v))
-parentAt-step {t} s v low high = go (eqb (prevAt t v) 0) refl (eqb v 1) refl
+parentAt-step {t} s v low high = go (zero-cases (prevAt t v))
   where
-    go : (b : Bool) → eqb (prevAt t v) 0 ≡ b → (c : Bool) → eqb v 1 ≡ c
-        → parentAt t v ≡ pick (eqb (prevAt t v) 0) (v - 1) (parentAt t (prevAt t v))
-    go false q c r =
-        let other : prevAt t v ≡ 0 → ⊥ = eqb-false (prevAt t v) 0 q in
-        parentAt-later t v low (omega arith) ∙ sym (pick-false (eqb (prevAt t v) 0) (v - 1) (parentAt t (prevAt t v)) q)
-    go true q true r =
-        let one : v ≡ 1 = eqb-true v 1 r in
-        let z : parentAt t v ≡ v - 1 = ap (parentAt t) one ∙ parentAt-one t ∙ omega arith in
-        z ∙ sym (pick-true (eqb (prevAt t v) 0) (v - 1) (parentAt t (prevAt t v)) q)
-    go true q false r =
-        let other : v ≡ 1 → ⊥ = eqb-false v 1 r in
-        let first : firstAt t (parentAt t v) ≡ v = parent-first s v (omega arith) high (eqb-true (prevAt t v) 0 q) in
-        let step : firstAt t (parentAt t v) ≡ suc (parentAt t v) =
-        first-step s (parentAt t v) (parent-low s v (omega arith) high) (omega (arith, parentAt-less t v low)) (omega arith) in
-        let z : parentAt t v ≡ v - 1 = omega arith in
-        z ∙ sym (pick-true (eqb (prevAt t v) 0) (v - 1) (parentAt t (prevAt t v)) q)
+    before : prevAt t v ≡ 0 → (v ≡ 1) ⊎ (1 < v) → parentAt t v ≡ v - 1
+    before z (inl one) = ap (parentAt t) one ∙ parentAt-one t ∙ omega arith
+    before z (inr two) =
+        let first : firstAt t (parentAt t v) ≡ v = parent-first s v two high z in
+        let within : parentAt t v < v = parentAt-less t v low in
+        omega (arith, first-step s (parentAt t v) (parent-low s v two high) (omega arith) (omega arith))
+
+    go : (prevAt t v ≡ 0) ⊎ (1 ≤ prevAt t v) → parentAt t v ≡ pick (eqb (prevAt t v) 0) (v - 1) (parentAt t (prevAt t v))
+    go (inl z) = before z (le-cases 1 v low) ∙ sym (pick-true (eqb (prevAt t v) 0) _ _ (eq-eqb (prevAt t v) 0 z))
+    go (inr one) =
+        parentAt-later t v low one ∙ sym (pick-false (eqb (prevAt t v) 0) _ _ (ne-eqb (prevAt t v) 0 (λ z. omega arith)))

@@ -3,18 +3,17 @@
 -- Defines GoodMarks, InRunOf. Proves good-marks, in-run-of, runLast-low, runLast-marks, runLast-on, runLast-stop. Assumes nothing.
 use Prim.Native.Nat.{ℕ, _≤_, _<_}
 use native.Mathlib.Omega.{arith}
-use mathlib.Core.Bool.{Bool, true, false}
-use mathlib.Core.Path.{_≡_, refl, sym, _∙_, ap}
-use mathlib.Core.Logic.{_⊎_, inl, inr}
+use mathlib.Core.Bool.{true, false}
+use mathlib.Core.Path.{_≡_, sym, _∙_, ap}
+use mathlib.Core.Logic.{_⊎_, inl, inr, ⊎-elim}
 use mathlib.Core.List.{List}
-use lib.Dec.{eqb}
-use borrow.Author.Tests.{eqb-true, eqb-false, eq-eqb}
+use borrow.Author.Tests.{eqb-true, eq-eqb}
 use Rattle.model.specs.Table.{nodeCount, nextAt}
 use Rattle.model.specs.Plan.{prevAt, parentAt, stays, begins, continues, markAt, hasMark, inRun, goodMark, badMark}
 use Rattle.model.specs.Plan.{runLast}
 use Rattle.model.specs.declared.Place.the-variants.{Nowhere}
-use Rattle.theory.specs.Bools.{either-true}
-use Rattle.theory.specs.Ranges.{Upto, pick-false}
+use Rattle.theory.specs.Bools.{bool-cases, either-true}
+use Rattle.theory.specs.Ranges.{Upto, le-cases, pick-false}
 use Rattle.theory.specs.TableFacts.{SoundFacts}
 use Rattle.theory.specs.TableLinks.{next-le}
 use Rattle.theory.specs.SiblingChains.{After, LastLink, here, step, reach-after, reach-last, reach-total}
@@ -32,30 +31,22 @@ pub record GoodMarks (t m : List ℕ) : Type 0 where
 
 inRun-cases : (m : List ℕ) (v : ℕ) → inRun m v ≡ true → (markAt m v ≡ 1) ⊎ (markAt m v ≡ 2)
 unfolding inRun
-inRun-cases m v e = go (either-true (hasMark m begins v) (hasMark m continues v) e)
-  where
-    go : (hasMark m begins v ≡ true) ⊎ (hasMark m continues v ≡ true) → (markAt m v ≡ 1) ⊎ (markAt m v ≡ 2)
-    go (inl q) = inl (eqb-true (markAt m v) 1 q)
-    go (inr q) = inr (eqb-true (markAt m v) 2 q)
+inRun-cases m v e =
+    ⊎-elim (λ q. inl (eqb-true (markAt m v) 1 q)) (λ q. inr (eqb-true (markAt m v) 2 q))
+    (either-true (hasMark m begins v) (hasMark m continues v) e)
 
 good-few : (t m : List ℕ) (v : ℕ) → 1 ≤ v → goodMark t m v ≡ true → markAt m v ≤ 2
-good-few t m v low good = go (eqb v 1) refl (hasMark m continues v) refl
+good-few t m v low good = go (le-cases 1 v low) (bool-cases (hasMark m continues v))
   where
-    small : (hasMark m stays v ≡ true) ⊎ (hasMark m begins v ≡ true) → markAt m v ≤ 2
-    small (inl q) = omega (arith, eqb-true (markAt m v) 0 q)
-    small (inr q) = omega (arith, eqb-true (markAt m v) 1 q)
-
-    go : (b : Bool) → eqb v 1 ≡ b → (c : Bool) → hasMark m continues v ≡ c → markAt m v ≤ 2
-    go true e c q =
-        let root : v ≡ 1 = eqb-true v 1 e in
+    go : (v ≡ 1) ⊎ (1 < v) → (hasMark m continues v ≡ true) ⊎ (hasMark m continues v ≡ false) → markAt m v ≤ 2
+    go (inl root) b =
         let first : hasMark m begins 1 ≡ true = sym (good-first t m) ∙ ap (goodMark t m) (sym root) ∙ good in
         omega (arith, eqb-true (markAt m 1) 1 first, ap (markAt m) root)
-    go false e true q = omega (arith, eqb-true (markAt m v) 2 q)
-    go false e false q =
-        let other : v ≡ 1 → ⊥ = eqb-false v 1 e in
-        small
+    go (inr two) (inl q) = omega (arith, eqb-true (markAt m v) 2 q)
+    go (inr two) (inr q) =
+        ⊎-elim (λ e. omega (arith, eqb-true (markAt m v) 0 e)) (λ e. omega (arith, eqb-true (markAt m v) 1 e))
         (either-true (hasMark m stays v) (hasMark m begins v)
-        (sym (pick-false (hasMark m continues v) _ _ q) ∙ sym (good-later t m v (omega arith)) ∙ good))
+        (sym (pick-false (hasMark m continues v) _ _ q) ∙ sym (good-later t m v two) ∙ good))
 
 pub good-marks : (t m : List ℕ) → badMark t m ≡ Nowhere → GoodMarks t m
 good-marks t m e =

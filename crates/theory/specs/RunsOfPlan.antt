@@ -22,7 +22,7 @@ use Rattle.theory.specs.Ranges.{firstTo-nowhere}
 use Rattle.theory.specs.Chosen.{countTo-mono, countTo-some, ranked, countTo-same, countTo-only}
 use Rattle.theory.specs.TableFacts.{SoundFacts}
 use Rattle.theory.specs.TableLinks.{next-le, next-prev, parentAt-less, parent-low}
-use Rattle.theory.specs.PlanPages.{pageOf-begins, pageOf-continues, pageOf-stays, root-begins}
+use Rattle.theory.specs.PlanPages.{pageOf-begins, pageOf-continues, pageOf-stays, root-begins, not-root}
 use Rattle.theory.specs.SiblingChains.{here, step}
 use Rattle.theory.specs.Lists.{Mem, every-all, all-every, From, chosen-from, chosen-mem, countOf-chosen}
 use Rattle.theory.specs.RunsFacts.{run-path, none-runWith, HoldFacts, facts-holds, runWith-at, runWith-zero}
@@ -151,10 +151,8 @@ module _ {t : List ℕ} (s : SoundFacts t) (m : List ℕ) (good : badMark t m �
           }
       go v earlier low high false e =
           let q = inRun-neither m v e in
-          let other : v ≡ 1 → ⊥ = λ z. true≢false (sym (root-begins s m good) ∙ ap (hasMark m begins) (sym z) ∙ q .0) in
-          let two : 2 ≤ v = omega (arith, other) in
           let less : parentAt t v < v = parentAt-less t v low in
-          let p : OnPage t m (parentAt t v) = earlier (parentAt t v) less (parent-low s v two high) (omega arith) in
+          let p : OnPage t m (parentAt t v) = earlier (parentAt t v) less (parent-low s v (not-root s m good v low (q .0)) high) (omega arith) in
           record {
             first = p .first;
             low = p .low;

@@ -6,7 +6,7 @@ use Prim.Native.Nat.{ℕ, zero, suc, _-_, _≤_, _<_}
 use native.Mathlib.Omega.{arith}
 use mathlib.Core.Bool.{Bool, true, false, not, _&&_, _||_, true≢false, false≢true}
 use mathlib.Core.Path.{_≡_, refl, sym, _∙_, ap}
-use mathlib.Core.Logic.{_⊎_, inl, inr}
+use mathlib.Core.Logic.{_⊎_, inl, inr, ⊎-elim}
 use mathlib.Core.List.{List, [], _∷_}
 use lib.ListN.{length, getD}
 use lib.Seq.{ext-getD}
@@ -18,11 +18,12 @@ use Rattle.model.specs.Plan.{prevAt, begins, continues, stays, markAt, hasMark,
 use Rattle.model.specs.Runs.{Run, runWith, runsOf}
 use Rattle.model.specs.declared.Place.{Place}
 use Rattle.model.specs.declared.Place.the-variants.{At, Nowhere}
-use Rattle.theory.specs.Ranges.{pick-true, pick-false, atPlace-at, atPlace-nowhere, listTo-cong, length-listTo}
+use Rattle.theory.specs.Bools.{either-true}
+use Rattle.theory.specs.Ranges.{le-cases, pick-true, pick-false, atPlace-at, atPlace-nowhere, listTo-cong, length-listTo}
 use Rattle.theory.specs.Ranges.{getD-listTo}
 use Rattle.theory.specs.TableFacts.{SoundFacts}
 use Rattle.theory.specs.TableLinks.{next-later, next-le, next-prev}
-use Rattle.theory.specs.PlanPages.{bad-none, good-node, good-first, good-later, root-begins}
+use Rattle.theory.specs.PlanPages.{bad-none, good-node, good-first, good-later, not-root}
 use Rattle.theory.specs.SiblingChains.{here, step, After, reach-trans, reach-one, reach-prev-one, reach-le, reach-prev}
 use Rattle.theory.specs.Lists.{Mem, From}
 use Rattle.theory.specs.RunsFacts.{RunFacts, run-path, Inside, member-inside, member-range, inside-member}
@@ -148,21 +149,15 @@ module _ {t : List ℕ} (s : SoundFacts t) (rs : List Run) (h : HoldFacts t rs) 
 
   -- its marks are good
   good-mark : (v : ℕ) → 1 ≤ v → v ≤ nodeCount t → goodMark t (marksOf t rs) v ≡ true
-  good-mark v low high = go (eqb v 1) refl
+  good-mark v low high = go (le-cases 1 v low)
     where
-      go : (b : Bool) → eqb v 1 ≡ b → goodMark t (marksOf t rs) v ≡ true
-      go true q =
-          ap (goodMark t (marksOf t rs)) (eqb-true v 1 q)
+      go : (v ≡ 1) ⊎ (1 < v) → goodMark t (marksOf t rs) v ≡ true
+      go (inl q) =
+          ap (goodMark t (marksOf t rs)) q
           ∙ good-first t (marksOf t rs)
           ∙ mark-is 1 1 (omega arith) (s .count-low) (markOfRuns-first t rs 1 1 (runWith-root s rs h) refl)
-      go false q = good-later t (marksOf t rs) v two ∙ by (mark-case t rs v)
+      go (inr two) = good-later t (marksOf t rs) v two ∙ by (mark-case t rs v)
         where
-          other : v ≡ 1 → ⊥
-          other = eqb-false v 1 q
-
-          two : 2 ≤ v
-          two = omega (arith, other)
-
           by : MarkCase t rs v
               → pick (hasMark (marksOf t rs) continues v)
               (not (eqb (prevAt t v) 0) && inRun (marksOf t rs) (prevAt t v))
@@ -176,8 +171,9 @@ module _ {t : List ℕ} (s : SoundFacts t) (rs : List Run) (h : HoldFacts t rs) 
               ∙ rw (mark-is v 0 low high k)
           by (follows u e apart k) =
               let found : FoundRun t rs v u = runWith-found t rs v u e in
+              let i : Inside t v (found .run) = member-inside t v (found .run) (found .member) in
               let b : PrevInRun (found .run) v =
-              prev-in-run (found .run) v (found .listed) (member-inside t v (found .run) (found .member)) (λ z. apart (sym (found .first) ∙ z)) in
+              prev-in-run (found .run) v (found .listed) i (λ z. apart (sym (found .first) ∙ z)) in
               let some : not (eqb (prevAt t v) 0) ≡ true = ap not (ne-eqb (prevAt t v) 0 (λ z. omega (arith, b .low))) in
               pick-true (hasMark (marksOf t rs) continues v) _ _ (mark-is v 2 low high k)
               ∙ rw (some, member-inRun (found .run) (prevAt t v) (found .listed) (b .inside))
@@ -279,15 +275,10 @@ module _ {t : List ℕ} (s : SoundFacts t) (m : List ℕ) (good : badMark t m �
   -- a good mark that is neither 1 nor 2 is 0
   stays-zero : (v : ℕ) → 1 ≤ v → v ≤ nodeCount t → hasMark m begins v ≡ false → hasMark m continues v ≡ false → markAt m v ≡ 0
   stays-zero v low high e e′ =
-      let other : v ≡ 1 → ⊥ = λ q. true≢false (sym (root-begins s m good) ∙ ap (hasMark m begins) (sym q) ∙ e) in
-      let two : 2 ≤ v = omega (arith, other) in
-      let test : (hasMark m stays v || hasMark m begins v) ≡ true =
-      sym (pick-false (hasMark m continues v) _ _ e′) ∙ sym (good-later t m v two) ∙ good-node s m good v low high in
-      go (hasMark m stays v) refl test
-    where
-      go : (b : Bool) → hasMark m stays v ≡ b → (b || hasMark m begins v) ≡ true → markAt m v ≡ 0
-      go true q k = eqb-true (markAt m v) 0 q
-      go false q k = absurd (false≢true (sym e ∙ k))
+      let two : 2 ≤ v = not-root s m good v low e in
+      ⊎-elim (eqb-true (markAt m v) 0) (λ q. absurd (false≢true (sym e ∙ q)))
+      (either-true (hasMark m stays v) (hasMark m begins v)
+      (sym (pick-false (hasMark m continues v) _ _ e′) ∙ sym (good-later t m v two) ∙ good-node s m good v low high))
 
   mark-again : (v : ℕ) → 1 ≤ v → v ≤ nodeCount t → markOfRuns t (runsOf t m) v ≡ markAt m v
   mark-again v low high = go (hasMark m begins v) refl (hasMark m continues v) refl
