@@ -1,5 +1,6 @@
--- Tests and counts over lists, and over the list of what is made of each of 1 to n that passes a test: which elements it has, and what
--- is counted in it. Defines Mem, From. Proves every-all, all-every, countOf-one, chosen-from, chosen-mem, countOf-chosen. Assumes nothing.
+-- Tests and counts over lists, and over the list of what is made of each of 1 to n that passes a test: which elements
+-- it has, and what is counted in it. Defines Mem, From. Proves every-all, all-every, countOf-one, chosen-from,
+-- chosen-mem, countOf-chosen. Assumes nothing.
 use Prim.Native.Nat.{ℕ, zero, suc, _+_, _≤_}
 use native.Mathlib.Omega.{arith}
 use mathlib.Core.Bool.{Bool, true, false, _&&_, true≢false}
@@ -64,7 +65,8 @@ module _ {ℓ} {X : Type ℓ} (p : X → Bool) where
   countOf-find [] h = absurd (omega (arith, countOf-nil))
   countOf-find (y ∷ ys) h = go (p y) refl (countOf-find ys)
     where
-      go : (b : Bool) → p y ≡ b → (1 ≤ countOf p ys → (x : X) × Mem x ys × (p x ≡ true)) → (x : X) × Mem x (y ∷ ys) × (p x ≡ true)
+      go : (b : Bool) → p y ≡ b → (1 ≤ countOf p ys → (x : X) × Mem x ys × (p x ≡ true))
+          → (x : X) × Mem x (y ∷ ys) × (p x ≡ true)
       go true e ih = (y, List·Memᴰ·head refl, e)
       go false e ih = let r = ih (omega (arith, countOf-no y ys e)) in (r .0, List·Memᴰ·tail (r .1), r .2)
 
@@ -123,7 +125,13 @@ module _ {ℓ} {X : Type ℓ} (p : ℕ → Bool) (f : ℕ → X) where
           by : Mem x (chosen p f n) ⊎ Mem x (f (suc n) ∷ []) → From (suc n) x
           by (inl m) = from-more n x (ih m)
           by (inr m) =
-              record { number = suc n; low = omega arith; high = omega arith; passed = e; same = List·Memᴰ·eq-of-singleton m }
+              record {
+                number = suc n;
+                low = omega arith;
+                high = omega arith;
+                passed = e;
+                same = List·Memᴰ·eq-of-singleton m;
+              }
       go false e ih = from-more n x (ih (rw (chosen-no p f n e) at h))
 
   pub chosen-mem : (n v : ℕ) → 1 ≤ v → v ≤ n → p v ≡ true → Mem (f v) (chosen p f n)
@@ -157,4 +165,5 @@ module _ {ℓ} {X : Type ℓ} (p : ℕ → Bool) (f : ℕ → X) where
             ap (λ b. pick {X = ℕ} (b && q (f (suc n))) 1 0) e,
           )
       go false e ih =
-          ap (countOf q) (chosen-no p f n e) ∙ ih ∙ sym (countTo-no n both (and-false-left (p (suc n)) (q (f (suc n))) e))
+          ap (countOf q) (chosen-no p f n e) ∙ ih
+          ∙ sym (countTo-no n both (and-false-left (p (suc n)) (q (f (suc n))) e))

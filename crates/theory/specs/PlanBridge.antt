@@ -1,7 +1,6 @@
--- Pages by number and by shape are the same: for a table of sound form and as many marks as nodes, where the marks of the tree are
--- allowed, the pages are as many, and weigh as much, as by shape.
--- Defines pageIn, Adds (what the nodes of a chain add to the pages by number). Proves count-bridge, weight-bridge. Assumes
--- nothing.
+-- Pages by number and by shape are the same: for a table of sound form and as many marks as nodes, where the marks of
+-- the tree are allowed, the pages are as many, and weigh as much, as by shape.
+-- Proves count-bridge, weight-bridge, by what the nodes of a chain add to the pages by number. Assumes nothing.
 use Prim.Native.Nat.{ℕ, zero, suc, _+_, _-_, _≤_, _<_}
 use native.Mathlib.Omega.{arith}
 use native.Mathlib.Nat.{add-zero}
@@ -42,7 +41,12 @@ pageIn-low : (n : ℕ) (ps : List ℕ) (x : ℕ) → x ≤ n → pageIn n ps x �
 unfolding pageIn
 pageIn-low n [] x h = refl
 pageIn-low n (p ∷ ps) x h =
-    omega (arith, pick-false (eqb (suc n) x) p 0 (ne-eqb (suc n) x (λ z. omega arith)), pageIn-low (suc n) ps x (omega arith))
+    omega (
+      arith,
+      pick-false (eqb (suc n) x) p 0 (ne-eqb (suc n) x (λ z. omega arith)),
+      pageIn-low (suc n) ps x
+          (omega arith),
+    )
 
 -- it is that element of the list
 pageIn-at : (n : ℕ) (ps : List ℕ) (i : ℕ) → pageIn n ps (suc (n + i)) ≡ getD ps i 0
@@ -65,13 +69,14 @@ pageIn-at n (p ∷ ps) (suc i) =
 
 -- ---- What a chain adds to the pages
 
--- The nodes v + 1 to e, in a chain under a parent on page q and after a sibling on page r, come to w: so much stays on q, so much is
--- carried to r, and the pages that begin are the next ones, in order.
+-- The nodes v + 1 to e, in a chain under a parent on page q and after a sibling on page r, come to w: so much stays on
+-- q, so much is carried to r, and the pages that begin are the next ones, in order.
 record Adds (t m : List ℕ) (v e q r : ℕ) (w : Weights) : Type 0 where
   count : countTo e (hasMark m begins) ≡ countTo v (hasMark m begins) + length (w .pages)
   weight : (x : ℕ)
       → weightTo e t m x
-      ≡ weightTo v t m x + pick (eqb q x) (w .stay) 0 + pick (eqb r x) (w .carry) 0 + pageIn (countTo v (hasMark m begins)) (w .pages) x
+      ≡ weightTo v t m x + pick (eqb q x) (w .stay) 0 + pick (eqb r x) (w .carry) 0
+      + pageIn (countTo v (hasMark m begins)) (w .pages) x
 
 -- after a sibling in no run, nothing is carried
 carry-none : (c : Chain) (ms : List ℕ) → allowed false c ms ≡ true → weighed c ms .carry ≡ 0
@@ -155,7 +160,8 @@ module _ (t m : List ℕ) (v e₁ e₂ q r : ℕ) (a b : Weights) (none-carried 
       page : pageOf t m (suc v) ≡ suc (countTo v (hasMark m begins))
       page = pageOf-begins t m (suc v) (omega arith) begun ∙ more
 
-  adds-continues : markAt m (suc v) ≡ 2 → pageOf t m (prevAt t (suc v)) ≡ r → Adds t m v e₂ q r (joined 2 (weightAt t (suc v)) a b)
+  adds-continues : markAt m (suc v) ≡ 2 → pageOf t m (prevAt t (suc v)) ≡ r
+      → Adds t m v e₂ q r (joined 2 (weightAt t (suc v)) a b)
   unfolding joined
   adds-continues k same =
       record {
@@ -170,8 +176,10 @@ module _ (t m : List ℕ) (v e₁ e₂ q r : ℕ) (a b : Weights) (none-carried 
       page = pageOf-continues t m (suc v) (omega arith) (eq-eqb (markAt m (suc v)) 2 k) ∙ same
 
   -- whatever its mark is, if it is allowed
-  adds-node : (run : Bool) (k : ℕ) → markAt m (suc v) ≡ k → allowedMark run k ≡ true → pageOf t m (parentAt t (suc v)) ≡ q
-      → pageOf t m (prevAt t (suc v)) ≡ r → (runs k ≡ false → b .carry ≡ 0) → Adds t m v e₂ q r (joined k (weightAt t (suc v)) a b)
+  adds-node : (run : Bool) (k : ℕ) → markAt m (suc v) ≡ k → allowedMark run k ≡ true
+      → pageOf t m (parentAt t (suc v)) ≡ q
+      → pageOf t m (prevAt t (suc v)) ≡ r → (runs k ≡ false → b .carry ≡ 0)
+      → Adds t m v e₂ q r (joined k (weightAt t (suc v)) a b)
   unfolding allowedMark runs
   adds-node run zero e ok up back last = adds-stays e up (last refl)
   adds-node run (suc zero) e ok up back last = adds-begins e
@@ -179,7 +187,8 @@ module _ (t m : List ℕ) (v e₁ e₂ q r : ℕ) (a b : Weights) (none-carried 
   adds-node run (suc (suc (suc k))) e ok up back last = absurd (false≢true ok)
 
 module _ {t : List ℕ} (s : SoundFacts t) (m : List ℕ) (long : length m ≡ nodeCount t) where
-  chain-adds : {v e u : ℕ} {c : Chain} → Numbered t v u c e → (run : Bool) (q r : ℕ) → (1 ≤ u → pageOf t m (parentAt t u) ≡ q)
+  chain-adds : {v e u : ℕ} {c : Chain} → Numbered t v u c e → (run : Bool) (q r : ℕ)
+      → (1 ≤ u → pageOf t m (parentAt t u) ≡ q)
       → (1 ≤ u → pageOf t m (prevAt t u) ≡ r) → e ≤ nodeCount t → allowed run c (drop v m) ≡ true
       → Adds t m v e q r (weighed c (drop v m))
   unfolding weighed pageIn

@@ -1,6 +1,6 @@
--- Pages by number: the page of a node by its mark, the marks that are good; with no bad mark there is a page.
--- Proves pageOf-begins, pageOf-continues, pageOf-stays; bad-none, good-first, good-later, good-continues, good-after; with no bad mark
--- good-node, root-begins, not-root, pages-low. Assumes nothing.
+-- Pages by number: the page of a node by its mark, and the marks that are good.
+-- Proves pageOf-begins, pageOf-continues, pageOf-stays; bad-none, good-first, good-later, good-continues, good-after; with
+-- no bad mark good-node, root-begins, not-root, pages-low. Assumes nothing.
 use Prim.Native.Nat.{ℕ, _≤_, _<_}
 use native.Mathlib.Omega.{arith}
 use mathlib.Core.Bool.{true, false, not, _&&_, _||_, true≢false}
@@ -22,16 +22,20 @@ use Rattle.theory.specs.PlanPass.{stepBack, pageOf-step}
 
 -- ---- The page of a node, by its mark
 
-pub pageOf-begins : (t m : List ℕ) (v : ℕ) → 1 ≤ v → hasMark m begins v ≡ true → pageOf t m v ≡ countTo v (hasMark m begins)
+pub pageOf-begins : (t m : List ℕ) (v : ℕ) → 1 ≤ v → hasMark m begins v ≡ true
+    → pageOf t m v ≡ countTo v (hasMark m begins)
 pageOf-begins t m v low e =
-    pageOf-step t m v low ∙ pick-true (hasMark m begins v) (countTo v (hasMark m begins)) (pageOf t m (stepBack t m v)) e
+    pageOf-step t m v low
+    ∙ pick-true (hasMark m begins v) (countTo v (hasMark m begins)) (pageOf t m (stepBack t m v)) e
 
 -- a node that begins no run is on the page of the node one step back
 pageOf-shares : (t m : List ℕ) (v : ℕ) → 1 ≤ v → hasMark m begins v ≡ false → pageOf t m v ≡ pageOf t m (stepBack t m v)
 pageOf-shares t m v low e =
-    pageOf-step t m v low ∙ pick-false (hasMark m begins v) (countTo v (hasMark m begins)) (pageOf t m (stepBack t m v)) e
+    pageOf-step t m v low
+    ∙ pick-false (hasMark m begins v) (countTo v (hasMark m begins)) (pageOf t m (stepBack t m v)) e
 
-pub pageOf-continues : (t m : List ℕ) (v : ℕ) → 1 ≤ v → hasMark m continues v ≡ true → pageOf t m v ≡ pageOf t m (prevAt t v)
+pub pageOf-continues : (t m : List ℕ) (v : ℕ) → 1 ≤ v → hasMark m continues v ≡ true
+    → pageOf t m v ≡ pageOf t m (prevAt t v)
 pageOf-continues t m v low e =
     let two : markAt m v ≡ 2 = eqb-true (markAt m v) 2 e in
     pageOf-shares t m v low (ne-eqb (markAt m v) 1 (λ z. omega arith))
@@ -57,7 +61,8 @@ good-first t m = refl
 
 pub good-later : (t m : List ℕ) (v : ℕ) → 2 ≤ v
     → goodMark t m v
-    ≡ pick (hasMark m continues v) (not (eqb (prevAt t v) 0) && inRun m (prevAt t v)) (hasMark m stays v || hasMark m begins v)
+    ≡ pick (hasMark m continues v) (not (eqb (prevAt t v) 0) && inRun m (prevAt t v))
+    (hasMark m stays v || hasMark m begins v)
 unfolding goodMark
 good-later t m v low = pick-false (eqb v 1) (hasMark m begins v) _ (ne-eqb v 1 (λ z. omega arith))
 
@@ -101,4 +106,5 @@ module _ {t : List ℕ} (s : SoundFacts t) (m : List ℕ) (good : badMark t m �
   -- a node that begins no run is not the root
   pub not-root : (v : ℕ) → 1 ≤ v → hasMark m begins v ≡ false → 2 ≤ v
   not-root v low e =
-      ⊎-elim (λ q. absurd (true≢false (sym root-begins ∙ ap (hasMark m begins) (sym q) ∙ e))) (λ two. two) (le-cases 1 v low)
+      ⊎-elim (λ q. absurd (true≢false (sym root-begins ∙ ap (hasMark m begins) (sym q) ∙ e))) (λ two. two)
+      (le-cases 1 v low)

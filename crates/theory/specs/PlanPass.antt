@@ -1,5 +1,5 @@
--- The page and the parent of a node by one step back, with no bound on the steps, and the weights of the pages up to a node: what a
--- pass over the nodes in their order computes.
+-- The page and the parent of a node by one step back, with no bound on the steps, and the weights of the pages up to a
+-- node: what a pass over the nodes in their order computes.
 -- Defines stepBack, weightTo. Proves pageOf-none, pageOf-step, pageOf-le, weightTo-suc, parentAt-step. Assumes nothing.
 use Prim.Native.Nat.{ℕ, zero, suc, _+_, _-_, _≤_, _<_}
 use native.Mathlib.Omega.{arith}
@@ -11,7 +11,8 @@ use borrow.Author.Tests.{eq-eqb, ne-eqb}
 use Rattle.model.specs.Basics.{pick, sumTo, countTo}
 use Rattle.model.specs.Table.{nodeCount, weightAt, firstAt}
 use Rattle.model.specs.Plan.{prevAt, parentAt, hasMark, begins, continues, pageFrom, pageOf}
-use Rattle.theory.specs.Ranges.{le-cases, zero-cases, steps-enough, pick-true, pick-false, pick-both, sumTo-zero, sumTo-suc, countTo-zero, countTo-le}
+use Rattle.theory.specs.Ranges.{le-cases, zero-cases, steps-enough, pick-true, pick-false, pick-both, sumTo-zero}
+use Rattle.theory.specs.Ranges.{sumTo-suc, countTo-zero, countTo-le}
 use Rattle.theory.specs.TableFacts.{SoundFacts}
 use Rattle.theory.specs.TableLinks.{first-step, prevAt-none, prevAt-less, parentAt-none, parentAt-one}
 use Rattle.theory.specs.TableLinks.{parentAt-less, parentAt-later, parent-low, parent-first}
@@ -23,16 +24,19 @@ abbrev pub stepBack : List ℕ → List ℕ → ℕ → ℕ
 stepBack t m v = pick (hasMark m continues v) (prevAt t v) (parentAt t v)
 
 back-none : (t m : List ℕ) → stepBack t m 0 ≡ 0
-back-none t m = pick-both (λ u. u ≡ 0) (hasMark m continues 0) (prevAt t 0) (parentAt t 0) (prevAt-none t) (parentAt-none t)
+back-none t m =
+    pick-both (λ u. u ≡ 0) (hasMark m continues 0) (prevAt t 0) (parentAt t 0) (prevAt-none t) (parentAt-none t)
 
 pub back-less : (t m : List ℕ) (v : ℕ) → 1 ≤ v → stepBack t m v < v
 back-less t m v low =
-    pick-both (λ u. u < v) (hasMark m continues v) (prevAt t v) (parentAt t v) (prevAt-less t v low) (parentAt-less t v low)
+    pick-both (λ u. u < v) (hasMark m continues v) (prevAt t v) (parentAt t v) (prevAt-less t v low)
+    (parentAt-less t v low)
 
 -- ---- Pages
 
 pageFrom-suc : (f : ℕ) (t m : List ℕ) (v : ℕ)
-    → pageFrom (suc f) t m v ≡ pick (hasMark m begins v) (countTo v (hasMark m begins)) (pageFrom f t m (stepBack t m v))
+    → pageFrom (suc f) t m v
+    ≡ pick (hasMark m begins v) (countTo v (hasMark m begins)) (pageFrom f t m (stepBack t m v))
 unfolding pageFrom
 pageFrom-suc f t m v = refl
 
@@ -71,7 +75,8 @@ unfolding pageFrom
 pageFrom-le zero t m v = omega arith
 pageFrom-le (suc f) t m zero = omega (arith, pageFrom-none (suc f) t m)
 pageFrom-le (suc f) t m (suc v) =
-    pick-both (λ p. p ≤ suc v) (hasMark m begins (suc v)) (countTo (suc v) (hasMark m begins)) (pageFrom f t m (stepBack t m (suc v)))
+    pick-both (λ p. p ≤ suc v) (hasMark m begins (suc v)) (countTo (suc v) (hasMark m begins))
+    (pageFrom f t m (stepBack t m (suc v)))
     (countTo-le (suc v) (hasMark m begins))
     (omega (arith, pageFrom-le f t m (stepBack t m (suc v)), back-less t m (suc v) (omega arith)))
 
@@ -109,7 +114,9 @@ parentAt-step {t} s v low high = go (zero-cases (prevAt t v))
         let within : parentAt t v < v = parentAt-less t v low in
         omega (arith, first-step s (parentAt t v) (parent-low s v two high) (omega arith) (omega arith))
 
-    go : (prevAt t v ≡ 0) ⊎ (1 ≤ prevAt t v) → parentAt t v ≡ pick (eqb (prevAt t v) 0) (v - 1) (parentAt t (prevAt t v))
+    go : (prevAt t v ≡ 0) ⊎ (1 ≤ prevAt t v)
+        → parentAt t v ≡ pick (eqb (prevAt t v) 0) (v - 1) (parentAt t (prevAt t v))
     go (inl z) = before z (le-cases 1 v low) ∙ sym (pick-true (eqb (prevAt t v) 0) _ _ (eq-eqb (prevAt t v) 0 z))
     go (inr one) =
-        parentAt-later t v low one ∙ sym (pick-false (eqb (prevAt t v) 0) _ _ (ne-eqb (prevAt t v) 0 (λ z. omega arith)))
+        parentAt-later t v low one
+        ∙ sym (pick-false (eqb (prevAt t v) 0) _ _ (ne-eqb (prevAt t v) 0 (λ z. omega arith)))

@@ -1,5 +1,5 @@
--- Laws of a choice by a test, of a place, and of the numbers 1 to n summed, counted, searched and listed. `Upto n P` says P of
--- each of 1 to n. Assumes nothing.
+-- Laws of a choice by a test, of a place, of two numbers in order, of what goes by earlier numbers, and of the numbers 1
+-- to n summed, counted, searched and listed. `Upto n P` says P of each of 1 to n. Assumes nothing.
 use Prim.Native.Nat.{ℕ, zero, suc, _+_, _≤_, _<_}
 use native.Mathlib.Omega.{arith}
 use mathlib.Core.Bool.{Bool, true, false, true≢false, false≢true}
@@ -71,9 +71,8 @@ pub place-cases : (o : Place) → ((p : ℕ) × (o ≡ At p)) ⊎ (o ≡ Nowhere
 place-cases (At p) = inl (p, refl)
 place-cases Nowhere = inr refl
 
--- ---- The numbers 1 to n
+-- ---- Numbers in order
 
--- two numbers in order
 pub order-cases : (a b : ℕ) → (a < b) ⊎ ((a ≡ b) ⊎ (b < a))
 order-cases a b = go (ltb a b) refl (ltb b a) refl
   where
@@ -107,6 +106,8 @@ steps-enough found back less none turn (suc f) (suc g) zero a b = none (suc f) (
 steps-enough found back less none turn (suc f) (suc g) (suc v) a b =
     let l : back (suc v) < suc v = less (suc v) (omega arith) in
     turn f g (suc v) (steps-enough found back less none turn f g (back (suc v)) (omega arith) (omega arith))
+
+-- ---- The numbers 1 to n
 
 abbrev pub Upto {ℓ} : ℕ → (ℕ → Type ℓ) → Type ℓ
 Upto n P = (v : ℕ) → 1 ≤ v → v ≤ n → P v
@@ -240,7 +241,8 @@ pub firstTo-nowhere : (n : ℕ) (p : ℕ → Bool) → firstTo n p ≡ Nowhere �
 firstTo-nowhere zero p e = λ v low high. absurd (omega arith)
 firstTo-nowhere (suc n) p e = go (firstTo n p) refl (firstTo-nowhere n p)
   where
-    go : (o : Place) → firstTo n p ≡ o → (firstTo n p ≡ Nowhere → Upto n (λ v. p v ≡ false)) → Upto (suc n) (λ v. p v ≡ false)
+    go : (o : Place) → firstTo n p ≡ o → (firstTo n p ≡ Nowhere → Upto n (λ v. p v ≡ false))
+        → Upto (suc n) (λ v. p v ≡ false)
     go (At v) q ih = absurd (at-nowhere v (sym (firstTo-found n v p q) ∙ e))
     go Nowhere q ih =
         upto-add (λ v. p v ≡ false) n (ih q) (when-nowhere (p (suc n)) (suc n) (sym (firstTo-further n p q) ∙ e))
@@ -345,7 +347,8 @@ lastTo-at (suc n) v p e low = go (p (suc n)) refl (lastTo-at n v p)
           low = low;
           high = omega (arith, f .high);
           passed = f .passed;
-          after = λ u l h. upto-add (λ w. v < w → p w ≡ false) n (λ w a b c. f .after w c b) (λ c. q) u (omega arith) h l;
+          after =
+              λ u l h. upto-add (λ w. v < w → p w ≡ false) n (λ w a b c. f .after w c b) (λ c. q) u (omega arith) h l;
         }
 
 -- the last one that passes is found
@@ -368,7 +371,8 @@ lastTo-last n v p f = go (zero-cases u)
         same (inr (inr h)) = absurd (true≢false (sym (g .passed) ∙ f .after u h (g .high)))
 
 -- the only one that passes is found
-pub lastTo-only : (n v : ℕ) (p : ℕ → Bool) → 1 ≤ v → v ≤ n → p v ≡ true → Upto n (λ u. p u ≡ true → u ≡ v) → lastTo n p ≡ v
+pub lastTo-only : (n v : ℕ) (p : ℕ → Bool) → 1 ≤ v → v ≤ n → p v ≡ true → Upto n (λ u. p u ≡ true → u ≡ v)
+    → lastTo n p ≡ v
 lastTo-only n v p low high pass only =
     lastTo-last n v p (record { low = low; high = high; passed = pass; after = λ u l h. go u l h (p u) refl })
   where
@@ -402,14 +406,17 @@ length-listTo zero f = rw (listTo-zero (λ v. f v ∷ []))
 length-listTo (suc n) f =
     rw (listTo-suc n (λ v. f v ∷ []), length-append) (omega (arith, length-listTo n f))
 
-pub getD-listTo {ℓ} : {X : Type ℓ} (n i : ℕ) (f : ℕ → X) (d : X) → i < n → getD (listTo n (λ v. f v ∷ [])) i d ≡ f (suc i)
+pub getD-listTo {ℓ} : {X : Type ℓ} (n i : ℕ) (f : ℕ → X) (d : X) → i < n
+    → getD (listTo n (λ v. f v ∷ [])) i d ≡ f (suc i)
 getD-listTo zero i f d h = absurd (omega arith)
-getD-listTo {X = X} (suc n) i f d h = rw (listTo-suc n (λ v. f v ∷ [])) (go (upto-suc n (suc i) h) (getD-listTo n i f d))
+getD-listTo {X = X} (suc n) i f d h =
+    rw (listTo-suc n (λ v. f v ∷ [])) (go (upto-suc n (suc i) h) (getD-listTo n i f d))
   where
     xs : List X
     xs = listTo n (λ v. f v ∷ [])
 
-    go : (suc i ≤ n) ⊎ (suc i ≡ suc n) → (i < n → getD xs i d ≡ f (suc i)) → getD (xs ++ (f (suc n) ∷ [])) i d ≡ f (suc i)
+    go : (suc i ≤ n) ⊎ (suc i ≡ suc n) → (i < n → getD xs i d ≡ f (suc i))
+        → getD (xs ++ (f (suc n) ∷ [])) i d ≡ f (suc i)
     go (inl l) ih =
         let fits : i < length xs = rw (length-listTo n f) l in List·getD-append xs (f (suc n) ∷ []) d i fits ∙ ih l
     go (inr e) ih =

@@ -1,6 +1,8 @@
--- Marks and runs in plain numbers, as the archive asks for them: the marks that are allowed, the earlier sibling with mark 1 whose run a
--- node with mark 2 is in, the mark 2 of each sibling after a run's first node and up to its last, and runLast by the next sibling.
--- Defines GoodMarks, InRunOf. Proves good-marks, in-run-of, runLast-low, runLast-marks, runLast-on, runLast-stop. Assumes nothing.
+-- Marks and runs in plain numbers, as the archive asks for them: the marks that are allowed, the earlier sibling with
+-- mark 1 whose run a node with mark 2 is in, the mark 2 of each sibling after a run's first node and up to its last,
+-- and runLast by the next sibling.
+-- Defines GoodMarks, InRunOf. Proves good-marks, in-run-of, runLast-low, runLast-marks, runLast-on, runLast-stop.
+-- Assumes nothing.
 use Prim.Native.Nat.{ℕ, _≤_, _<_}
 use native.Mathlib.Omega.{arith}
 use mathlib.Core.Bool.{true, false}
@@ -53,7 +55,9 @@ good-marks t m e =
     record {
       few = λ v low high. good-few t m v low (good v low high);
       before = λ v low high two. good-continues t m v low (good v low high) (eq-eqb (markAt m v) 2 two);
-      runs-on = λ v low high two. inRun-cases m (prevAt t v) (good-after t m v low (good v low high) (eq-eqb (markAt m v) 2 two));
+      runs-on =
+          λ v low high two. inRun-cases m (prevAt t v)
+          (good-after t m v low (good v low high) (eq-eqb (markAt m v) 2 two));
     }
   where
     good : Upto (nodeCount t) (λ v. goodMark t m v ≡ true)
@@ -67,13 +71,15 @@ runLast-low {t} {m} s g b low high = reach-le s (runLast-ends s m b low high .go
 module _ {t : List ℕ} (m : List ℕ) (s : SoundFacts t) (v : ℕ) (low : 1 ≤ v) (high : v ≤ nodeCount t) where
   pub runLast-on : 1 ≤ nextAt t v → markAt m (nextAt t v) ≡ 2 → runLast t m v ≡ runLast t m (nextAt t v)
   runLast-on one two =
-      let rest : Ends t m (nextAt t v) (runLast t m (nextAt t v)) = runLast-ends s m (nextAt t v) one (next-le s v low high) in
+      let rest : Ends t m (nextAt t v) (runLast t m (nextAt t v)) =
+      runLast-ends s m (nextAt t v) one (next-le s v low high) in
       ends-runLast s m v (runLast t m (nextAt t v)) low high
       (record { goes = step one (eq-eqb (markAt m (nextAt t v)) 2 two) (rest .goes); stops = rest .stops })
 
   pub runLast-stop : (1 ≤ nextAt t v → markAt m (nextAt t v) ≡ 2 → ⊥) → runLast t m v ≡ v
   runLast-stop none =
-      ends-runLast s m v v low high (record { goes = here; stops = λ one e. none one (eqb-true (markAt m (nextAt t v)) 2 e) })
+      ends-runLast s m v v low high
+      (record { goes = here; stops = λ one e. none one (eqb-true (markAt m (nextAt t v)) 2 e) })
 
 -- ---- The run of a node with mark 2
 
@@ -103,7 +109,8 @@ module _ {t : List ℕ} (s : SoundFacts t) (m : List ℕ) where
       )
 
   -- the siblings after a run's first node and up to its last have mark 2
-  pub runLast-marks : (b v : ℕ) → 1 ≤ b → b < v → v ≤ nodeCount t → v ≤ runLast t m b → parentAt t b ≡ parentAt t v → markAt m v ≡ 2
+  pub runLast-marks : (b v : ℕ) → 1 ≤ b → b < v → v ≤ nodeCount t → v ≤ runLast t m b → parentAt t b ≡ parentAt t v
+      → markAt m v ≡ 2
   runLast-marks b v low less high within same = last (reach-last (by (reach-total run after)))
     where
       run : Goes t m b (runLast t m b)

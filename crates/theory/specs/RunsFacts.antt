@@ -1,6 +1,6 @@
 -- Sequences of runs: what a run is, what `holds` says as plain facts, which run a node is in, and on whose page it is.
--- Defines RunFacts, Inside, FoundRun, HoldFacts. Proves that the first and the last say what isRun and holds say, and the laws of
--- runWith and homeOf that name no bound on the steps. Assumes nothing.
+-- Defines RunFacts, Inside, FoundRun, HoldFacts. Proves that the first and the last say what isRun and holds say, and
+-- the laws of runWith and homeOf that name no bound on the steps. Assumes nothing.
 use Prim.Native.Nat.{ℕ, zero, suc, _≤_, _<_}
 use native.Mathlib.Omega.{arith}
 use mathlib.Core.Bool.{Bool, true, false, _&&_, true≢false}
@@ -16,7 +16,8 @@ use Rattle.model.specs.Runs.{homeFrom, homeOf}
 use Rattle.model.specs.declared.Place.{Place}
 use Rattle.model.specs.declared.Place.the-variants.{At, Nowhere}
 use Rattle.theory.specs.Bools.{both-true}
-use Rattle.theory.specs.Ranges.{Upto, by-earlier, steps-enough, pick-true, pick-false, at-nowhere, at-same, atPlace-at, atPlace-nowhere}
+use Rattle.theory.specs.Ranges.{Upto, by-earlier, steps-enough, pick-true, pick-false, at-nowhere, at-same}
+use Rattle.theory.specs.Ranges.{atPlace-at, atPlace-nowhere}
 use Rattle.theory.specs.Ranges.{countTo-all, countTo-full}
 use Rattle.theory.specs.TableFacts.{SoundFacts}
 use Rattle.theory.specs.TableLinks.{parentAt-none, parentAt-less, parent-low}
@@ -85,11 +86,13 @@ runWith-nil : (t : List ℕ) (v : ℕ) → runWith t [] v ≡ Nowhere
 unfolding runWith
 runWith-nil t v = refl
 
-runWith-yes : (t : List ℕ) (r : Run) (rs : List Run) (v : ℕ) → isMember t v r ≡ true → runWith t (r ∷ rs) v ≡ At (r .first)
+runWith-yes : (t : List ℕ) (r : Run) (rs : List Run) (v : ℕ) → isMember t v r ≡ true
+    → runWith t (r ∷ rs) v ≡ At (r .first)
 unfolding runWith
 runWith-yes t r rs v e = pick-true (isMember t v r) (At (r .first)) (runWith t rs v) e
 
-runWith-no : (t : List ℕ) (r : Run) (rs : List Run) (v : ℕ) → isMember t v r ≡ false → runWith t (r ∷ rs) v ≡ runWith t rs v
+runWith-no : (t : List ℕ) (r : Run) (rs : List Run) (v : ℕ) → isMember t v r ≡ false
+    → runWith t (r ∷ rs) v ≡ runWith t rs v
 unfolding runWith
 runWith-no t r rs v e = pick-false (isMember t v r) (At (r .first)) (runWith t rs v) e
 
@@ -110,7 +113,8 @@ runWith-found t (r ∷ rs) v u e = go (isMember t v r) refl (runWith-found t rs 
         let f : FoundRun t rs v u = ih (sym (runWith-no t r rs v q) ∙ e) in
         record { run = f .run; listed = List·Memᴰ·tail (f .listed); member = f .member; first = f .first }
 
-pub runWith-none : (t : List ℕ) (rs : List Run) (v : ℕ) → runWith t rs v ≡ Nowhere → (r : Run) → Mem r rs → isMember t v r ≡ false
+pub runWith-none : (t : List ℕ) (rs : List Run) (v : ℕ) → runWith t rs v ≡ Nowhere → (r : Run) → Mem r rs
+    → isMember t v r ≡ false
 runWith-none t [] v e r h = absurd (List·Memᴰ·not-nil h)
 runWith-none t (x ∷ rs) v e r h = go (isMember t v x) refl h (runWith-none t rs v)
   where
@@ -120,7 +124,8 @@ runWith-none t (x ∷ rs) v e r h = go (isMember t v x) refl h (runWith-none t r
     go false q (List·Memᴰ·head p) ih = ap (isMember t v) p ∙ q
     go false q (List·Memᴰ·tail m) ih = ih (sym (runWith-no t x rs v q) ∙ e) r m
 
-pub none-runWith : (t : List ℕ) (rs : List Run) (v : ℕ) → ((r : Run) → Mem r rs → isMember t v r ≡ false) → runWith t rs v ≡ Nowhere
+pub none-runWith : (t : List ℕ) (rs : List Run) (v : ℕ) → ((r : Run) → Mem r rs → isMember t v r ≡ false)
+    → runWith t rs v ≡ Nowhere
 none-runWith t [] v h = runWith-nil t v
 none-runWith t (x ∷ rs) v h =
     runWith-no t x rs v (h x (List·Memᴰ·head refl)) ∙ none-runWith t rs v (λ r m. h r (List·Memᴰ·tail m))
@@ -143,10 +148,14 @@ mem-of e h = rw e h
 pub holds-facts : (t : List ℕ) (rs : List Run) → holds t rs ≡ true → HoldFacts t rs
 unfolding holds
 holds-facts t rs e =
-    let c = both-true (every (isRun t) rs && leb 1 (countOf isRootRun rs)) (eqb (countTo (nodeCount t) (inOneAtMost t rs)) (nodeCount t)) e in
+    let c =
+    both-true (every (isRun t) rs && leb 1 (countOf isRootRun rs))
+    (eqb (countTo (nodeCount t) (inOneAtMost t rs)) (nodeCount t)) e in
     let b = both-true (every (isRun t) rs) (leb 1 (countOf isRootRun rs)) (c .0) in
     let one = countOf-find isRootRun rs (leb-true 1 (countOf isRootRun rs) (b .1)) in
-    let all = countTo-full (nodeCount t) (inOneAtMost t rs) (eqb-true (countTo (nodeCount t) (inOneAtMost t rs)) (nodeCount t) (c .1)) in
+    let all =
+    countTo-full (nodeCount t) (inOneAtMost t rs)
+    (eqb-true (countTo (nodeCount t) (inOneAtMost t rs)) (nodeCount t) (c .1)) in
     record {
       each = λ r h. run-facts t r (every-all (isRun t) rs (b .0) r h);
       root = mem-of (root-is (one .0) (one .2)) (one .1);
@@ -160,13 +169,15 @@ module _ {t : List ℕ} (s : SoundFacts t) where
       rw (
         all-every (isRun t) rs (λ r m. facts-run s r (h .each r m)),
         le-leb 1 (countOf isRootRun rs) (countOf-some isRootRun rs rootRun (h .root) refl),
-        countTo-all (nodeCount t) (inOneAtMost t rs) (λ v low high. le-leb (countOf (isMember t v) rs) 1 (h .once v low high)),
+        countTo-all (nodeCount t) (inOneAtMost t rs)
+            (λ v low high. le-leb (countOf (isMember t v) rs) 1 (h .once v low high)),
       )
       (eq-eqb (nodeCount t) (nodeCount t) refl)
 
   module _ (rs : List Run) (h : HoldFacts t rs) where
     -- two runs with a common node are the same
-    pub runs-apart : (v : ℕ) (r r′ : Run) → Mem r rs → Mem r′ rs → isMember t v r ≡ true → isMember t v r′ ≡ true → r ≡ r′
+    pub runs-apart : (v : ℕ) (r r′ : Run) → Mem r rs → Mem r′ rs → isMember t v r ≡ true → isMember t v r′ ≡ true
+        → r ≡ r′
     runs-apart v r r′ m m′ e e′ =
         let range = member-range s v r (h .each r m) (member-inside t v r e) in
         countOf-one (isMember t v) rs r r′ (h .once v (range .0) (range .1)) m m′ e e′
@@ -212,7 +223,8 @@ module _ (t : List ℕ) (rs : List Run) (z : runWith t rs 0 ≡ Nowhere) where
   homeFrom-enough : (f g v : ℕ) → v ≤ f → v ≤ g → homeFrom f t rs v ≡ homeFrom g t rs v
   unfolding homeFrom
   homeFrom-enough =
-      steps-enough (λ f v. homeFrom f t rs v) (parentAt t) (parentAt-less t) (λ f g. homeFrom-none f ∙ sym (homeFrom-none g))
+      steps-enough (λ f v. homeFrom f t rs v) (parentAt t) (parentAt-less t)
+      (λ f g. homeFrom-none f ∙ sym (homeFrom-none g))
       (λ f g v e. ap (atPlace (runWith t rs v) (λ u. u)) e)
 
   -- a node in a run is on that run's page, any other on its parent's page
@@ -226,7 +238,8 @@ module _ (t : List ℕ) (rs : List Run) (z : runWith t rs 0 ≡ Nowhere) where
   home-up zero low e = absurd (omega arith)
   home-up (suc v) low e =
       homeFrom-up v t rs (suc v) e
-      ∙ homeFrom-enough v (parentAt t (suc v)) (parentAt t (suc v)) (omega (arith, parentAt-less t (suc v) low)) (omega arith)
+      ∙ homeFrom-enough v (parentAt t (suc v)) (parentAt t (suc v)) (omega (arith, parentAt-less t (suc v) low))
+      (omega arith)
 
 -- the first node of a page is the first of a run
 module _ {t : List ℕ} (s : SoundFacts t) (rs : List Run) (h : HoldFacts t rs) where

@@ -1,6 +1,8 @@
--- The run that goes from a node by the marks: the node, and the siblings after it that continue the run. It stops at runLast, its
--- members are the nodes that it goes to, no two nodes that begin a run go to the same one, and each node in a run has a first node.
--- Defines Goes, Ends, planRun, Headed. Proves length-runsOf, runLast-ends, goes-member, member-goes, goes-one, headed. Assumes nothing.
+-- The run that goes from a node by the marks: the node, and the siblings after it that continue the run. It stops at
+-- runLast, its members are the nodes that it goes to, no two nodes that begin a run go to the same one, and each node
+-- in a run has a first node.
+-- Defines Goes, Ends, planRun, Headed. Proves length-runsOf, runLast-ends, goes-member, member-goes, goes-one, headed.
+-- Assumes nothing.
 use Prim.Native.Nat.{ℕ, zero, suc, _+_, _≤_, _<_}
 use native.Mathlib.Omega.{arith}
 use mathlib.Core.Bool.{Bool, true, false, not, _&&_, _||_, true≢false, false≢true}
@@ -42,7 +44,8 @@ ends-same e e′ = reach-stop-one (e .goes) (e′ .goes) (e .stops) (e′ .stops
 abbrev goesOn : List ℕ → List ℕ → ℕ → Bool
 goesOn t m v = not (eqb (nextAt t v) 0) && hasMark m continues (nextAt t v)
 
-runLastFrom-on : (f : ℕ) (t m : List ℕ) (v : ℕ) → goesOn t m v ≡ true → runLastFrom (suc f) t m v ≡ runLastFrom f t m (nextAt t v)
+runLastFrom-on : (f : ℕ) (t m : List ℕ) (v : ℕ) → goesOn t m v ≡ true
+    → runLastFrom (suc f) t m v ≡ runLastFrom f t m (nextAt t v)
 unfolding runLastFrom
 runLastFrom-on f t m v e = pick-true (goesOn t m v) (runLastFrom f t m (nextAt t v)) v e
 
@@ -89,11 +92,13 @@ inRun-continues m v e = go (hasMark m begins v)
     go true = refl
     go false = e
 
-pub neither-inRun : (m : List ℕ) (v : ℕ) → hasMark m begins v ≡ false → hasMark m continues v ≡ false → inRun m v ≡ false
+pub neither-inRun : (m : List ℕ) (v : ℕ) → hasMark m begins v ≡ false → hasMark m continues v ≡ false
+    → inRun m v ≡ false
 unfolding inRun
 neither-inRun m v a b = rw (a, b)
 
-pub inRun-neither : (m : List ℕ) (v : ℕ) → inRun m v ≡ false → (hasMark m begins v ≡ false) × (hasMark m continues v ≡ false)
+pub inRun-neither : (m : List ℕ) (v : ℕ) → inRun m v ≡ false
+    → (hasMark m begins v ≡ false) × (hasMark m continues v ≡ false)
 unfolding inRun
 inRun-neither m v e = both-false (hasMark m begins v) (hasMark m continues v) e
 
@@ -112,7 +117,8 @@ module _ {t : List ℕ} (s : SoundFacts t) (m : List ℕ) where
   ends-from (suc f) u low high enough = go (goesOn t m u) refl (ends-from f (nextAt t u))
     where
       go : (b : Bool) → goesOn t m u ≡ b
-          → (1 ≤ nextAt t u → nextAt t u ≤ nodeCount t → nodeCount t ≤ f + nextAt t u → Ends t m (nextAt t u) (runLastFrom f t m (nextAt t u)))
+          → (1 ≤ nextAt t u → nextAt t u ≤ nodeCount t → nodeCount t ≤ f + nextAt t u
+          → Ends t m (nextAt t u) (runLastFrom f t m (nextAt t u)))
           → Ends t m u (runLastFrom (suc f) t m u)
       go true e ih =
           let on = goesOn-yes t m u e in
@@ -136,11 +142,13 @@ module _ {t : List ℕ} (s : SoundFacts t) (m : List ℕ) where
   pub goes-member : (u v : ℕ) → 1 ≤ u → u ≤ nodeCount t → Goes t m u v → isMember t v (planRun t m u) ≡ true
   goes-member u v low high r =
       let e : Ends t m u (runLast t m u) = runLast-ends u low high in
-      inside-member s v (planRun t m u) (planRun-facts u low high) (reach-after r, reach-after (reach-stop r (e .goes) (e .stops)))
+      inside-member s v (planRun t m u) (planRun-facts u low high)
+      (reach-after r, reach-after (reach-stop r (e .goes) (e .stops)))
 
   pub member-goes : (u v : ℕ) → 1 ≤ u → u ≤ nodeCount t → isMember t v (planRun t m u) ≡ true → Goes t m u v
   member-goes u v low high e =
-      let b = member-inside t v (planRun t m u) e in reach-between s (runLast-ends u low high .goes) (b .0) (b .1) low high
+      let b =
+      member-inside t v (planRun t m u) e in reach-between s (runLast-ends u low high .goes) (b .0) (b .1) low high
 
   -- where it begins with a run's first node, they are in the run
   pub goes-inRun : (u v : ℕ) → hasMark m begins u ≡ true → Goes t m u v → inRun m v ≡ true
@@ -151,14 +159,16 @@ module _ {t : List ℕ} (s : SoundFacts t) (m : List ℕ) where
       go (inr b) = inRun-continues m v (b .passed)
 
   -- and no other first node goes to them
-  pub goes-one : (u u′ v : ℕ) → 1 ≤ u → u ≤ nodeCount t → 1 ≤ u′ → u′ ≤ nodeCount t → hasMark m begins u ≡ true → hasMark m begins u′ ≡ true
+  pub goes-one : (u u′ v : ℕ) → 1 ≤ u → u ≤ nodeCount t → 1 ≤ u′ → u′ ≤ nodeCount t → hasMark m begins u ≡ true
+      → hasMark m begins u′ ≡ true
       → Goes t m u v → Goes t m u′ v → u ≡ u′
   goes-one u u′ v low high low′ high′ first first′ r r′ = go (reach-common s r r′ low high low′ high′)
     where
       both : (w : ℕ) → hasMark m begins w ≡ true → hasMark m continues w ≡ true → ⊥
       both w a b = omega (arith, eqb-true (markAt m w) 1 a, eqb-true (markAt m w) 2 b)
 
-      last : (w w′ : ℕ) → hasMark m begins w′ ≡ true → (w ≡ w′) ⊎ LastLink t (λ x. hasMark m continues x ≡ true) w w′ → w ≡ w′
+      last : (w w′ : ℕ) → hasMark m begins w′ ≡ true → (w ≡ w′) ⊎ LastLink t (λ x. hasMark m continues x ≡ true) w w′
+          → w ≡ w′
       last w w′ a (inl e) = e
       last w w′ a (inr b) = absurd (both w′ a (b .passed))
 
@@ -182,7 +192,8 @@ module _ {t : List ℕ} (s : SoundFacts t) (m : List ℕ) (good : badMark t m �
 
   pub headed : (v : ℕ) → 1 ≤ v → v ≤ nodeCount t → inRun m v ≡ true → Headed t m v
   headed =
-      by-earlier HeadedAt (λ v earlier low high e. go v earlier low high e (hasMark m begins v) refl (hasMark m continues v) refl)
+      by-earlier HeadedAt (λ v earlier low high e. go v earlier low high e (hasMark m begins v) refl
+      (hasMark m continues v) refl)
     where
       go : (v : ℕ) → ((u : ℕ) → u < v → HeadedAt u) → 1 ≤ v → v ≤ nodeCount t → inRun m v ≡ true
           → (b : Bool) → hasMark m begins v ≡ b → (c : Bool) → hasMark m continues v ≡ c → Headed t m v
@@ -191,7 +202,8 @@ module _ {t : List ℕ} (s : SoundFacts t) (m : List ℕ) (good : badMark t m �
           let less : prevAt t v < v = prevAt-less t v low in
           let fine = good-node s m good v low high in
           let one : 1 ≤ prevAt t v = good-continues t m v low fine q′ in
-          let p : Headed t m (prevAt t v) = earlier (prevAt t v) less one (omega arith) (good-after t m v low fine q′) in
+          let p : Headed t m (prevAt t v) =
+          earlier (prevAt t v) less one (omega arith) (good-after t m v low fine q′) in
           record {
             head = p .head;
             low = p .low;

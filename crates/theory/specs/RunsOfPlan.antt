@@ -1,6 +1,6 @@
--- The runs of a plan with no bad mark, in a table of sound form: they hold the tree; a node is in one of them where its mark says so,
--- its home is the node that begins its page, and each run weighs what its page weighs.
--- Defines OnPage. Proves in-one, in-none, runs-hold, home-page, root-weight, within-heavy. Assumes nothing.
+-- The runs of a plan with no bad mark, in a table of sound form: they hold the tree; a node is in one of them where its
+-- mark says so, its home is the node that begins its page, and each run weighs what its page weighs.
+-- Proves runs-facts, runs-hold, runWith-goes, runWith-out, root-weight, within-heavy. Assumes nothing.
 use Prim.Native.Nat.{ℕ, suc, _≤_, _<_}
 use native.Mathlib.Omega.{arith}
 use mathlib.Core.Bool.{Bool, true, false, _&&_, true≢false}
@@ -46,12 +46,15 @@ module _ {t : List ℕ} (s : SoundFacts t) (m : List ℕ) (good : badMark t m �
   mem-from r h = chosen-from (hasMark m begins) (planRun t m) (nodeCount t) r (rw (runsOf-chosen t m) at h)
 
   pub runs-mem : (u : ℕ) → 1 ≤ u → u ≤ nodeCount t → hasMark m begins u ≡ true → Mem (planRun t m u) (runsOf t m)
-  runs-mem u low high e = rw (runsOf-chosen t m) (chosen-mem (hasMark m begins) (planRun t m) (nodeCount t) u low high e)
+  runs-mem u low high e =
+      rw (runsOf-chosen t m) (chosen-mem (hasMark m begins) (planRun t m) (nodeCount t) u low high e)
 
   -- a node is in the run of the node that begins it, and in no other
   members-count : (v : ℕ)
-      → countOf (isMember t v) (runsOf t m) ≡ countTo (nodeCount t) (λ u. hasMark m begins u && isMember t v (planRun t m u))
-  members-count v = rw (runsOf-chosen t m) (countOf-chosen (hasMark m begins) (planRun t m) (isMember t v) (nodeCount t))
+      → countOf (isMember t v) (runsOf t m)
+      ≡ countTo (nodeCount t) (λ u. hasMark m begins u && isMember t v (planRun t m u))
+  members-count v =
+      rw (runsOf-chosen t m) (countOf-chosen (hasMark m begins) (planRun t m) (isMember t v) (nodeCount t))
 
   in-one : (v : ℕ) → 1 ≤ v → v ≤ nodeCount t → inRun m v ≡ true → countOf (isMember t v) (runsOf t m) ≡ 1
   in-one v low high e =
@@ -63,7 +66,8 @@ module _ {t : List ℕ} (s : SoundFacts t) (m : List ℕ) (good : badMark t m �
       ∙ countTo-only (λ u. hasMark m begins u && isMember t v (planRun t m u)) (nodeCount t) (h .head) (h .low) top own
       (λ u low′ high′ q.
       let b = both-true (hasMark m begins u) (isMember t v (planRun t m u)) q in
-      goes-one s m u (h .head) v low′ high′ (h .low) top (b .0) (h .mark) (member-goes s m u v low′ high′ (b .1)) (h .goes))
+      goes-one s m u (h .head) v low′ high′ (h .low) top (b .0) (h .mark) (member-goes s m u v low′ high′ (b .1))
+      (h .goes))
 
   not-member : (v : ℕ) → inRun m v ≡ false → (u : ℕ) → 1 ≤ u → u ≤ nodeCount t → hasMark m begins u ≡ true
       → isMember t v (planRun t m u) ≡ false
@@ -112,7 +116,8 @@ module _ {t : List ℕ} (s : SoundFacts t) (m : List ℕ) (good : badMark t m �
   zero-none : runWith t (runsOf t m) 0 ≡ Nowhere
   zero-none = runWith-zero s (runsOf t m) runs-facts
 
-  pub runWith-goes : (u v : ℕ) → 1 ≤ u → u ≤ nodeCount t → hasMark m begins u ≡ true → Goes t m u v → runWith t (runsOf t m) v ≡ At u
+  pub runWith-goes : (u v : ℕ) → 1 ≤ u → u ≤ nodeCount t → hasMark m begins u ≡ true → Goes t m u v
+      → runWith t (runsOf t m) v ≡ At u
   runWith-goes u v low high e r =
       runWith-at s (runsOf t m) runs-facts v (planRun t m u) (runs-mem u low high e) (goes-member s m u v low high r)
 
@@ -136,7 +141,8 @@ module _ {t : List ℕ} (s : SoundFacts t) (m : List ℕ) (good : badMark t m �
   home-page : (v : ℕ) → HomePage v
   home-page = by-earlier HomePage (λ v earlier low high. go v earlier low high (inRun m v) refl)
     where
-      go : (v : ℕ) → ((u : ℕ) → u < v → HomePage u) → 1 ≤ v → v ≤ nodeCount t → (b : Bool) → inRun m v ≡ b → OnPage t m v
+      go : (v : ℕ) → ((u : ℕ) → u < v → HomePage u) → 1 ≤ v → v ≤ nodeCount t → (b : Bool) → inRun m v ≡ b
+          → OnPage t m v
       go v earlier low high true e =
           let h : Headed t m v = headed s m good v low high e in
           let top : h .head ≤ nodeCount t = omega (arith, h .high) in
@@ -152,7 +158,8 @@ module _ {t : List ℕ} (s : SoundFacts t) (m : List ℕ) (good : badMark t m �
       go v earlier low high false e =
           let q = inRun-neither m v e in
           let less : parentAt t v < v = parentAt-less t v low in
-          let p : OnPage t m (parentAt t v) = earlier (parentAt t v) less (parent-low s v (not-root s m good v low (q .0)) high) (omega arith) in
+          let p : OnPage t m (parentAt t v) =
+          earlier (parentAt t v) less (parent-low s v (not-root s m good v low (q .0)) high) (omega arith) in
           record {
             first = p .first;
             low = p .low;
@@ -172,7 +179,8 @@ module _ {t : List ℕ} (s : SoundFacts t) (m : List ℕ) (good : badMark t m �
       (λ v. pick (eqb (pageOf t m v) (countTo u (hasMark m begins))) (weightAt t v) 0)
       (λ v low high. ap (λ b. pick b (weightAt t v) 0) (test v (home-page v low high)))
     where
-      test : (v : ℕ) → OnPage t m v → eqb (homeOf t (runsOf t m) v) (r .first) ≡ eqb (pageOf t m v) (countTo u (hasMark m begins))
+      test : (v : ℕ) → OnPage t m v → eqb (homeOf t (runsOf t m) v) (r .first)
+          ≡ eqb (pageOf t m v) (countTo u (hasMark m begins))
       test v p =
           same-true (eqb (homeOf t (runsOf t m) v) (r .first)) (eqb (pageOf t m v) (countTo u (hasMark m begins)))
           (λ q. eq-eqb (pageOf t m v) (countTo u (hasMark m begins))
@@ -203,7 +211,12 @@ module _ {t : List ℕ} (s : SoundFacts t) (m : List ℕ) (good : badMark t m �
         (every-all (λ r. leb (runWeight t (runsOf t m) r) (limitOf t)) (runsOf t m) e (planRun t m (c .0))
         (runs-mem (c .0) (c .1 .low) (c .1 .high) (c .1 .passed))) in
         le-ltb (limitOf t) (pageWeight t m p)
-        (omega (arith, weight-first (c .0) (planRun t m (c .0)) refl (c .1 .passed), ap (pageWeight t m) (c .1 .rank)))),
+        (omega (
+          arith,
+          weight-first (c .0) (planRun t m (c .0)) refl (c .1 .passed),
+          ap (pageWeight t m)
+              (c .1 .rank),
+        ))),
     λ e. all-every (λ r. leb (runWeight t (runsOf t m) r) (limitOf t)) (runsOf t m)
         (λ r h.
         let f = mem-from r h in

@@ -1,7 +1,6 @@
--- The plan of a sequence of runs that holds the tree: its marks are good, its runs are those of the sequence, and it is the only plan
--- with those runs.
--- Defines markOfRuns, marksOf. Proves marks-length, marks-good, runs-of-marks (the same runs), marks-of-runs (a plan is the plan of its
--- runs), one-plan. Assumes nothing.
+-- The plan of a sequence of runs that holds the tree: its marks are good, its runs are those of the sequence, and it is
+-- the only plan with those runs.
+-- Defines markOfRuns, marksOf. Proves marks-length, marks-good, runs-of-marks (the same runs), one-plan. Assumes nothing.
 use Prim.Native.Nat.{ℕ, zero, suc, _-_, _≤_, _<_}
 use native.Mathlib.Omega.{arith}
 use mathlib.Core.Bool.{Bool, true, false, not, _&&_, _||_, true≢false, false≢true}
@@ -19,12 +18,14 @@ use Rattle.model.specs.Runs.{Run, runWith, runsOf}
 use Rattle.model.specs.declared.Place.{Place}
 use Rattle.model.specs.declared.Place.the-variants.{At, Nowhere}
 use Rattle.theory.specs.Bools.{either-true}
-use Rattle.theory.specs.Ranges.{le-cases, pick-true, pick-false, atPlace-at, atPlace-nowhere, listTo-cong, length-listTo}
+use Rattle.theory.specs.Ranges.{le-cases, pick-true, pick-false, atPlace-at, atPlace-nowhere, listTo-cong}
+use Rattle.theory.specs.Ranges.{length-listTo}
 use Rattle.theory.specs.Ranges.{getD-listTo}
 use Rattle.theory.specs.TableFacts.{SoundFacts}
 use Rattle.theory.specs.TableLinks.{next-later, next-le, next-prev}
 use Rattle.theory.specs.PlanPages.{bad-none, good-node, good-first, good-later, not-root}
-use Rattle.theory.specs.SiblingChains.{here, step, After, reach-trans, reach-one, reach-prev-one, reach-le, reach-prev}
+use Rattle.theory.specs.SiblingChains.{here, step, After, reach-trans, reach-one, reach-prev-one, reach-le}
+use Rattle.theory.specs.SiblingChains.{reach-prev}
 use Rattle.theory.specs.Lists.{Mem, From}
 use Rattle.theory.specs.RunsFacts.{RunFacts, run-path, Inside, member-inside, member-range, inside-member}
 use Rattle.theory.specs.RunsFacts.{first-member, FoundRun, runWith-found, HoldFacts, runs-apart, runWith-at}
@@ -91,7 +92,8 @@ marks-at t rs zero low high = absurd (omega arith)
 marks-at t rs (suc i) low high = markAt-suc (marksOf t rs) i ∙ getD-marks t rs i high
 
 -- sequences that put each node in the same run have the same plan
-marks-same : (t : List ℕ) (rs rs′ : List Run) → ((v : ℕ) → runWith t rs v ≡ runWith t rs′ v) → marksOf t rs ≡ marksOf t rs′
+marks-same : (t : List ℕ) (rs rs′ : List Run) → ((v : ℕ) → runWith t rs v ≡ runWith t rs′ v)
+    → marksOf t rs ≡ marksOf t rs′
 unfolding marksOf markOfRuns
 marks-same t rs rs′ h =
     listTo-cong (nodeCount t) (λ v. markOfRuns t rs v ∷ []) (λ v. markOfRuns t rs′ v ∷ [])
@@ -103,7 +105,8 @@ module _ {t : List ℕ} (s : SoundFacts t) (rs : List Run) (h : HoldFacts t rs) 
   mark-is : (v k : ℕ) → 1 ≤ v → v ≤ nodeCount t → markOfRuns t rs v ≡ k → hasMark (marksOf t rs) k v ≡ true
   mark-is v k low high e = eq-eqb (markAt (marksOf t rs) v) k (marks-at t rs v low high ∙ e)
 
-  mark-not : (v k j : ℕ) → 1 ≤ v → v ≤ nodeCount t → markOfRuns t rs v ≡ k → (k ≡ j → ⊥) → hasMark (marksOf t rs) j v ≡ false
+  mark-not : (v k j : ℕ) → 1 ≤ v → v ≤ nodeCount t → markOfRuns t rs v ≡ k → (k ≡ j → ⊥)
+      → hasMark (marksOf t rs) j v ≡ false
   mark-not v k j low high e other =
       ne-eqb (markAt (marksOf t rs) v) j (λ q. other (sym (marks-at t rs v low high ∙ e) ∙ q))
 
@@ -114,7 +117,8 @@ module _ {t : List ℕ} (s : SoundFacts t) (rs : List Run) (h : HoldFacts t rs) 
       mark-is (r .first) 1 (f .low) (f .high)
       (markOfRuns-first t rs (r .first) (r .first) (runWith-at s rs h (r .first) r n (first-member s r f)) refl)
 
-  other-continues : (r : Run) (v : ℕ) → Mem r rs → Inside t v r → (r .first ≡ v → ⊥) → hasMark (marksOf t rs) continues v ≡ true
+  other-continues : (r : Run) (v : ℕ) → Mem r rs → Inside t v r → (r .first ≡ v → ⊥)
+      → hasMark (marksOf t rs) continues v ≡ true
   other-continues r v n i other =
       let f : RunFacts t r = h .each r n in
       let range = member-range s v r f i in
@@ -174,7 +178,8 @@ module _ {t : List ℕ} (s : SoundFacts t) (rs : List Run) (h : HoldFacts t rs) 
               let i : Inside t v (found .run) = member-inside t v (found .run) (found .member) in
               let b : PrevInRun (found .run) v =
               prev-in-run (found .run) v (found .listed) i (λ z. apart (sym (found .first) ∙ z)) in
-              let some : not (eqb (prevAt t v) 0) ≡ true = ap not (ne-eqb (prevAt t v) 0 (λ z. omega (arith, b .low))) in
+              let some : not (eqb (prevAt t v) 0) ≡ true =
+              ap not (ne-eqb (prevAt t v) 0 (λ z. omega (arith, b .low))) in
               pick-true (hasMark (marksOf t rs) continues v) _ _ (mark-is v 2 low high k)
               ∙ rw (some, member-inRun (found .run) (prevAt t v) (found .listed) (b .inside))
 
@@ -196,7 +201,8 @@ module _ {t : List ℕ} (s : SoundFacts t) (rs : List Run) (h : HoldFacts t rs) 
       (goes-on r (nextAt t u) n from q a (next-le s u low high))
 
   -- and stop there
-  goes-no-further : (r : Run) → Mem r rs → 1 ≤ nextAt t (r .last) → hasMark (marksOf t rs) continues (nextAt t (r .last)) ≡ true → ⊥
+  goes-no-further : (r : Run) → Mem r rs → 1 ≤ nextAt t (r .last)
+      → hasMark (marksOf t rs) continues (nextAt t (r .last)) ≡ true → ⊥
   goes-no-further r n a e = by (mark-case t rs v)
     where
       f : RunFacts t r
@@ -223,7 +229,8 @@ module _ {t : List ℕ} (s : SoundFacts t) (rs : List Run) (h : HoldFacts t rs) 
       by (follows u q apart k) =
           let found : FoundRun t rs v u = runWith-found t rs v u q in
           let i : Inside t v (found .run) = member-inside t v (found .run) (found .member) in
-          let b : PrevInRun (found .run) v = prev-in-run (found .run) v (found .listed) i (λ z. apart (sym (found .first) ∙ z)) in
+          let b : PrevInRun (found .run) v =
+          prev-in-run (found .run) v (found .listed) i (λ z. apart (sym (found .first) ∙ z)) in
           let prev : prevAt t v ≡ r .last = next-prev s (r .last) v low (top .1) a refl in
           let mine : Inside t (r .last) (found .run) = rw prev at (b .inside) in
           let same : found .run ≡ r =
@@ -273,7 +280,8 @@ module _ {t : List ℕ} (s : SoundFacts t) (rs : List Run) (h : HoldFacts t rs) 
 
 module _ {t : List ℕ} (s : SoundFacts t) (m : List ℕ) (good : badMark t m ≡ Nowhere) where
   -- a good mark that is neither 1 nor 2 is 0
-  stays-zero : (v : ℕ) → 1 ≤ v → v ≤ nodeCount t → hasMark m begins v ≡ false → hasMark m continues v ≡ false → markAt m v ≡ 0
+  stays-zero : (v : ℕ) → 1 ≤ v → v ≤ nodeCount t → hasMark m begins v ≡ false → hasMark m continues v ≡ false
+      → markAt m v ≡ 0
   stays-zero v low high e e′ =
       let two : 2 ≤ v = not-root s m good v low e in
       ⊎-elim (eqb-true (markAt m v) 0) (λ q. absurd (false≢true (sym e ∙ q)))
@@ -283,14 +291,17 @@ module _ {t : List ℕ} (s : SoundFacts t) (m : List ℕ) (good : badMark t m �
   mark-again : (v : ℕ) → 1 ≤ v → v ≤ nodeCount t → markOfRuns t (runsOf t m) v ≡ markAt m v
   mark-again v low high = go (hasMark m begins v) refl (hasMark m continues v) refl
     where
-      go : (b : Bool) → hasMark m begins v ≡ b → (c : Bool) → hasMark m continues v ≡ c → markOfRuns t (runsOf t m) v ≡ markAt m v
+      go : (b : Bool) → hasMark m begins v ≡ b → (c : Bool) → hasMark m continues v ≡ c
+          → markOfRuns t (runsOf t m) v ≡ markAt m v
       go true q c q′ =
-          markOfRuns-first t (runsOf t m) v v (runWith-goes s m good v v low high q here) refl ∙ sym (eqb-true (markAt m v) 1 q)
+          markOfRuns-first t (runsOf t m) v v (runWith-goes s m good v v low high q here) refl
+          ∙ sym (eqb-true (markAt m v) 1 q)
       go false q true q′ =
           let d : Headed t m v = headed s m good v low high (inRun-continues m v q′) in
           let top : d .head ≤ nodeCount t = omega (arith, d .high) in
           let other : d .head ≡ v → ⊥ = λ e. true≢false (sym (d .mark) ∙ ap (hasMark m begins) e ∙ q) in
-          markOfRuns-other t (runsOf t m) v (d .head) (runWith-goes s m good (d .head) v (d .low) top (d .mark) (d .goes)) other
+          markOfRuns-other t (runsOf t m) v (d .head)
+          (runWith-goes s m good (d .head) v (d .low) top (d .mark) (d .goes)) other
           ∙ sym (eqb-true (markAt m v) 2 q′)
       go false q false q′ =
           markOfRuns-none t (runsOf t m) v (runWith-out s m good v (neither-inRun m v q q′))

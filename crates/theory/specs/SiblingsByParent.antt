@@ -1,6 +1,6 @@
--- Siblings of a table of sound form: a later node with the same parent comes after it in the chain (sibling-after). So the next sibling
--- of a node is the next node with its parent (next-by-parent), and its first child is the node after it where that has it for its parent
--- (first-by-parent). Assumes nothing.
+-- Siblings of a table of sound form: a later node with the same parent comes after it in the chain (sibling-after). So
+-- the next sibling of a node is the next node with its parent (next-by-parent), and its first child is the node after
+-- it where that has it for its parent (first-by-parent). Assumes nothing.
 use Prim.Native.Nat.{ℕ, suc, _+_, _≤_, _<_}
 use native.Mathlib.Omega.{arith}
 use mathlib.Core.Bool.{Bool, true, false, _&&_}
@@ -13,7 +13,8 @@ use Rattle.model.specs.Basics.{pick, atPlace, firstTo}
 use Rattle.model.specs.Table.{nodeCount, firstAt, nextAt}
 use Rattle.model.specs.Plan.{prevAt, parentAt}
 use Rattle.theory.specs.Bools.{bool-cases, and-true, and-false-left, and-false-right, both-true}
-use Rattle.theory.specs.Ranges.{order-cases, zero-cases, by-earlier, pick-true, pick-false, atPlace-at, atPlace-nowhere, firstTo-none}
+use Rattle.theory.specs.Ranges.{order-cases, zero-cases, by-earlier, pick-true, pick-false, atPlace-at}
+use Rattle.theory.specs.Ranges.{atPlace-nowhere, firstTo-none}
 use Rattle.theory.specs.Ranges.{firstTo-first}
 use Rattle.theory.specs.TableFacts.{SoundFacts}
 use Rattle.theory.specs.SiblingChains.{After, reach-first, reach-prev-one, reach-trans, reach-le}
@@ -55,7 +56,8 @@ module _ {t : List ℕ} (s : SoundFacts t) where
 
       by : (v < w) ⊎ ((v ≡ w) ⊎ (w < v)) → After t v u
       by (inl h) =
-          reach-trans (earlier w before v low h (omega (arith, before)) (same ∙ p)) (reach-prev-one t u (omega arith) one tt)
+          reach-trans (earlier w before v low h (omega (arith, before)) (same ∙ p))
+          (reach-prev-one t u (omega arith) one tt)
       by (inr (inl e)) = rw e (reach-prev-one t u (omega arith) one tt)
       by (inr (inr h)) =
           let r = follows w v one (omega arith) h (earlier v less w one h (omega arith) (sym p ∙ sym same)) in

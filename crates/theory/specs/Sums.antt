@@ -1,5 +1,5 @@
--- Laws of sums of 1 to n beyond those of Ranges: a sum with one term, one term of a sum, a bound of all terms, the terms of a choice.
--- Assumes nothing.
+-- Laws of sums of 1 to n beyond those of Ranges: a sum with one term, one term of a sum, a bound of all terms, the
+-- terms of a choice. Assumes nothing.
 use Prim.Native.Nat.{ℕ, zero, suc, _+_, _*_, _≤_}
 use native.Mathlib.Omega.{arith}
 use mathlib.Core.Bool.{Bool, true, false}
@@ -33,7 +33,8 @@ sumTo-only (suc n) q x low high = go (upto-suc n q high) (sumTo-only n q x low)
     step : sumTo (suc n) (λ p. pick (eqb q p) x 0) ≡ sumTo n (λ p. pick (eqb q p) x 0) + pick (eqb q (suc n)) x 0
     step = sumTo-suc n (λ p. pick (eqb q p) x 0)
 
-    go : (q ≤ n) ⊎ (q ≡ suc n) → (q ≤ n → sumTo n (λ p. pick (eqb q p) x 0) ≡ x) → sumTo (suc n) (λ p. pick (eqb q p) x 0) ≡ x
+    go : (q ≤ n) ⊎ (q ≡ suc n) → (q ≤ n → sumTo n (λ p. pick (eqb q p) x 0) ≡ x)
+        → sumTo (suc n) (λ p. pick (eqb q p) x 0) ≡ x
     go (inl h) ih = omega (arith, step, ih h, pick-false (eqb q (suc n)) x 0 (ne-eqb q (suc n) (λ e. omega arith)))
     go (inr e) ih =
         omega (

@@ -1,7 +1,8 @@
--- The table of a limit and a tree by shape. Of a tree with one root, within the bounds of a table, it is accepted and has that tree.
--- Defines linkTo, records, encoded, Fits, Encodable. Proves encoded-limit, encoded-accepted; and tree-fits: the nodes of an accepted
--- tree are within those bounds. They stand ready for request Nine (the table of a tree with a new leaf) and request Fourteen (the
--- table of a load). Assumes nothing.
+-- The table of a limit and a tree by shape. Of a tree with one root, within the bounds of a table, it is accepted and
+-- has that tree.
+-- Defines linkTo, records, encoded, Fits, Encodable. Proves encoded-limit, encoded-accepted; and tree-fits: the nodes
+-- of an accepted tree are within those bounds. They stand ready for request Nine (the table of a tree with a new leaf)
+-- and request Fourteen (the table of a load). Assumes nothing.
 use Prim.Native.Nat.{ℕ, suc, _+_, _-_, _*_, _≤_, _<_}
 use native.Mathlib.Omega.{arith}
 use native.Mathlib.Nat.{add-zero, zero-add}
@@ -28,7 +29,8 @@ linkTo m (node w l kids next) = suc m
 unfoldable pub records : ℕ → Chain → List ℕ
 records m end = []
 records m (node w l kids next) =
-    w ∷ l ∷ linkTo (suc m) kids ∷ linkTo (suc m + size kids) next ∷ (records (suc m) kids ++ records (suc m + size kids) next)
+    w ∷ l ∷ linkTo (suc m) kids ∷ linkTo (suc m + size kids) next ∷
+    (records (suc m) kids ++ records (suc m + size kids) next)
 
 unfoldable pub encoded : ℕ → Chain → List ℕ
 encoded K c = bytesOf (size c ∷ K ∷ records 0 c)
@@ -175,7 +177,8 @@ module _ (K w l : ℕ) (kids : Chain) where
         light = λ v low high. rw (encoded-limit K tree) (fits v low high .1);
       }
     where
-      fits : (v : ℕ) → 1 ≤ v → v ≤ nodeCount (encoded K tree) → Fits K (weightAt (encoded K tree) v) (labelAt (encoded K tree) v)
+      fits : (v : ℕ) → 1 ≤ v → v ≤ nodeCount (encoded K tree)
+          → Fits K (weightAt (encoded K tree) v) (labelAt (encoded K tree) v)
       fits = each-numbered (Fits K) encoded-root (h .nodes)
 
   pub encoded-accepted : Encodable K tree

@@ -1,5 +1,6 @@
--- The links of a table of sound form: a first child is the next node, a sibling comes later, each node but the root is linked to by
--- one earlier node and in one way. The sibling just before a node, and its parent, are what the links say. Assumes nothing.
+-- The links of a table of sound form: a first child is the next node, a sibling comes later, each node but the root is
+-- linked to by one earlier node and in one way. The sibling just before a node, and its parent, are what the links say.
+-- Assumes nothing.
 use Prim.Native.Nat.{ℕ, zero, suc, _-_, _≤_, _<_}
 use native.Mathlib.Omega.{arith}
 use mathlib.Core.Bool.{Bool, true, false}
@@ -11,7 +12,8 @@ use borrow.Author.Tests.{eqb-true, eqb-false, eq-eqb, ne-eqb}
 use Rattle.model.specs.Basics.{pick}
 use Rattle.model.specs.Table.{nodeCount, firstAt, nextAt, Chain}
 use Rattle.model.specs.Plan.{prevAt, ownerAt, parentFrom, parentAt}
-use Rattle.theory.specs.Ranges.{Upto, zero-cases, by-earlier, steps-enough, pick-true, pick-false, lastTo-zero, lastTo-le, lastTo-none, lastTo-only}
+use Rattle.theory.specs.Ranges.{Upto, zero-cases, by-earlier, steps-enough, pick-true, pick-false, lastTo-zero}
+use Rattle.theory.specs.Ranges.{lastTo-le, lastTo-none, lastTo-only}
 use Rattle.theory.specs.Ranges.{lastTo-at}
 use Rattle.theory.specs.TableFacts.{SoundFacts}
 use Rattle.theory.specs.TableNumbered.{Numbered, none, some, numbered-le, Between, between-join, sound-tree}
@@ -62,7 +64,8 @@ numbered-links {t} (some {m = m} {e₁ = e₁} {e₂ = e₂} k s) =
 abbrev OneBefore : List ℕ → ℕ → ℕ → Type 0
 OneBefore t u u′ = 1 ≤ nextAt t u → nextAt t u ≡ nextAt t u′ → u ≡ u′
 
-numbered-one-before : {t : List ℕ} {m v e : ℕ} {c : Chain} → Numbered t m v c e → Between m e (λ u. Between m e (OneBefore t u))
+numbered-one-before : {t : List ℕ} {m v e : ℕ} {c : Chain} → Numbered t m v c e
+    → Between m e (λ u. Between m e (OneBefore t u))
 numbered-one-before none = λ u low high. absurd (omega arith)
 numbered-one-before {t} (some {m = m} {e₁ = e₁} {e₂ = e₂} k s) =
     let kids = numbered-links k in
@@ -78,7 +81,8 @@ numbered-one-before {t} (some {m = m} {e₁ = e₁} {e₂ = e₂} k s) =
     between-join (OneBefore t u) m e₁ e₂
     (λ a q. absurd (omega (arith, kids u low high .next-high, entry-step s (omega arith))))
     (in-kids u low high)
-    (λ u′ low′ high′ a q. absurd (omega (arith, kids u low high .next-high, rest u′ low′ high′ .next-later (omega arith)))))
+    (λ u′ low′ high′ a q. absurd
+    (omega (arith, kids u low high .next-high, rest u′ low′ high′ .next-later (omega arith)))))
     (λ u low high.
     between-join (OneBefore t u) m e₁ e₂
     (λ a q. absurd (omega (arith, rest u low high .next-later a, entry-step s (omega arith))))
@@ -122,7 +126,8 @@ pub record Source (t : List ℕ) (m v : ℕ) : Type 0 where
 source-less : {t : List ℕ} {m m′ v : ℕ} → m ≤ m′ → Source t m′ v → Source t m v
 source-less h f = record { from = f .from; low = omega (arith, f .low); earlier = f .earlier; link = f .link }
 
-numbered-source : {t : List ℕ} {m v e : ℕ} {c : Chain} → Numbered t m v c e → Between m e (λ u. (u ≡ v → ⊥) → Source t m u)
+numbered-source : {t : List ℕ} {m v e : ℕ} {c : Chain} → Numbered t m v c e
+    → Between m e (λ u. (u ≡ v → ⊥) → Source t m u)
 numbered-source none = λ u low high. absurd (omega arith)
 numbered-source {t} (some {m = m} {e₁ = e₁} {e₂ = e₂} k s) =
     let kids = numbered-source k in
@@ -162,7 +167,8 @@ module _ {t : List ℕ} (s : SoundFacts t) where
   pub first-le : (v : ℕ) → 1 ≤ v → v ≤ nodeCount t → firstAt t v ≤ nodeCount t
   first-le v low high = node-links v low high .first-high
 
-  pub first-cases : (v : ℕ) → 1 ≤ v → v ≤ nodeCount t → (firstAt t v ≡ 0) ⊎ ((firstAt t v ≡ suc v) × (suc v ≤ nodeCount t))
+  pub first-cases : (v : ℕ) → 1 ≤ v → v ≤ nodeCount t
+      → (firstAt t v ≡ 0) ⊎ ((firstAt t v ≡ suc v) × (suc v ≤ nodeCount t))
   first-cases v low high =
       ⊎-elim inl
       (λ one. inr (first-step v low high one, omega (arith, first-step v low high one, first-le v low high)))
@@ -175,8 +181,10 @@ module _ {t : List ℕ} (s : SoundFacts t) where
   pub next-le : (v : ℕ) → 1 ≤ v → v ≤ nodeCount t → nextAt t v ≤ nodeCount t
   next-le v low high = node-links v low high .next-high
 
-  pub next-cases : (v : ℕ) → 1 ≤ v → v ≤ nodeCount t → (nextAt t v ≡ 0) ⊎ ((v < nextAt t v) × (nextAt t v ≤ nodeCount t))
-  next-cases v low high = ⊎-elim inl (λ one. inr (next-later v low high one, next-le v low high)) (zero-cases (nextAt t v))
+  pub next-cases : (v : ℕ) → 1 ≤ v → v ≤ nodeCount t
+      → (nextAt t v ≡ 0) ⊎ ((v < nextAt t v) × (nextAt t v ≤ nodeCount t))
+  next-cases v low high =
+      ⊎-elim inl (λ one. inr (next-later v low high one, next-le v low high)) (zero-cases (nextAt t v))
 
   -- one node has v as its first child, one as the sibling after it, and not both
   pub first-one : (u u′ : ℕ) → 1 ≤ u → u ≤ nodeCount t → 1 ≤ u′ → u′ ≤ nodeCount t → 1 ≤ firstAt t u
@@ -240,12 +248,14 @@ ownerAt-first t v low =
 
 parentFrom-first : (f : ℕ) (t : List ℕ) (v : ℕ) → prevAt t v ≡ 0 → parentFrom (suc f) t v ≡ ownerAt t v
 unfolding parentFrom
-parentFrom-first f t v z = pick-true (eqb (prevAt t v) 0) (ownerAt t v) (parentFrom f t (prevAt t v)) (eq-eqb (prevAt t v) 0 z)
+parentFrom-first f t v z =
+    pick-true (eqb (prevAt t v) 0) (ownerAt t v) (parentFrom f t (prevAt t v)) (eq-eqb (prevAt t v) 0 z)
 
 parentFrom-later : (f : ℕ) (t : List ℕ) (v : ℕ) → 1 ≤ prevAt t v → parentFrom (suc f) t v ≡ parentFrom f t (prevAt t v)
 unfolding parentFrom
 parentFrom-later f t v low =
-    pick-false (eqb (prevAt t v) 0) (ownerAt t v) (parentFrom f t (prevAt t v)) (ne-eqb (prevAt t v) 0 (λ z. omega arith))
+    pick-false (eqb (prevAt t v) 0) (ownerAt t v) (parentFrom f t (prevAt t v))
+    (ne-eqb (prevAt t v) 0 (λ z. omega arith))
 
 parentFrom-none : (f : ℕ) (t : List ℕ) → parentFrom f t 0 ≡ 0
 unfolding parentFrom
@@ -256,7 +266,8 @@ parentFrom-none (suc f) t = parentFrom-first f t 0 (prevAt-none t) ∙ ownerAt-n
 parentFrom-enough : (t : List ℕ) (f g v : ℕ) → v ≤ f → v ≤ g → parentFrom f t v ≡ parentFrom g t v
 unfolding parentFrom
 parentFrom-enough t =
-    steps-enough (λ f v. parentFrom f t v) (prevAt t) (prevAt-less t) (λ f g. parentFrom-none f t ∙ sym (parentFrom-none g t))
+    steps-enough (λ f v. parentFrom f t v) (prevAt t) (prevAt-less t)
+    (λ f g. parentFrom-none f t ∙ sym (parentFrom-none g t))
     (λ f g v e. ap (pick (eqb (prevAt t v) 0) (ownerAt t v)) e)
 
 -- the parent of a node with no sibling before it, and of one with some
@@ -270,15 +281,18 @@ unfolding parentAt
 parentAt-later t zero low one = absurd (omega arith)
 parentAt-later t (suc v) low one =
     let less : prevAt t (suc v) < suc v = prevAt-less t (suc v) low in
-    parentFrom-later v t (suc v) one ∙ parentFrom-enough t v (prevAt t (suc v)) (prevAt t (suc v)) (omega arith) (omega arith)
+    parentFrom-later v t (suc v) one
+    ∙ parentFrom-enough t v (prevAt t (suc v)) (prevAt t (suc v)) (omega arith) (omega arith)
 
 pub parentAt-one : (t : List ℕ) → parentAt t 1 ≡ 0
 parentAt-one t = parentAt-first t 1 (omega arith) (prevAt-one t) ∙ ownerAt-one t
 
 pub parentAt-less : (t : List ℕ) (v : ℕ) → 1 ≤ v → parentAt t v < v
-parentAt-less t = by-earlier (λ v. 1 ≤ v → parentAt t v < v) (λ v earlier low. go v earlier low (zero-cases (prevAt t v)))
+parentAt-less t =
+    by-earlier (λ v. 1 ≤ v → parentAt t v < v) (λ v earlier low. go v earlier low (zero-cases (prevAt t v)))
   where
-    go : (v : ℕ) → ((u : ℕ) → u < v → 1 ≤ u → parentAt t u < u) → 1 ≤ v → (prevAt t v ≡ 0) ⊎ (1 ≤ prevAt t v) → parentAt t v < v
+    go : (v : ℕ) → ((u : ℕ) → u < v → 1 ≤ u → parentAt t u < u) → 1 ≤ v → (prevAt t v ≡ 0) ⊎ (1 ≤ prevAt t v)
+        → parentAt t v < v
     go v earlier low (inl z) = omega (arith, parentAt-first t v low z, ownerAt-less t v low)
     go v earlier low (inr one) =
         let less : prevAt t v < v = prevAt-less t v low in

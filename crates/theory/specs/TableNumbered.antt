@@ -1,6 +1,7 @@
--- The nodes of a table, numbered in the order of the walk. `Numbered t m v c e` says: the link v of the table t starts the chain c,
--- whose nodes and all below them are numbered m + 1 to e. A walk that does not fail and such a numbering of all nodes are the
--- same, the chain is the tree of the table, and what holds of the numbers holds of the chain's nodes. Assumes nothing.
+-- The nodes of a table, numbered in the order of the walk. `Numbered t m v c e` says: the link v of the table t starts
+-- the chain c, whose nodes and all below them are numbered m + 1 to e. A walk that does not fail and such a numbering
+-- of all nodes are the same, the chain is the tree of the table, and what holds of the numbers holds of the chain's
+-- nodes. Assumes nothing.
 use Prim.Native.Nat.{ℕ, zero, suc, _+_, _*_, _≤_, _<_}
 use native.Mathlib.Omega.{arith}
 use mathlib.Core.Bool.{Bool, true, false, not, _&&_}
@@ -115,7 +116,8 @@ walk-pending (suc f) t n met (suc v ∷ vs) e =
         → Pending t met (suc v ∷ vs) n
     go true q ih =
         let same : v ≡ met = eqb-true v met (both-true (eqb v met) (ltb met n) q .0) in
-        let rest = ih (sym (pick-true (eqb v met && ltb met n) further (At met) q) ∙ sym (walkFrom-node f t n met v vs) ∙ e) in
+        let rest =
+        ih (sym (pick-true (eqb v met && ltb met n) further (At met) q) ∙ sym (walkFrom-node f t n met v vs) ∙ e) in
         rw same (pending-node (ap (λ u. firstAt t (suc u)) same) (ap (λ u. nextAt t (suc u)) same) rest)
     go false q ih =
         absurd
@@ -126,11 +128,13 @@ pending-one : {t : List ℕ} {m v e : ℕ} → Pending t m (v ∷ []) e → (c :
 pending-one (more {c = c} r done) = (c, r)
 
 -- a walk that does not fail numbers the nodes
-walk-numbered : (f : ℕ) (t : List ℕ) (n met v : ℕ) → walkFrom f t n met (v ∷ []) ≡ Nowhere → (c : Chain) × Numbered t met v c n
+walk-numbered : (f : ℕ) (t : List ℕ) (n met v : ℕ) → walkFrom f t n met (v ∷ []) ≡ Nowhere
+    → (c : Chain) × Numbered t met v c n
 walk-numbered f t n met v e = pending-one (walk-pending f t n met (v ∷ []) e)
 
 -- the walk passes over what is numbered
-walk-over : {t : List ℕ} {m v e : ℕ} {c : Chain} → Numbered t m v c e → (n f g : ℕ) (vs : List ℕ) → e ≤ n → g ≡ 2 * size c + suc f
+walk-over : {t : List ℕ} {m v e : ℕ} {c : Chain} → Numbered t m v c e → (n f g : ℕ) (vs : List ℕ) → e ≤ n
+    → g ≡ 2 * size c + suc f
     → walkFrom g t n m (v ∷ vs) ≡ walkFrom f t n e vs
 walk-over {t} {m} none n f g vs high q =
     let same : g ≡ suc f = omega (arith, size-end) in rw same (walkFrom-end f t n m vs)
@@ -146,7 +150,8 @@ walk-over {t} (some {m = m} {e₁ = e₁} {e₂ = e₂} {kids = kids} {next = ne
     ∙ walk-over k n h h′ (nextAt t (suc m) ∷ vs) (omega (arith, numbered-le s)) refl
     ∙ walk-over s n f h vs high refl)
 
-pub numbered-walk : {t : List ℕ} {v n : ℕ} {c : Chain} → Numbered t 0 v c n → walkFrom (2 * n + 2) t n 0 (v ∷ []) ≡ Nowhere
+pub numbered-walk : {t : List ℕ} {v n : ℕ} {c : Chain} → Numbered t 0 v c n
+    → walkFrom (2 * n + 2) t n 0 (v ∷ []) ≡ Nowhere
 numbered-walk {t} {v} {n} {c} r =
     walk-over r n 1 (2 * n + 2) [] (omega arith) (omega (arith, numbered-size r))
     ∙ walkFrom-nil 0 t n n
@@ -161,11 +166,13 @@ chainFrom-none (suc f) t = refl
 
 chainFrom-some : (f : ℕ) (t : List ℕ) (v : ℕ)
     → chainFrom (suc f) t (suc v)
-    ≡ node (weightAt t (suc v)) (labelAt t (suc v)) (chainFrom f t (firstAt t (suc v))) (chainFrom f t (nextAt t (suc v)))
+    ≡ node (weightAt t (suc v)) (labelAt t (suc v))
+    (chainFrom f t (firstAt t (suc v))) (chainFrom f t (nextAt t (suc v)))
 unfolding chainFrom
 chainFrom-some f t v = refl
 
-pub numbered-chain : {t : List ℕ} {m v e : ℕ} {c : Chain} → Numbered t m v c e → (f : ℕ) → size c ≤ f → chainFrom f t v ≡ c
+pub numbered-chain : {t : List ℕ} {m v e : ℕ} {c : Chain} → Numbered t m v c e → (f : ℕ) → size c ≤ f
+    → chainFrom f t v ≡ c
 numbered-chain {t} none f fits = chainFrom-none f t
 numbered-chain {t} (some {m = m} {kids = kids} {next = next} k s) zero fits =
     absurd (omega (arith, size-node (weightAt t (suc m)) (labelAt t (suc m)) kids next))
@@ -224,7 +231,8 @@ between-join P m e₁ e₂ here below after u low high = go (leb u (suc m)) refl
     go false p false q = after u (leb-false u e₁ q) high
 
 module _ (P : ℕ → ℕ → Type 0) where
-  pub numbered-each : {t : List ℕ} {m v e : ℕ} {c : Chain} → Numbered t m v c e → Between m e (λ u. P (weightAt t u) (labelAt t u))
+  pub numbered-each : {t : List ℕ} {m v e : ℕ} {c : Chain} → Numbered t m v c e
+      → Between m e (λ u. P (weightAt t u) (labelAt t u))
       → EachNode P c
   unfolding EachNode
   numbered-each none h = tt
@@ -239,7 +247,8 @@ module _ (P : ℕ → ℕ → Type 0) where
   unfolding EachNode
   each-numbered none h = λ u low high. absurd (omega arith)
   each-numbered {t} (some {m = m} {e₁ = e₁} {e₂ = e₂} k s) h =
-      between-join (λ u. P (weightAt t u) (labelAt t u)) m e₁ e₂ (h .0) (each-numbered k (h .1)) (each-numbered s (h .2))
+      between-join (λ u. P (weightAt t u) (labelAt t u)) m e₁ e₂ (h .0) (each-numbered k (h .1))
+      (each-numbered s (h .2))
 
 each-within : (K : ℕ) (c : Chain) → EachNode (λ w l. w ≤ K) c → EachWithin K c
 unfolding EachNode EachWithin
@@ -251,13 +260,16 @@ unfolding EachNode Positive
 each-positive end h = tt
 each-positive (node w l kids next) h = (h .0, each-positive kids (h .1), each-positive next (h .2))
 
-pub numbered-within : {t : List ℕ} {m v e : ℕ} {c : Chain} (K : ℕ) → Numbered t m v c e → Between m e (λ u. weightAt t u ≤ K)
+pub numbered-within : {t : List ℕ} {m v e : ℕ} {c : Chain} (K : ℕ) → Numbered t m v c e
+    → Between m e (λ u. weightAt t u ≤ K)
     → EachWithin K c
 numbered-within {c} K r h = each-within K c (numbered-each (λ w l. w ≤ K) r h)
 
--- the tree of a table of sound form: every node weighs something, and none outweighs the limit where the tree is accepted
+-- the tree of a table of sound form: every node weighs something, and none outweighs the limit where the tree is
+-- accepted
 pub tree-positive : {t : List ℕ} → SoundFacts t → Positive (treeOf t)
-tree-positive {t} s = each-positive (treeOf t) (numbered-each (λ w l. 1 ≤ w) (sound-tree s) (λ u low high. s .weighs u low high))
+tree-positive {t} s =
+    each-positive (treeOf t) (numbered-each (λ w l. 1 ≤ w) (sound-tree s) (λ u low high. s .weighs u low high))
 
 pub tree-within : {t : List ℕ} → AcceptedFacts t → EachWithin (limitOf t) (treeOf t)
 tree-within {t} a = numbered-within (limitOf t) (sound-tree (a .sound)) (λ u low high. a .light u low high)

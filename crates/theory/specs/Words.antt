@@ -1,5 +1,5 @@
--- Strings of bytes and their words of two bytes each: the words that are written are read, words below 65,536 make bytes, and a
--- string of bytes is that of its words.
+-- Strings of bytes and their words of two bytes each: the words that are written are read, words below 65,536 make
+-- bytes, and a string of bytes is that of its words.
 -- Defines Words, Holds. Proves length-bytesOf, wordAt-bytesOf, words-bytes, bytesOf-words. Assumes nothing.
 use Prim.Native.Nat.{ℕ, zero, suc, _+_, _*_, _/_, _%_, _≤_, _<_}
 use native.Mathlib.Omega.{arith}
@@ -45,7 +45,11 @@ pub words-bytes : (ws : List ℕ) → Words ws → Bytes (bytesOf ws)
 unfolding bytesOf
 words-bytes [] h = λ i. omega arith
 words-bytes (w ∷ ws) h =
-    λ i. elim i [ zero ↦ omega (arith, h 0) | suc j ↦ elim j [ zero ↦ omega arith | suc k ↦ words-bytes ws (λ n. h (suc n)) k ] ]
+    λ i. elim i [
+      | zero ↦ omega
+          (arith, h 0)
+      | suc j ↦ elim j [ zero ↦ omega arith | suc k ↦ words-bytes ws (λ n. h (suc n)) k ]
+    ]
 
 pub words-nil : Words []
 words-nil i = omega arith
@@ -70,7 +74,8 @@ unfoldable pub Holds : List ℕ → ℕ → List ℕ → Type 0
 Holds t i [] = Unit {0}
 Holds t i (w ∷ ws) = (wordAt t i ≡ w) × Holds t (suc i) ws
 
-holds-words : (t : List ℕ) (i : ℕ) (ws : List ℕ) → ((j : ℕ) → j < length ws → wordAt t (i + j) ≡ getD ws j 0) → Holds t i ws
+holds-words : (t : List ℕ) (i : ℕ) (ws : List ℕ) → ((j : ℕ) → j < length ws → wordAt t (i + j) ≡ getD ws j 0)
+    → Holds t i ws
 unfolding Holds
 holds-words t i [] h = tt
 holds-words t i (w ∷ ws) h = (
@@ -79,12 +84,14 @@ holds-words t i (w ∷ ws) h = (
 )
 
 pub holds-bytesOf : (ws : List ℕ) → Holds (bytesOf ws) 0 ws
-holds-bytesOf ws = holds-words (bytesOf ws) 0 ws (λ j less. ap (wordAt (bytesOf ws)) (omega arith) ∙ wordAt-bytesOf ws j)
+holds-bytesOf ws =
+    holds-words (bytesOf ws) 0 ws (λ j less. ap (wordAt (bytesOf ws)) (omega arith) ∙ wordAt-bytesOf ws j)
 
 holds-at : (t : List ℕ) {i j : ℕ} (ws : List ℕ) → i ≡ j → Holds t i ws → Holds t j ws
 holds-at t ws q h = rw q at h
 
-pub holds-append : (t : List ℕ) (i : ℕ) (xs ys : List ℕ) → Holds t i (xs ++ ys) → Holds t i xs × Holds t (i + length xs) ys
+pub holds-append : (t : List ℕ) (i : ℕ) (xs ys : List ℕ) → Holds t i (xs ++ ys)
+    → Holds t i xs × Holds t (i + length xs) ys
 unfolding Holds
 holds-append t i [] ys h = (tt, holds-at t ys (omega arith) h)
 holds-append t i (x ∷ xs) ys h =
@@ -105,7 +112,8 @@ holds-drop t i [] h k long = drop-of-length-le t {i = 2 * i} (omega arith)
 holds-drop t i (w ∷ ws) h k long =
     let two = word-bytes t i h in
     let high : w / 256 ≡ getD t (2 * i) 0 = ap (λ x. x / 256) (sym (k .0)) ∙ two .0 in
-    let low : w % 256 ≡ getD t (suc (2 * i)) 0 = ap (λ x. x % 256) (sym (k .0)) ∙ two .1 ∙ ap (λ j. getD t j 0) (omega arith) in
+    let low : w % 256 ≡ getD t (suc (2 * i)) 0 =
+    ap (λ x. x % 256) (sym (k .0)) ∙ two .1 ∙ ap (λ j. getD t j 0) (omega arith) in
     let rest : drop (2 * suc i) t ≡ bytesOf ws = holds-drop t (suc i) ws h (k .1) (omega arith) in
     let same : 2 * suc i ≡ suc (suc (2 * i)) = omega arith in
     drop-cons t (2 * i) 0 (omega arith)
@@ -115,6 +123,8 @@ holds-drop t i (w ∷ ws) h k long =
 holds-all : (t ws : List ℕ) → Bytes t → Holds t 0 ws → length t ≡ 2 * length ws → t ≡ bytesOf ws
 holds-all t ws h k long = holds-drop t 0 ws h k (omega arith)
 
-pub bytesOf-words : (t ws : List ℕ) → Bytes t → length t ≡ 2 * length ws → ((j : ℕ) → j < length ws → wordAt t j ≡ getD ws j 0)
+pub bytesOf-words : (t ws : List ℕ) → Bytes t → length t ≡ 2 * length ws
+    → ((j : ℕ) → j < length ws → wordAt t j ≡ getD ws j 0)
     → t ≡ bytesOf ws
-bytesOf-words t ws b long h = holds-all t ws b (holds-words t 0 ws (λ j less. ap (wordAt t) (omega arith) ∙ h j less)) long
+bytesOf-words t ws b long h =
+    holds-all t ws b (holds-words t 0 ws (λ j less. ap (wordAt t) (omega arith) ∙ h j less)) long
