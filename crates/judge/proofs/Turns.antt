@@ -9,15 +9,16 @@ use native.Mathlib.Numerals.{add-one}
 use lib.ListN.{length, getD, set, replicate, getD-replicate}
 use lib.Seq.{getD-set-same, getD-set-other}
 use borrow.Author.Tests.{eqb-true, eqb-false, eq-eqb, ne-eqb}
-use Rattle.model.specs.Basics.{pick, when, atPlace, sumTo, countTo, firstTo, lastTo}
+use Rattle.model.specs.Basics.{pick, when, atPlace, countTo, firstTo, lastTo}
 use Rattle.model.specs.Table.{maxNodes, maxLimit, slots, nodeCount, limitOf, weightAt, nextAt}
 use Rattle.model.specs.Plan.{prevAt, parentAt, markAt, hasMark, begins, inRun, goodMark, pageOf, pageCount, pageWeight, badMark, heavyPage}
 use Rattle.model.specs.declared.Place.{Place}
 use Rattle.model.specs.declared.Place.the-variants.{At, Nowhere}
-use Rattle.theory.specs.Ranges.{pick-true, pick-false, sumTo-zero, sumTo-suc, countTo-zero, countTo-suc, countTo-le, firstTo-zero, firstTo-suc, firstTo-cong, lastTo-zero, lastTo-yes, lastTo-no}
+use Rattle.theory.specs.Ranges.{pick-true, pick-false, countTo-zero, countTo-suc, countTo-le, firstTo-zero, firstTo-suc, firstTo-cong, lastTo-zero, lastTo-yes, lastTo-no}
+use Rattle.theory.specs.Sums.{sumTo-most}
 use Rattle.theory.specs.TableFacts.{AcceptedFacts}
 use Rattle.theory.specs.TableLinks.{next-le, prevAt-less}
-use Rattle.theory.specs.PlanPass.{stepBack, back-less, pageOf-none, pageOf-le, pageOf-step, parentAt-step, sumTo-most}
+use Rattle.theory.specs.PlanPass.{stepBack, back-less, pageOf-none, pageOf-le, pageOf-step, weightTo, weightTo-zero, weightTo-suc, parentAt-step}
 use Rattle.theory.specs.JudgeAnswers.{pageCount-le}
 use Rattle.judge.specs.declared.pages.Layout.{Layout}
 use Rattle.judge.specs.Rows.{Row, goodCase, Laid}
@@ -121,21 +122,11 @@ module _ (t m : List ℕ) where
 
 -- ---- Weights
 
--- the weight of those of the nodes 1 to v that the plan has on page p
-unfoldable pub weightTo : ℕ → List ℕ → List ℕ → ℕ → ℕ
-weightTo v t m p = sumTo v (λ u. pick (eqb (pageOf t m u) p) (weightAt t u) 0)
-
 abbrev Weighed : List ℕ → List ℕ → ℕ → List ℕ → Type 0
 Weighed t m v l = (p : ℕ) → p < slots → getD l p 0 ≡ weightTo v t m p
 
 weights-start : (t m l : List ℕ) → ((w : ℕ) → w < slots → getD l w 0 ≡ 0) → Weighed t m 0 l
-unfolding weightTo
-weights-start t m l h p fits = h p fits ∙ sym (sumTo-zero (λ v. pick (eqb (pageOf t m v) p) (weightAt t v) 0))
-
-weightTo-suc : (v : ℕ) (t m : List ℕ) (p : ℕ)
-    → weightTo (suc v) t m p ≡ weightTo v t m p + pick (eqb (pageOf t m (suc v)) p) (weightAt t (suc v)) 0
-unfolding weightTo
-weightTo-suc v t m p = sumTo-suc v (λ u. pick (eqb (pageOf t m u) p) (weightAt t u) 0)
+weights-start t m l h p fits = h p fits ∙ sym (weightTo-zero t m p)
 
 weights-turn : (t m l : List ℕ) (v q w : ℕ) → Weighed t m v l → length l ≡ slots → q ≡ pageOf t m (v + 1) → q < slots
     → w ≡ weightAt t (v + 1) → Weighed t m (v + 1) (set l q (getD l q 0 + w))

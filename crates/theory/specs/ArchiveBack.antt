@@ -20,12 +20,12 @@ use Rattle.model.specs.declared.Place.{Place}
 use Rattle.model.specs.declared.Place.the-variants.{At, Nowhere}
 use Rattle.theory.specs.Bools.{both-true, and-true, and-false-left}
 use Rattle.theory.specs.Ranges.{Upto, pick-true, pick-false, atPlace-at, atPlace-nowhere, place-cases, countTo-none, firstTo-cong, firstTo-at, firstTo-nowhere, listTo-cong, length-listTo, getD-listTo}
+use Rattle.theory.specs.Words.{word-small, Words, words-bytes, words-cons, words-nil, words-listTo, bytesOf-words}
 use Rattle.theory.specs.TableFacts.{SoundFacts}
 use Rattle.theory.specs.Chosen.{countTo-mono, countTo-pass, countTo-some}
 use Rattle.theory.specs.SiblingsByParent.{first-by-parent, next-by-parent}
 use Rattle.theory.specs.RunsByMarks.{GoodMarks, good-marks, InRunOf, in-run-of, runLast-marks}
-use Rattle.theory.specs.TableEncoded.{word-small}
-use Rattle.theory.specs.ArchiveWords.{getD-fours, length-fours, words-tell, Words, words-bytes, words-cons, words-nil, words-listTo, Page, page-first, archive-nodes, archive-limit, archive-pages, archive-page, archive-node, archive-parent}
+use Rattle.theory.specs.ArchiveWords.{getD-fours, length-fours, Page, page-first, archive-nodes, archive-limit, archive-pages, archive-page, archive-node, archive-parent}
 -- an accepted tree and a feasible plan, in bytes
 pub use Rattle.theory.specs.PlanFeasible.{Judged as Planned, feasible-judged as feasible-planned, judged-feasible as planned-feasible}
 
@@ -58,7 +58,7 @@ pub table-words : (t : List ℕ) → Bytes t → length t ≡ tableBytes (nodeCo
 unfolding fieldAt
 table-words t b long =
     sym
-    (words-tell t (nodeCount t ∷ limitOf t ∷ listTo (nodeCount t) (tableRow t)) b
+    (bytesOf-words t (nodeCount t ∷ limitOf t ∷ listTo (nodeCount t) (tableRow t)) b
     (omega (arith, length-fours (tableRow t) (four-row t) (nodeCount t)))
     word)
   where
@@ -192,7 +192,7 @@ module _ {t m : List ℕ} (p : Planned t m) where
         (and-true _ _ (lt-ltb (pageFieldIn (archiveOf t m) q 0) v (omega (arith, i .less)))
         (le-leb v (pageFieldIn (archiveOf t m) q 1) (omega (arith, i .reached))))
         (eq-eqb _ _
-        (archive-parent t m v low high ∙ sym (i .brother)
+        (archive-parent t m v low high ∙ sym (i .sibling)
         ∙ sym (ap (parentIn (archiveOf t m)) first ∙ archive-parent t m b (x .low) (x .high))))
 
     continues-yes : markAt m v ≡ 2 → 1 ≤ countTo (pagesIn (archiveOf t m)) (continuesIn (archiveOf t m) v)

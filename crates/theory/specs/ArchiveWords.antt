@@ -1,6 +1,6 @@
 -- The words of an archive: its length, its head, and the fields of its page and node records, read back as they were written. They
 -- hold of any table and marks.
--- Defines Words, pageRow, Page, archiveWords. Assumes nothing.
+-- Defines pageRow, Page, archiveWords. Assumes nothing.
 use Prim.Native.Nat.{ℕ, zero, suc, _+_, _-_, _*_, _≤_, _<_}
 use native.Mathlib.Omega.{arith}
 use mathlib.Core.Path.{_≡_, refl, sym, _∙_, ap, ap₂}
@@ -9,14 +9,14 @@ use mathlib.Core.List.{List, [], _∷_, _++_}
 use lib.ListN.{length, getD, length-append, List·getD-append}
 use lib.Seq.{getD-append-add}
 use Rattle.model.specs.Basics.{listTo}
-use Rattle.model.specs.Table.{Bytes, wordAt, bytesOf, nodeCount, limitOf, weightAt, labelAt}
+use Rattle.model.specs.Table.{wordAt, nodeCount, limitOf, weightAt, labelAt}
 use Rattle.model.specs.Plan.{begins, hasMark, parentAt, pageCount, pageWeight, runLast}
 use Rattle.model.specs.Runs.{Run, rootRun, runsOf}
 use Rattle.model.specs.Archive.{nextPage, pageRecords, nextOnPage, nodeRecord, archiveOf, archiveBytes, pagesIn, pageFieldIn, nodeFieldIn, parentIn}
 use Rattle.theory.specs.Ranges.{upto-suc, listTo-zero, listTo-suc}
 use Rattle.theory.specs.Chosen.{Ranked, ranked, getD-chosen}
-use Rattle.theory.specs.RunsMarked.{runAt, length-runsOf}
-use Rattle.theory.specs.TableEncoded.{Holds, length-bytesOf, wordAt-bytesOf, holds-all}
+use Rattle.theory.specs.Words.{length-bytesOf, wordAt-bytesOf}
+use Rattle.theory.specs.RunsMarked.{planRun, length-runsOf}
 
 -- ---- Records of four words
 
@@ -43,46 +43,6 @@ module _ (rec : ℕ → List ℕ) (four : (v : ℕ) → length (rec v) ≡ 4) wh
           ∙ ap (λ i. getD (listTo n rec ++ rec (suc n)) i 0) place
           ∙ getD-append-add (listTo n rec) (rec (suc n)) f 0
           ∙ ap (λ u. getD (rec u) f 0) (sym e)
-
--- ---- A string of bytes is told by its words
-
-holds-from : (t : List ℕ) (i : ℕ) (ws : List ℕ) → ((j : ℕ) → j < length ws → wordAt t (i + j) ≡ getD ws j 0) → Holds t i ws
-unfolding Holds
-holds-from t i [] h = tt
-holds-from t i (w ∷ ws) h = (
-  ap (wordAt t) (omega arith) ∙ h 0 (omega arith),
-  holds-from t (suc i) ws (λ j less. ap (wordAt t) (omega arith) ∙ h (suc j) (omega arith)),
-)
-
-pub words-tell : (t ws : List ℕ) → Bytes t → length t ≡ 2 * length ws → ((j : ℕ) → j < length ws → wordAt t j ≡ getD ws j 0)
-    → t ≡ bytesOf ws
-words-tell t ws b long h = holds-all t ws b (holds-from t 0 ws (λ j less. ap (wordAt t) (omega arith) ∙ h j less)) long
-
--- words below 65,536 make bytes
-abbrev pub Words : List ℕ → Type 0
-Words ws = (i : ℕ) → getD ws i 0 < 65536
-
-pub words-bytes : (ws : List ℕ) → Words ws → Bytes (bytesOf ws)
-unfolding bytesOf
-words-bytes [] h = λ i. omega arith
-words-bytes (w ∷ ws) h =
-    λ i. elim i [ zero ↦ omega (arith, h 0) | suc j ↦ elim j [ zero ↦ omega arith | suc k ↦ words-bytes ws (λ n. h (suc n)) k ] ]
-
-pub words-cons : (w : ℕ) (ws : List ℕ) → w < 65536 → Words ws → Words (w ∷ ws)
-words-cons w ws h k = λ i. elim i [ zero ↦ h | suc j ↦ k j ]
-
-pub words-nil : Words []
-words-nil i = omega arith
-
-pub words-append : (xs ys : List ℕ) → Words xs → Words ys → Words (xs ++ ys)
-words-append [] ys h k = k
-words-append (x ∷ xs) ys h k = words-cons x (xs ++ ys) (h 0) (words-append xs ys (λ n. h (suc n)) k)
-
-pub words-listTo : (n : ℕ) (rec : ℕ → List ℕ) → ((v : ℕ) → 1 ≤ v → v ≤ n → Words (rec v)) → Words (listTo n rec)
-words-listTo zero rec h = rw (listTo-zero rec) words-nil
-words-listTo (suc n) rec h =
-    rw (listTo-suc n rec)
-    (words-append (listTo n rec) (rec (suc n)) (words-listTo n rec (λ v a b. h v a (omega arith))) (h (suc n) (omega arith) (omega arith)))
 
 -- ---- Page records
 
@@ -142,9 +102,9 @@ module _ (t m : List ℕ) where
   unfolding pageCount
   page-first q low high = ranked (hasMark m begins) (nodeCount t) q low high
 
-  pub getD-runsOf : (i b : ℕ) → Page (suc i) b → getD (runsOf t m) i rootRun ≡ runAt t m b
+  pub getD-runsOf : (i b : ℕ) → Page (suc i) b → getD (runsOf t m) i rootRun ≡ planRun t m b
   unfolding runsOf
-  getD-runsOf i b r = getD-chosen (hasMark m begins) (runAt t m) (nodeCount t) b i rootRun r
+  getD-runsOf i b r = getD-chosen (hasMark m begins) (planRun t m) (nodeCount t) b i rootRun r
 
   -- ---- The archive
 

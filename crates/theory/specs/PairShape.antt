@@ -13,7 +13,7 @@ use Rattle.model.specs.Plan.{stays, continues}
 use Rattle.model.specs.Steps.{Member, restSum, whole, cutDown, sides, remainder, takenAt, layPair, pairMarks}
 use Rattle.theory.specs.PlanShape.{EachWithin}
 use Rattle.theory.specs.Reduce.{Each, whole-Whole, cutOff, Cuts, Reduced, reduce-whole}
-use Rattle.theory.specs.PlanLaid.{Laid, laid-end, laid-stays, laid-begins, laid-continues, FeasibleShape, feasible-tree}
+use Rattle.theory.specs.PlanLaid.{MarksLaid, laid-end, laid-stays, laid-begins, laid-continues, FeasibleShape, feasible-tree}
 
 -- what is left of a side that weighs r
 abbrev pub unlessCut : Bool → ℕ → ℕ
@@ -69,28 +69,28 @@ remainder-fits K (node w l kids next) h = omega (arith, sides-fit K w (remainder
 
 -- a chain whose first node, where it is uncut, stays, and one where it continues a run
 pub record PairLaid (K : ℕ) (c : Chain) : Type 0 where
-  pub staying : (cut run : Bool) → Laid K run c (layPair K c cut stays) (unlessCut cut (remainder K c)) 0
-  pub going-on : (cut : Bool) → Laid K true c (layPair K c cut continues) 0 (unlessCut cut (remainder K c))
+  pub staying : (cut run : Bool) → MarksLaid K run c (layPair K c cut stays) (unlessCut cut (remainder K c)) 0
+  pub going-on : (cut : Bool) → MarksLaid K true c (layPair K c cut continues) 0 (unlessCut cut (remainder K c))
 
 module _ (K w l : ℕ) (kids next : Chain) (in-kids : PairLaid K kids) (in-next : PairLaid K next)
     (fits : remainder K (node w l kids next) ≤ K)
   where
-    kids-laid : Laid K false kids (layPair K kids (kidsCut K w kids next) stays) (unlessCut (kidsCut K w kids next) (remainder K kids)) 0
+    kids-laid : MarksLaid K false kids (layPair K kids (kidsCut K w kids next) stays) (unlessCut (kidsCut K w kids next) (remainder K kids)) 0
     kids-laid = in-kids .staying (kidsCut K w kids next) false
 
-    pair-begins : (uncut : ℕ) (run : Bool) → Laid K run (node w l kids next) (layPair K (node w l kids next) true uncut) 0 0
+    pair-begins : (uncut : ℕ) (run : Bool) → MarksLaid K run (node w l kids next) (layPair K (node w l kids next) true uncut) 0 0
     unfolding layPair pick
     pair-begins uncut run =
         laid-begins K w l kids-laid run (in-next .going-on (nextCut K w kids next)) (omega (arith, remainder-node K w kids next l))
 
     pair-stays : (cut run : Bool)
-        → Laid K run (node w l kids next) (layPair K (node w l kids next) cut stays) (unlessCut cut (remainder K (node w l kids next))) 0
+        → MarksLaid K run (node w l kids next) (layPair K (node w l kids next) cut stays) (unlessCut cut (remainder K (node w l kids next))) 0
     unfolding layPair pick
     pair-stays true run = pair-begins stays run
     pair-stays false run = rw (remainder-node K w kids next l) (laid-stays K w l kids-laid run (in-next .staying (nextCut K w kids next) false))
 
     pair-continues : (cut : Bool)
-        → Laid K true (node w l kids next) (layPair K (node w l kids next) cut continues) 0 (unlessCut cut (remainder K (node w l kids next)))
+        → MarksLaid K true (node w l kids next) (layPair K (node w l kids next) cut continues) 0 (unlessCut cut (remainder K (node w l kids next)))
     unfolding layPair pick
     pair-continues true = pair-begins continues true
     pair-continues false = rw (remainder-node K w kids next l) (laid-continues K w l kids-laid (in-next .going-on (nextCut K w kids next)))

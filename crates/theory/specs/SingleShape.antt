@@ -13,7 +13,7 @@ use Rattle.model.specs.Table.{Chain, end, node}
 use Rattle.model.specs.Steps.{Member, restSum, whole, cutDown, remainders, laySingle, singleMarks}
 use Rattle.theory.specs.PlanShape.{EachWithin}
 use Rattle.theory.specs.Reduce.{Each, Whole, whole-Whole, cutOff, Cuts, Reduced, reduce-whole}
-use Rattle.theory.specs.PlanLaid.{Laid, laid-end, laid-stays, laid-begins, FeasibleShape, feasible-tree}
+use Rattle.theory.specs.PlanLaid.{MarksLaid, laid-end, laid-stays, laid-begins, FeasibleShape, feasible-tree}
 
 pub remainders-whole : (K : ℕ) (c : Chain) → Each Whole (remainders K c)
 unfolding Each remainders
@@ -31,17 +31,17 @@ module _ (K w l : ℕ) (kids next : Chain) (ms : List Member) where
   held = restSum (cutDown K w (remainders K kids))
 
   single-node : (run : Bool) (m : Member) → w ≤ K
-      → Laid K false kids (laySingle K kids (cutDown K w (remainders K kids))) held 0
-      → ((after : Bool) → Laid K after next (laySingle K next ms) (restSum ms) 0)
+      → MarksLaid K false kids (laySingle K kids (cutDown K w (remainders K kids))) held 0
+      → ((after : Bool) → MarksLaid K after next (laySingle K next ms) (restSum ms) 0)
       → (m ≡ whole (w + held)) ⊎ (m ≡ cutOff)
-      → Laid K run (node w l kids next) (laySingle K (node w l kids next) (m ∷ ms)) (restSum (m ∷ ms)) 0
+      → MarksLaid K run (node w l kids next) (laySingle K (node w l kids next) (m ∷ ms)) (restSum (m ∷ ms)) 0
   unfolding laySingle restSum pick whole
   single-node run m h a b (inl e) = rw e (laid-stays K w l a run (b false))
   single-node run m h a b (inr e) = rw (e, zero-add (restSum ms))
       (laid-begins K w l a run (b true) (omega (arith, cutDown-reduced K w kids .fits)))
 
 pub single-laid : (K : ℕ) (c : Chain) (ms : List Member) → EachWithin K c → Cuts (remainders K c) ms
-    → (run : Bool) → Laid K run c (laySingle K c ms) (restSum ms) 0
+    → (run : Bool) → MarksLaid K run c (laySingle K c ms) (restSum ms) 0
 unfolding EachWithin Cuts remainders laySingle restSum
 single-laid K end [] h c run = laid-end K run
 single-laid K end (m ∷ ms) h c run = absurd c
