@@ -7,7 +7,7 @@ pub mod Chosen
 pub mod Lists
 -- Lists of checks
 pub mod Checks
--- Tables of sound form: facts, numbering, links, siblings, bytes
+-- Tables of sound form: facts, numbering, links, siblings, bytes, and words put into bytes
 pub mod TableFacts
 pub mod PlanShape
 pub mod TableNumbered
@@ -16,6 +16,7 @@ pub mod TableChain
 pub mod SiblingChains
 pub mod SiblingsByParent
 pub mod TableEncoded
+pub mod Put
 -- Plans: pages by number, the judge's answer, plans by shape, and that both say the same
 pub mod PlanPass
 pub mod PlanPages
