@@ -15,9 +15,8 @@ ghost use lib.Dec.{eqb, ltb};
 ghost use mathlib.Core.Bool.{_||_};
 ghost use Rattle.model.specs.Basics.{firstTo, when, atPlace};
 ghost use Rattle.model.specs.Table.{tableBytes, weightAt};
-ghost use Rattle.model.specs.Refusals.{refused, accepted, firstOf, readTree};
+ghost use Rattle.model.specs.Refusals.{refused, accepted, headChecks, firstOf, readTree};
 ghost use Rattle.model.specs.Demand.{WeightPromise};
-ghost use Rattle.theory.specs.Checks.{headChecks};
 
 // The most nodes that a table has.
 pub const MAX_NODES: u16 = 1024;

@@ -30,6 +30,7 @@ pub mod PlanFeasible
 pub mod RunsFacts
 pub mod RunsSame
 pub mod RunsMarked
+pub mod PagesByNumber
 pub mod RunsByMarks
 pub mod RunsOfPlan
 pub mod RunsToPlan
