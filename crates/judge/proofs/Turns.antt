@@ -1,6 +1,6 @@
--- One turn of the judge's pass, for node v + 1 after the nodes 1 to v, and what the pass has at its end. Defines Pass. Assumes nothing.
+-- One turn of the judge's pass, for node v + 1 after the nodes 1 to v, and what the pass has at its end. Defines LayoutTo. Assumes nothing.
 use mathlib.Core.Path.{_≡_, refl, sym, ap, ap₂, _∙_}
-use mathlib.Core.Bool.{Bool, true, false, not}
+use mathlib.Core.Bool.{Bool, true, false, not, _||_}
 use mathlib.Core.List.{List}
 use lib.Dec.{eqb, ltb}
 use Prim.Native.Nat.{ℕ, zero, suc, _+_, _-_, _*_, _≤_, _<_}
@@ -9,19 +9,19 @@ use native.Mathlib.Numerals.{add-one}
 use lib.ListN.{length, getD, set, replicate, getD-replicate}
 use lib.Seq.{getD-set-same, getD-set-other}
 use borrow.Author.Tests.{eqb-true, eqb-false, eq-eqb, ne-eqb}
-use Rattle.model.specs.Basics.{pick, when, atPlace, countTo, firstTo, lastTo}
+use Rattle.model.specs.Basics.{pick, when, atPlace, sumTo, countTo, firstTo, lastTo}
 use Rattle.model.specs.Table.{maxNodes, maxLimit, slots, nodeCount, limitOf, weightAt, nextAt}
 use Rattle.model.specs.Plan.{prevAt, parentAt, markAt, hasMark, begins, inRun, goodMark, pageOf, pageCount, pageWeight, badMark, heavyPage}
 use Rattle.model.specs.declared.Place.{Place}
 use Rattle.model.specs.declared.Place.the-variants.{At, Nowhere}
-use Rattle.theory.specs.Ranges.{pick-true, pick-false, countTo-zero, countTo-suc, countTo-le, firstTo-zero, firstTo-suc, firstTo-cong, lastTo-zero, lastTo-yes, lastTo-no}
-use Rattle.theory.specs.Sums.{sumTo-most}
+use Rattle.theory.specs.Ranges.{pick-true, pick-false, sumTo-zero, sumTo-suc, countTo-zero, countTo-suc, countTo-le, firstTo-zero, firstTo-suc, firstTo-cong, lastTo-zero, lastTo-yes, lastTo-no}
 use Rattle.theory.specs.TableFacts.{AcceptedFacts}
 use Rattle.theory.specs.TableLinks.{next-le, prevAt-less}
-use Rattle.theory.specs.PlanPass.{stepBack, back-less, pageOf-none, pageOf-le, pageOf-step, weightTo, weightTo-zero, weightTo-suc, parentAt-step}
+use Rattle.theory.specs.PlanPass.{stepBack, back-less, pageOf-none, pageOf-le, pageOf-step, parentAt-step, sumTo-most}
+use Rattle.theory.specs.PagesByNumber.{lastOnPage, lastOnPage-zero, lastOnPage-on, lastOnPage-off, first-found, last-found}
 use Rattle.theory.specs.JudgeAnswers.{pageCount-le}
 use Rattle.judge.specs.declared.pages.Layout.{Layout}
-use Rattle.judge.specs.Rows.{Row, goodCase, Laid}
+use Rattle.judge.specs.Rows.{Row, goodCase, IsLayout}
 
 -- one more node
 row-add : (f : ℕ → ℕ) (l : List ℕ) (v x : ℕ) → Row v f l → v + 1 < length l → x ≡ f (v + 1) → Row (v + 1) f (set l (v + 1) x)
@@ -38,15 +38,15 @@ row-add f l v x row fits e u low high = go (eqb u (v + 1)) refl
 -- ---- The sibling just before each node
 
 -- at w, the last of the nodes 1 to v with w just after it
-abbrev Before : List ℕ → ℕ → List ℕ → Type 0
-Before t v l = (w : ℕ) → w < slots → getD l w 0 ≡ lastTo v (λ u. eqb (nextAt t u) w)
+abbrev PrevsTo : List ℕ → ℕ → List ℕ → Type 0
+PrevsTo t v l = (w : ℕ) → w < slots → getD l w 0 ≡ lastTo v (λ u. eqb (nextAt t u) w)
 
-before-start : (t l : List ℕ) → ((w : ℕ) → w < slots → getD l w 0 ≡ 0) → Before t 0 l
-before-start t l h w fits = h w fits ∙ sym (lastTo-zero (λ u. eqb (nextAt t u) w))
+prevs-start : (t l : List ℕ) → ((w : ℕ) → w < slots → getD l w 0 ≡ 0) → PrevsTo t 0 l
+prevs-start t l h w fits = h w fits ∙ sym (lastTo-zero (λ u. eqb (nextAt t u) w))
 
-before-turn : (t l : List ℕ) (v x : ℕ) → Before t v l → length l ≡ slots → x ≡ nextAt t (v + 1) → x < slots
-    → Before t (v + 1) (set l x (v + 1))
-before-turn t l v x h long e fits w within = rw (add-one v) (go (eqb w x) refl)
+prevs-turn : (t l : List ℕ) (v x : ℕ) → PrevsTo t v l → length l ≡ slots → x ≡ nextAt t (v + 1) → x < slots
+    → PrevsTo t (v + 1) (set l x (v + 1))
+prevs-turn t l v x h long e fits w within = rw (add-one v) (go (eqb w x) refl)
   where
     at-next : (b : Bool) → eqb x w ≡ b → eqb (nextAt t (suc v)) w ≡ b
     at-next b q = ap (λ (k : ℕ). eqb k w) (sym (e ∙ ap (nextAt t) (add-one v))) ∙ q
@@ -63,7 +63,7 @@ before-turn t l v x h long e fits w within = rw (add-one v) (go (eqb w x) refl)
         ∙ h w within
         ∙ sym (lastTo-no v (λ u. eqb (nextAt t u) w) (at-next false (ne-eqb x w (λ s. other (sym s)))))
 
-prior-is : (t l : List ℕ) (v : ℕ) → Before t v l → v + 1 < slots → getD l (v + 1) 0 ≡ prevAt t (v + 1)
+prior-is : (t l : List ℕ) (v : ℕ) → PrevsTo t v l → v + 1 < slots → getD l (v + 1) 0 ≡ prevAt t (v + 1)
 unfolding prevAt
 prior-is t l v h fits =
     let same : v ≡ v + 1 - 1 = omega arith in
@@ -120,13 +120,57 @@ module _ (t m : List ℕ) where
       ∙ ap₂ (λ (k j : ℕ). pick (eqb k 1) j (pageOf t m (stepBack t m (v + 1)))) e q
       ∙ sym (pageOf-step t m (v + 1) (omega arith))
 
+-- ---- The first node and the last sibling of each page's run
+
+-- at p, the last of the nodes 1 to v that is on page p and passes the test
+abbrev LastsTo : List ℕ → List ℕ → (ℕ → Bool) → ℕ → List ℕ → Type 0
+LastsTo t m test v l = (p : ℕ) → p < slots → getD l p 0 ≡ lastOnPage t m test v p
+
+lasts-start : (t m : List ℕ) (test : ℕ → Bool) (l : List ℕ) → ((w : ℕ) → w < slots → getD l w 0 ≡ 0) → LastsTo t m test 0 l
+lasts-start t m test l h p fits = h p fits ∙ sym (lastOnPage-zero t m test p)
+
+lasts-turn : (t m : List ℕ) (test : ℕ → Bool) (l : List ℕ) (v q x : ℕ) → LastsTo t m test v l → length l ≡ slots
+    → q ≡ pageOf t m (v + 1) → q < slots → x ≡ pick (test (v + 1)) (v + 1) (getD l q 0) → LastsTo t m test (v + 1) (set l q x)
+lasts-turn t m test l v q x h long e fits g p within = rw (add-one v) (go (eqb p q) refl)
+  where
+    here : pageOf t m (suc v) ≡ q
+    here = ap (pageOf t m) (sym (add-one v)) ∙ sym e
+
+    go : (b : Bool) → eqb p q ≡ b → getD (set l q x) p 0 ≡ lastOnPage t m test (suc v) p
+    go true s =
+        let same : p ≡ q = eqb-true p q s in
+        ap (λ (k : ℕ). getD (set l q x) k 0) same
+        ∙ getD-set-same l q x 0 (omega arith)
+        ∙ g
+        ∙ ap₂ (λ (u k : ℕ). pick (test u) u k) (add-one v) (ap (λ (k : ℕ). getD l k 0) (sym same) ∙ h p within)
+        ∙ sym (lastOnPage-on t m test v p (here ∙ sym same))
+    go false s =
+        let other : p ≡ q → ⊥ = eqb-false p q s in
+        getD-set-other l q p x 0 other
+        ∙ h p within
+        ∙ sym (lastOnPage-off t m test v p (λ z. other (sym z ∙ here)))
+
+in-run : (m : List ℕ) (v : ℕ) → (eqb (markAt m v) 1 || eqb (markAt m v) 2) ≡ inRun m v
+unfolding inRun
+in-run m v = refl
+
 -- ---- Weights
+
+-- the weight of those of the nodes 1 to v that the plan has on page p
+unfoldable pub weightTo : ℕ → List ℕ → List ℕ → ℕ → ℕ
+weightTo v t m p = sumTo v (λ u. pick (eqb (pageOf t m u) p) (weightAt t u) 0)
 
 abbrev Weighed : List ℕ → List ℕ → ℕ → List ℕ → Type 0
 Weighed t m v l = (p : ℕ) → p < slots → getD l p 0 ≡ weightTo v t m p
 
 weights-start : (t m l : List ℕ) → ((w : ℕ) → w < slots → getD l w 0 ≡ 0) → Weighed t m 0 l
-weights-start t m l h p fits = h p fits ∙ sym (weightTo-zero t m p)
+unfolding weightTo
+weights-start t m l h p fits = h p fits ∙ sym (sumTo-zero (λ v. pick (eqb (pageOf t m v) p) (weightAt t v) 0))
+
+weightTo-suc : (v : ℕ) (t m : List ℕ) (p : ℕ)
+    → weightTo (suc v) t m p ≡ weightTo v t m p + pick (eqb (pageOf t m (suc v)) p) (weightAt t (suc v)) 0
+unfolding weightTo
+weightTo-suc v t m p = sumTo-suc v (λ u. pick (eqb (pageOf t m u) p) (weightAt t u) 0)
 
 weights-turn : (t m l : List ℕ) (v q w : ℕ) → Weighed t m v l → length l ≡ slots → q ≡ pageOf t m (v + 1) → q < slots
     → w ≡ weightAt t (v + 1) → Weighed t m (v + 1) (set l q (getD l q 0 + w))
@@ -187,33 +231,40 @@ bad-turn t m v bad next good h e q =
 -- ---- The pass
 
 -- what stands in the arrays after the nodes 1 to v
-pub record Pass (t m : List ℕ) (v : ℕ) (before parents page weights : List ℕ) (pages : ℕ) (bad : Place) : Type 0 where
-  pub befores : Before t v before
-  pub fathers : Row v (parentAt t) parents
-  pub laid : Row v (pageOf t m) page
-  pub none : getD page 0 0 ≡ 0
-  pub weighed : Weighed t m v weights
-  pub counted : pages ≡ countTo v (hasMark m begins)
-  pub first-bad : bad ≡ firstTo v (λ u. not (goodMark t m u))
+pub record LayoutTo (t m : List ℕ) (v : ℕ) (before parents page firsts lasts weights : List ℕ) (pages : ℕ) (bad : Place) : Type 0 where
+  pub prevs : PrevsTo t v before
+  pub parents-to : Row v (parentAt t) parents
+  pub page-to : Row v (pageOf t m) page
+  pub page-none : getD page 0 0 ≡ 0
+  pub firsts-to : LastsTo t m (hasMark m begins) v firsts
+  pub lasts-to : LastsTo t m (inRun m) v lasts
+  pub weights-to : Weighed t m v weights
+  pub pages-to : pages ≡ countTo v (hasMark m begins)
+  pub bad-to : bad ≡ firstTo v (λ u. not (goodMark t m u))
 
-pub pass-start : (t m : List ℕ) → Pass t m 0 (replicate slots 0) (replicate slots 0) (replicate slots 0) (replicate slots 0) 0 Nowhere
-pass-start t m =
-    let zeros : (w : ℕ) → w < slots → _≡_ {A = ℕ} (getD (replicate slots 0) w 0) 0 = λ w fits. getD-replicate slots w 0 0 fits in
+abbrev zeros : List ℕ
+zeros = replicate slots 0
+
+pub layout-start : (t m : List ℕ) → LayoutTo t m 0 zeros zeros zeros zeros zeros zeros 0 Nowhere
+layout-start t m =
+    let zero-at : (w : ℕ) → w < slots → _≡_ {A = ℕ} (getD zeros w 0) 0 = λ w fits. getD-replicate slots w 0 0 fits in
     record {
-      befores = before-start t (replicate slots 0) zeros;
-      fathers = λ u low high. absurd (omega arith);
-      laid = λ u low high. absurd (omega arith);
-      none = zeros 0 (omega arith);
-      weighed = weights-start t m (replicate slots 0) zeros;
-      counted = sym (countTo-zero (hasMark m begins));
-      first-bad = sym (firstTo-zero (λ u. not (goodMark t m u)));
+      prevs = prevs-start t zeros zero-at;
+      parents-to = λ u low high. absurd (omega arith);
+      page-to = λ u low high. absurd (omega arith);
+      page-none = zero-at 0 (omega arith);
+      firsts-to = lasts-start t m (hasMark m begins) zeros zero-at;
+      lasts-to = lasts-start t m (inRun m) zeros zero-at;
+      weights-to = weights-start t m zeros zero-at;
+      pages-to = sym (countTo-zero (hasMark m begins));
+      bad-to = sym (firstTo-zero (λ u. not (goodMark t m u)));
     }
 
 -- the turn of node v + 1: what its locals are, and that they have places in the arrays
-module _ {t m : List ℕ} {v : ℕ} {before parents page weights : List ℕ} {pages : ℕ} {bad : Place} (a : AcceptedFacts t)
-    (h : Pass t m v before parents page weights pages bad) (less : v < nodeCount t) where
+module _ {t m : List ℕ} {v : ℕ} {before parents page firsts lasts weights : List ℕ} {pages : ℕ} {bad : Place} (a : AcceptedFacts t)
+    (h : LayoutTo t m v before parents page firsts lasts weights pages bad) (less : v < nodeCount t) where
   u-is : getD before (v + 1) 0 ≡ prevAt t (v + 1)
-  u-is = prior-is t before v (h .befores) (omega (arith, a .sound .count-high))
+  u-is = prior-is t before v (h .prevs) (omega (arith, a .sound .count-high))
 
   pub u-fits : getD before (v + 1) 0 < slots
   u-fits = omega (arith, u-is, prevAt-less t (v + 1) (omega arith), a .sound .count-high)
@@ -222,7 +273,7 @@ module _ {t m : List ℕ} {v : ℕ} {before parents page weights : List ℕ} {pa
   next-fits = omega (arith, next-le (a .sound) (v + 1) (omega arith) (omega arith), a .sound .count-high)
 
   pub count-fits : pages ≤ v
-  count-fits = omega (arith, h .counted, countTo-le v (hasMark m begins))
+  count-fits = omega (arith, h .pages-to, countTo-le v (hasMark m begins))
 
   -- the node one step back of it
   module _ (mark parent home : ℕ) (mark-is : mark ≡ markAt m (v + 1))
@@ -231,7 +282,7 @@ module _ {t m : List ℕ} {v : ℕ} {before parents page weights : List ℕ} {pa
     back-here : home ≡ stepBack t m (v + 1)
     back-here =
         back-is t m (v + 1) mark (getD before (v + 1) 0) parent home mark-is u-is
-        (parent-is a parents v (getD before (v + 1) 0) parent (h .fathers) less u-is parent-as) home-as
+        (parent-is a parents v (getD before (v + 1) 0) parent (h .parents-to) less u-is parent-as) home-as
 
     pub home-fits : home < slots
     home-fits = omega (arith, back-here, back-less t m (v + 1) (omega arith), a .sound .count-high)
@@ -239,55 +290,72 @@ module _ {t m : List ℕ} {v : ℕ} {before parents page weights : List ℕ} {pa
     pub page-here : (next p : ℕ) → next ≡ pick (eqb mark 1) (pages + 1) pages → p ≡ pick (eqb mark 1) next (getD page home 0)
         → p ≡ pageOf t m (v + 1)
     page-here next p next-as p-as =
-        page-is t m page v mark next home p (h .laid) (h .none) mark-is (count-turn m v mark pages next (h .counted) mark-is next-as)
+        page-is t m page v mark next home p (h .page-to) (h .page-none) mark-is (count-turn m v mark pages next (h .pages-to) mark-is next-as)
         back-here p-as
 
   pub page-fits : (p : ℕ) → p ≡ pageOf t m (v + 1) → p < slots
   page-fits p e = omega (arith, e, pageOf-le t m (v + 1), a .sound .count-high)
 
   pub sum-fits : (p : ℕ) → p ≡ pageOf t m (v + 1) → getD weights p 0 ≤ maxNodes * maxLimit
-  sum-fits p e = omega (arith, h .weighed p (page-fits p e), weight-most a m v p (omega arith), a .sound .count-high)
+  sum-fits p e = omega (arith, h .weights-to p (page-fits p e), weight-most a m v p (omega arith), a .sound .count-high)
 
-  pub pass-turn : (mark parent next p w x : ℕ) (good : Bool) (prior : ℕ) (bad′ : Place) → length before ≡ slots → length parents ≡ slots
-      → length page ≡ slots → length weights ≡ slots → mark ≡ markAt m (v + 1) → prior ≡ markAt m (getD before (v + 1) 0)
+  pub layout-turn : (mark parent next p first last w x : ℕ) (good : Bool) (prior : ℕ) (bad′ : Place)
+      → length before ≡ slots → length parents ≡ slots → length page ≡ slots → length firsts ≡ slots → length lasts ≡ slots
+      → length weights ≡ slots → mark ≡ markAt m (v + 1) → prior ≡ markAt m (getD before (v + 1) 0)
       → good ≡ goodCase (v + 1) mark (getD before (v + 1) 0) prior → bad′ ≡ atPlace bad At (when (not good) (v + 1))
       → parent ≡ pick (eqb (getD before (v + 1) 0) 0) (v + 1 - 1) (getD parents (getD before (v + 1) 0) 0)
-      → next ≡ pick (eqb mark 1) (pages + 1) pages → p ≡ pageOf t m (v + 1) → w ≡ weightAt t (v + 1) → x ≡ nextAt t (v + 1)
-      → Pass t m (v + 1) (set before x (v + 1)) (set parents (v + 1) parent) (set page (v + 1) p) (set weights p (getD weights p 0 + w)) next bad′
-  pass-turn mark parent next p w x good prior bad′ lb lp lg lw mark-is prior-as good-as bad-as parent-as next-as p-is w-is x-is =
+      → next ≡ pick (eqb mark 1) (pages + 1) pages → p ≡ pageOf t m (v + 1)
+      → first ≡ pick (eqb mark 1) (v + 1) (getD firsts p 0) → last ≡ pick (eqb mark 1 || eqb mark 2) (v + 1) (getD lasts p 0)
+      → w ≡ weightAt t (v + 1) → x ≡ nextAt t (v + 1)
+      → LayoutTo t m (v + 1) (set before x (v + 1)) (set parents (v + 1) parent) (set page (v + 1) p) (set firsts p first)
+      (set lasts p last) (set weights p (getD weights p 0 + w)) next bad′
+  layout-turn mark parent next p first last w x good prior bad′ lb lp lg lf ll lw mark-is prior-as good-as bad-as parent-as next-as
+      p-is first-as last-as w-is x-is =
       let small = a .sound .count-high in
+      let fits : p < slots = page-fits p p-is in
       let other : 0 ≡ v + 1 → ⊥ = omega arith in
       record {
-        befores = before-turn t before v x (h .befores) lb x-is (omega (arith, x-is, next-fits));
-        fathers =
-            row-add (parentAt t) parents v parent (h .fathers) (omega arith)
-            (parent-is a parents v (getD before (v + 1) 0) parent (h .fathers) less u-is parent-as);
-        laid = row-add (pageOf t m) page v p (h .laid) (omega arith) p-is;
-        none = getD-set-other page (v + 1) 0 p 0 other ∙ h .none;
-        weighed = weights-turn t m weights v p w (h .weighed) lw p-is (page-fits p p-is) w-is;
-        counted = count-turn m v mark pages next (h .counted) mark-is next-as;
-        first-bad =
-            bad-turn t m v bad bad′ good (h .first-bad)
+        prevs = prevs-turn t before v x (h .prevs) lb x-is (omega (arith, x-is, next-fits));
+        parents-to =
+            row-add (parentAt t) parents v parent (h .parents-to) (omega arith)
+            (parent-is a parents v (getD before (v + 1) 0) parent (h .parents-to) less u-is parent-as);
+        page-to = row-add (pageOf t m) page v p (h .page-to) (omega arith) p-is;
+        page-none = getD-set-other page (v + 1) 0 p 0 other ∙ h .page-none;
+        firsts-to =
+            lasts-turn t m (hasMark m begins) firsts v p first (h .firsts-to) lf p-is fits
+            (first-as ∙ ap (λ (k : ℕ). pick (eqb k 1) (v + 1) (getD firsts p 0)) mark-is);
+        lasts-to =
+            lasts-turn t m (inRun m) lasts v p last (h .lasts-to) ll p-is fits
+            (last-as ∙ ap (λ (k : ℕ). pick (eqb k 1 || eqb k 2) (v + 1) (getD lasts p 0)) mark-is
+            ∙ ap (λ (b : Bool). pick b (v + 1) (getD lasts p 0)) (in-run m (v + 1)));
+        weights-to = weights-turn t m weights v p w (h .weights-to) lw p-is fits w-is;
+        pages-to = count-turn m v mark pages next (h .pages-to) mark-is next-as;
+        bad-to =
+            bad-turn t m v bad bad′ good (h .bad-to)
             (good-is t m (v + 1) mark (getD before (v + 1) 0) prior good good-as mark-is u-is prior-as) bad-as;
       }
 
-pub pass-end : {t m : List ℕ} {v : ℕ} {before : List ℕ} → (r : Layout) → Pass t m v before (r .parents) (r .page) (r .weights) (r .pages) (r .bad)
-    → v ≤ nodeCount t → nodeCount t ≤ v → Laid t m r
+pub layout-end : {t m : List ℕ} {v : ℕ} {before : List ℕ} → AcceptedFacts t → (r : Layout)
+    → LayoutTo t m v before (r .parents) (r .page) (r .firsts) (r .lasts) (r .weights) (r .pages) (r .bad)
+    → v ≤ nodeCount t → nodeCount t ≤ v → IsLayout t m r
 unfolding weightTo pageWeight pageCount badMark
-pass-end {t} {m} {v} {before} r h le ge =
+layout-end {t} {m} {v} {before} a r h le ge =
     let same : v ≡ nodeCount t = omega arith in
     let all = rw same at h in
+    let fits : (p : ℕ) → p ≤ pageCount t m → p < slots = λ p high. omega (arith, pageCount-le t m, a .sound .count-high) in
     record {
-      parents-are = all .fathers;
-      page-is = all .laid;
-      weights-are = all .weighed;
-      pages-are = all .counted;
-      bad-is = all .first-bad;
+      parents-are = all .parents-to;
+      page-is = all .page-to;
+      firsts-are = λ good p low high. all .firsts-to p (fits p high) ∙ first-found (a .sound) m good p low high;
+      lasts-are = λ good p low high. all .lasts-to p (fits p high) ∙ last-found (a .sound) m good p low high;
+      weights-are = all .weights-to;
+      pages-are = all .pages-to;
+      bad-is = all .bad-to;
     }
 
 -- ---- Heavy pages
 
-pub heavy-is : {t : List ℕ} → AcceptedFacts t → (m : List ℕ) (r : Layout) (limit : ℕ) (o : Place) → Laid t m r
+pub heavy-is : {t : List ℕ} → AcceptedFacts t → (m : List ℕ) (r : Layout) (limit : ℕ) (o : Place) → IsLayout t m r
     → o ≡ firstTo (r .pages) (λ p. ltb limit (getD (r .weights) p 0)) → limit ≡ limitOf t → o ≡ heavyPage t m
 unfolding heavyPage
 heavy-is {t} a m r limit o laid e d =

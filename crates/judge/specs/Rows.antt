@@ -8,6 +8,8 @@ use lib.Dec.{eqb}
 use Rattle.model.specs.Basics.{pick}
 use Rattle.model.specs.Table.{slots, nodeCount}
 use Rattle.model.specs.Plan.{parentAt, pageOf, pageWeight, pageCount, badMark}
+use Rattle.model.specs.Runs.{pageRun}
+use Rattle.model.specs.declared.Place.the-variants.{Nowhere}
 use Rattle.theory.specs.Ranges.{Upto}
 use Rattle.judge.specs.declared.pages.Layout.{Layout}
 
@@ -22,9 +24,11 @@ goodCase v mark before prior =
     (pick (eqb mark 2) (not (eqb before 0) && (eqb prior 1 || eqb prior 2)) (eqb mark 0 || eqb mark 1))
 
 -- what the plan m makes of the tree t
-pub record Laid (t m : List ℕ) (r : Layout) : Type 0 where
+pub record IsLayout (t m : List ℕ) (r : Layout) : Type 0 where
   pub parents-are : Row (nodeCount t) (parentAt t) (r .parents)
   pub page-is : Row (nodeCount t) (pageOf t m) (r .page)
+  pub firsts-are : badMark t m ≡ Nowhere → Row (pageCount t m) (λ p. pageRun t m p .first) (r .firsts)
+  pub lasts-are : badMark t m ≡ Nowhere → Row (pageCount t m) (λ p. pageRun t m p .last) (r .lasts)
   pub weights-are : (p : ℕ) → p < slots → getD (r .weights) p 0 ≡ pageWeight t m p
   pub pages-are : r .pages ≡ pageCount t m
   pub bad-is : r .bad ≡ badMark t m

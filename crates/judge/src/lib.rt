@@ -1,4 +1,4 @@
-// The judge of plans: bad marks, page weights, and the verdict. Refusals 1 to 8, 10 and 11.
+// The judge of plans: bad marks, page weights, and the verdict, with the layout that they are told from. Refusals 1 to 8, 10 and 11.
 pub mod marks;
 pub mod pages;
 
@@ -7,8 +7,10 @@ use model::Beside;
 use model::Cause;
 use model::Place;
 use model::Verdict;
+use pages::Layout;
 use pages::first_heavy;
-use pages::lay_plan;
+use pages::lay_pages;
+use pages::no_layout;
 use table::read_tree;
 use table::refuse;
 use table::words::limit_of;
@@ -18,7 +20,10 @@ ghost use Rattle.model.specs.Basics.{atPlace};
 ghost use Rattle.model.specs.Plan.{verdictOf};
 ghost use Rattle.model.specs.Refusals.{answerOf, judgePlan};
 ghost use Rattle.model.specs.Demand.{WeightPromise};
+ghost use Rattle.theory.specs.Checks.{andThen};
 ghost use Rattle.theory.specs.TableFacts.{AcceptedFacts};
+ghost use Rattle.theory.specs.JudgeAnswers.{marksAnswer};
+ghost use Rattle.judge.specs.Rows.{IsLayout};
 
 // The verdict: a bad mark first, then a heavy page, else page count and root weight.
 fn find_verdict(bad: Place, heavy: Place, pages: u16, root: u32) -> Verdict
@@ -69,14 +74,48 @@ fn give_cause(cause: Cause) -> Answer
     }
 }
 
-// The verdict's answer, where the tree is accepted.
-fn judge_marks(table: &[u8], marks: &[u8]) -> Answer
-    requires { ⌜ AcceptedFacts (now table) ⌝ }
-    ensures { λ r. ⌜ r ≡ answerOf (verdictOf (now (table .entry)) (now (marks .entry))) ⌝ }
+// The judge's answer, and the layout of a plan that it accepts.
+pub struct Judgement {
+    pub answer: Answer,
+    pub layout: Layout,
+}
+
+// A refusal before any plan is laid.
+fn no_judgement(answer: Answer) -> Judgement
+    ensures { λ r. ⌜ r .answer ≡ answer ⌝ }
 {
-    let plan = lay_plan(table, marks);
-    let heavy = first_heavy(&plan.weights, plan.pages, limit_of(table));
-    give(find_verdict(plan.bad, heavy, plan.pages, plan.weights[1]))
+    Judgement {
+        answer,
+        layout: no_layout(),
+    }
+}
+
+// The verdict's answer with the layout, where the tree is accepted.
+fn judge_marks(table: &[u8], marks: &[u8]) -> Judgement
+    requires { ⌜ AcceptedFacts (now table) ⌝ }
+    ensures { λ r. ⌜ r .answer ≡ answerOf (verdictOf (now (table .entry)) (now (marks .entry))) ⌝ }
+    ensures { λ r. ⌜ IsLayout (now (table .entry)) (now (marks .entry)) (r .layout) ⌝ }
+{
+    let layout = lay_pages(table, marks);
+    let heavy = first_heavy(&layout.weights, layout.pages, limit_of(table));
+    let answer = give(find_verdict(layout.bad, heavy, layout.pages, layout.weights[1]));
+    Judgement { answer, layout }
+}
+
+// The judge, going on from the tree's own answer.
+pub fn judge_pages(tree: Answer, table: &[u8], marks: &[u8]) -> Judgement
+    requires { ⌜ (tree .number ≡ 0 → AcceptedFacts (now table)) ⌝ }
+    ensures { λ r. ⌜ r .answer ≡ andThen tree (marksAnswer (now (table .entry)) (now (marks .entry))) ⌝ }
+    ensures { λ r. ⌜ (r .answer .number ≡ 0 → IsLayout (now (table .entry)) (now (marks .entry)) (r .layout)) ⌝ }
+{
+    if tree.number != 0 {
+        return no_judgement(tree);
+    }
+    let nodes = node_count(table);
+    if marks.len() != nodes as usize {
+        return no_judgement(refuse(8, nodes as u32));
+    }
+    judge_marks(table, marks)
 }
 
 // Entry: the judge of plans.
@@ -85,12 +124,5 @@ pub fn judge_plan(table: &[u8], marks: &[u8]) -> Answer
     ensures { λ r. ⌜ WeightPromise (now (table .entry)) r ⌝ }
 {
     let tree = read_tree(table);
-    if tree.number != 0 {
-        return tree;
-    }
-    let nodes = node_count(table);
-    if marks.len() != nodes as usize {
-        return refuse(8, nodes as u32);
-    }
-    judge_marks(table, marks)
+    judge_pages(tree, table, marks).answer
 }

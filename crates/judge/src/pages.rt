@@ -1,4 +1,5 @@
-// What a plan makes of a tree: the parent and the page of each node, the weight of each page, and the first mark that is not allowed.
+// What a plan makes of a tree: the parent and the page of each node, the weight and the run of each page, and the first mark that is
+// not allowed.
 use crate::marks::is_good;
 use crate::marks::mark_at;
 use model::Place;
@@ -14,12 +15,15 @@ ghost use lib.ListN.{getD};
 ghost use Rattle.model.specs.Basics.{pick, atPlace, firstTo};
 ghost use Rattle.model.specs.Table.{slots};
 ghost use Rattle.theory.specs.TableFacts.{AcceptedFacts};
-ghost use Rattle.judge.specs.Rows.{Laid};
+ghost use Rattle.judge.specs.Rows.{IsLayout};
 
-// What the pass finds: by node its parent and its page, by page its weight, the number of pages, and the first bad mark.
+// What the pass finds: by node its parent and its page; by page its first node, the last sibling of its run, and its weight; the number
+// of pages, and the first bad mark.
 pub struct Layout {
     pub parents: [u16; SLOTS],
     pub page: [u16; SLOTS],
+    pub firsts: [u16; SLOTS],
+    pub lasts: [u16; SLOTS],
     pub weights: [u32; SLOTS],
     pub pages: u16,
     pub bad: Place,
@@ -41,16 +45,32 @@ fn first_of(found: Place, next: Place) -> Place
     }
 }
 
-// One pass in node order. A node with no sibling before it comes just after its parent. A 1 opens the next page, a 2 joins the page
-// of the sibling before it, and a 0 its parent's; the node's weight is added to that page.
-pub fn lay_plan(table: &[u8], marks: &[u8]) -> Layout
+// The layout where no plan is laid.
+pub fn no_layout() -> Layout {
+    Layout {
+        parents: [0u16; SLOTS],
+        page: [0u16; SLOTS],
+        firsts: [0u16; SLOTS],
+        lasts: [0u16; SLOTS],
+        weights: [0u32; SLOTS],
+        pages: 0,
+        bad: Place::Nowhere,
+    }
+}
+
+// One pass in node order. A node with no sibling before it comes just after its parent. A 1 opens the next page and is its first node,
+// a 2 joins the page of the sibling before it, and a 0 its parent's; the node's weight is added to that page. Siblings come in rising
+// order, so the last 1 or 2 on a page is the last sibling of its run.
+pub fn lay_pages(table: &[u8], marks: &[u8]) -> Layout
     requires { ⌜ AcceptedFacts (now table) ⌝ }
-    ensures { λ r. ⌜ Laid (now (table .entry)) (now (marks .entry)) r ⌝ }
+    ensures { λ r. ⌜ IsLayout (now (table .entry)) (now (marks .entry)) r ⌝ }
 {
     let nodes = node_count(table);
     let mut before = [0u16; SLOTS];
     let mut parents = [0u16; SLOTS];
     let mut page = [0u16; SLOTS];
+    let mut firsts = [0u16; SLOTS];
+    let mut lasts = [0u16; SLOTS];
     let mut weights = [0u32; SLOTS];
     let mut pages: u16 = 0;
     let mut bad = Place::Nowhere;
@@ -69,12 +89,16 @@ pub fn lay_plan(table: &[u8], marks: &[u8]) -> Layout
         let p = choose(mark == 1, pages, page[home as usize]);
         page[i] = p;
         let q = p as usize;
+        firsts[q] = choose(mark == 1, v, firsts[q]);
+        lasts[q] = choose((mark == 1) | (mark == 2), v, lasts[q]);
         weights[q] = weights[q] + (weight_at(table, v) as u32);
         before[next_at(table, v) as usize] = v;
     }
     Layout {
         parents,
         page,
+        firsts,
+        lasts,
         weights,
         pages,
         bad,

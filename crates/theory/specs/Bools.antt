@@ -8,6 +8,11 @@ pub bool-cases : (b : Bool) → (b ≡ true) ⊎ (b ≡ false)
 bool-cases true = inl refl
 bool-cases false = inr refl
 
+-- one that is not true is false
+pub never-true : (b : Bool) → (b ≡ true → ⊥) → b ≡ false
+never-true true h = absurd (h refl)
+never-true false h = refl
+
 -- two tests that pass together are the same
 pub same-true : (a b : Bool) → (a ≡ true → b ≡ true) → (b ≡ true → a ≡ true) → a ≡ b
 same-true true b f g = sym (f refl)

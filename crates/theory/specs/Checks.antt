@@ -10,7 +10,7 @@ use mathlib.Core.Bool.{Bool, true, false, not, _&&_, false≢true, true≢false}
 use mathlib.Core.Logic.{_↔_}
 use mathlib.Core.List.{List, [], _∷_, _++_}
 use lib.Dec.{eqb}
-use borrow.Author.Tests.{eq-eqb, ne-eqb}
+use borrow.Author.Tests.{eqb-true, eqb-false, eq-eqb, ne-eqb}
 use Rattle.model.specs.Basics.{pick, atPlace, every}
 use Rattle.model.specs.Refusals.{Check, accepted, firstOf, passes}
 use Rattle.model.specs.Refusals.{shortTable, badCount, badLimit, badLength, noWeight, badWalk, heavyNode, badMarks}
@@ -229,6 +229,17 @@ then-next r s e = pick-true (eqb (r .number) 0) s r (eq-eqb (r .number) 0 e)
 pub then-stands : (r s : Answer) → (r .number ≡ 0 → ⊥) → andThen r s ≡ r
 unfolding andThen
 then-stands r s h = pick-false (eqb (r .number) 0) s r (ne-eqb (r .number) 0 h)
+
+-- both accept where the answer is acceptance
+pub then-both : (r s : Answer) → andThen r s .number ≡ 0 → (r .number ≡ 0) × (s .number ≡ 0)
+then-both r s e = go (eqb (r .number) 0) refl
+  where
+    go : (b : Bool) → eqb (r .number) 0 ≡ b → (r .number ≡ 0) × (s .number ≡ 0)
+    go true q =
+        let z = eqb-true (r .number) 0 q in (z, sym (ap (λ (x : Answer). x .number) (then-next r s z)) ∙ e)
+    go false q =
+        let other = eqb-false (r .number) 0 q in
+        absurd (other (sym (ap (λ (x : Answer). x .number) (then-stands r s other)) ∙ e))
 
 -- checks after others, from the others' own answer
 pub firstOf-then : (cs ds : List Check) (a : Answer) → Never 0 cs

@@ -9,7 +9,7 @@ pub mod Lists
 pub mod Words
 -- Lists of checks
 pub mod Checks
--- Tables of sound form: facts, numbering, links, siblings, bytes
+-- Tables of sound form: facts, numbering, links, siblings, bytes, and words put into bytes
 pub mod TableFacts
 pub mod PlanShape
 pub mod TableNumbered
@@ -18,6 +18,7 @@ pub mod TableChain
 pub mod SiblingChains
 pub mod SiblingsByParent
 pub mod TableEncoded
+pub mod Put
 -- Plans: pages by number, the judge's answer, plans by shape, and that both say the same
 pub mod PlanPass
 pub mod PlanPages
@@ -31,6 +32,7 @@ pub mod PlanFeasible
 pub mod RunsFacts
 pub mod RunsSame
 pub mod RunsMarked
+pub mod PagesByNumber
 pub mod RunsByMarks
 pub mod RunsOfPlan
 pub mod RunsToPlan

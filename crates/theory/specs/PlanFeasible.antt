@@ -64,17 +64,20 @@ pub feasible-parts : (t m : List ℕ) → feasiblePlan t m ≡ true → (accepte
 unfolding feasiblePlan judgeChecks acceptedTree
 feasible-parts t m e = passes-both (treeChecks t) (markChecks t m) e
 
-pub feasible-judged : (t m : List ℕ) → feasiblePlan t m ≡ true → Judged t m
+pub marks-judged : (t m : List ℕ) → AcceptedFacts t → passes (markChecks t m) ≡ true → Judged t m
 unfolding Pass markChecks badMarks markRefused pageRefused
-feasible-judged t m e =
-    let parts = feasible-parts t m e in
-    let p = pass-all (markChecks t m) .0 (parts .1) in
+marks-judged t m a e =
+    let p = pass-all (markChecks t m) .0 e in
     record {
-      tree = accepted-facts t (parts .0);
+      tree = a;
       long = eqb-true (length m) (nodeCount t) (not-false _ (when-nowhere _ (nodeCount t) (p .0)));
       marked = p .1 .0;
       light = p .1 .1 .0;
     }
+
+pub feasible-judged : (t m : List ℕ) → feasiblePlan t m ≡ true → Judged t m
+feasible-judged t m e =
+    let parts = feasible-parts t m e in marks-judged t m (accepted-facts t (parts .0)) (parts .1)
 
 pub judged-feasible : {t m : List ℕ} → acceptedTree t ≡ true → Judged t m → feasiblePlan t m ≡ true
 unfolding Pass feasiblePlan judgeChecks acceptedTree markChecks badMarks markRefused pageRefused

@@ -20,7 +20,12 @@ first-heavy-requires : tie.Need-first-heavy-requires
 first-heavy-requires c κs =
     let l = c .before .before .before in
     let e = l .before .before .before in
-    omega (arith, l .lay-plan .ensures .pages-are, pageCount-le (now (e .args .table)) (now (e .args .marks)), e .pre .sound .count-high)
+    omega (
+      arith,
+      l .lay-pages .ensures .pages-are,
+      pageCount-le (now (e .args .table)) (now (e .args .marks)),
+      e .pre .sound .count-high,
+    )
 
 returns : tie.Need-returns
 unfolding verdictOf
@@ -28,15 +33,17 @@ returns c =
     let h = c .before .before .before in
     let l = h .before .before .before .before in
     let e = l .before .before .before in
-    let m = now (e .args .marks) in
-    let laid = l .lay-plan .ensures in
-    let heavy = heavy-is (e .pre) m (l .lay-plan .result) _ _ laid (h .first-heavy .ensures) (h .before .limit-of .ensures) in
-    c .give .ensures
-    ∙ ap answerOf
-    (c .before .find-verdict .ensures
-    ∙ ap₂ (λ (o : Place) (v : Verdict). atPlace o (λ u. Failed (BadMark u)) v) (laid .bad-is)
-    (ap₂ (λ (o : Place) (v : Verdict). atPlace o (λ p. Failed (HeavyPage p)) v) heavy
-    (ap₂ (λ (p r : ℕ). Feasible p r) (laid .pages-are) (laid .weights-are 1 (omega arith)))))
+    let laid = l .lay-pages .ensures in
+    let heavy = heavy-is (e .pre) (now (e .args .marks)) (l .lay-pages .result) _ _ laid (h .first-heavy .ensures)
+    (h .before .limit-of .ensures) in (
+      c .give .ensures
+          ∙ ap answerOf
+          (c .before .find-verdict .ensures
+          ∙ ap₂ (λ (o : Place) (v : Verdict). atPlace o (λ u. Failed (BadMark u)) v) (laid .bad-is)
+          (ap₂ (λ (o : Place) (v : Verdict). atPlace o (λ p. Failed (HeavyPage p)) v) heavy
+          (ap₂ (λ (p r : ℕ). Feasible p r) (laid .pages-are) (laid .weights-are 1 (omega arith))))),
+      laid,
+    )
 
 pub judge-marks-spec : {M : Type 1} → statement M
 judge-marks-spec =

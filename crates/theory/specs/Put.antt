@@ -1,11 +1,14 @@
--- Words put one after the other into a string of bytes. Defines putWord, putRecord, Starts. Assumes nothing.
+-- Words put into a string of bytes, one after the other and in records. Defines putWord, putRecord, Starts, RecordsPut. Assumes nothing.
 use Prim.Native.Nat.{ℕ, suc, _+_, _*_, _/_, _%_, _≤_}
 use native.Mathlib.Omega.{arith}
+use native.Mathlib.Numerals.{add-one}
 use mathlib.Core.Path.{_≡_, refl, sym, _∙_, ap}
 use mathlib.Core.List.{List, [], _∷_, _++_, append-assoc}
 use lib.ListN.{length, take, set, length-append, length-set}
 use lib.Seq.{take-suc-set, take-all}
+use Rattle.model.specs.Basics.{listTo}
 use Rattle.model.specs.Table.{bytesOf}
+use Rattle.theory.specs.Ranges.{listTo-zero, listTo-suc, append-nil}
 
 -- word i of the string becomes w
 unfoldable pub putWord : List ℕ → ℕ → ℕ → List ℕ
@@ -74,3 +77,21 @@ starts-record o ws i a b c d h at room =
 pub starts-all : (o ws : List ℕ) → Starts o ws → length o ≡ 2 * length ws → o ≡ bytesOf ws
 unfolding Starts
 starts-all o ws h long = sym (take-all (2 * length ws) o (omega arith)) ∙ h
+
+-- ---- Records, one after the other
+
+-- the words ws, where they stood, and after them the records 1 to n
+abbrev pub RecordsPut : (ℕ → List ℕ) → ℕ → List ℕ → List ℕ → List ℕ → Type 0
+RecordsPut rec n ws start out = Starts start ws → Starts out (ws ++ listTo n rec)
+
+module _ (rec : ℕ → List ℕ) (ws : List ℕ) where
+  pub records-none : (out : List ℕ) → RecordsPut rec 0 ws out out
+  records-none out h = rw (listTo-zero rec, append-nil ws) h
+
+  -- a record is put after those before it: the words that stand go on by it
+  pub records-one : (n : ℕ) (start out out′ : List ℕ) → RecordsPut rec n ws start out
+      → (Starts out (ws ++ listTo n rec) → Starts out′ (ws ++ listTo n rec ++ rec (n + 1)))
+      → RecordsPut rec (n + 1) ws start out′
+  records-one n start out out′ h put begun =
+      let more : listTo (n + 1) rec ≡ listTo n rec ++ rec (n + 1) = rw (add-one n) (listTo-suc n rec) in
+      rw (more, ← append-assoc ws (listTo n rec) (rec (n + 1))) (put (h begun))
