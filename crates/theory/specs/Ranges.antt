@@ -295,7 +295,7 @@ pub lastTo-zero : (p : ℕ → Bool) → lastTo 0 p ≡ 0
 unfolding lastTo
 lastTo-zero p = refl
 
-lastTo-suc : (n : ℕ) (p : ℕ → Bool) → lastTo (suc n) p ≡ pick (p (suc n)) (suc n) (lastTo n p)
+pub lastTo-suc : (n : ℕ) (p : ℕ → Bool) → lastTo (suc n) p ≡ pick (p (suc n)) (suc n) (lastTo n p)
 unfolding lastTo
 lastTo-suc n p = refl
 
@@ -352,7 +352,7 @@ lastTo-at (suc n) v p e low = go (p (suc n)) refl (lastTo-at n v p)
         }
 
 -- the last one that passes is found
-lastTo-last : (n v : ℕ) (p : ℕ → Bool) → Last n p v → lastTo n p ≡ v
+pub lastTo-last : (n v : ℕ) (p : ℕ → Bool) → Last n p v → lastTo n p ≡ v
 lastTo-last n v p f = go (zero-cases u)
   where
     u : ℕ
