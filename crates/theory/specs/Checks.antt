@@ -3,13 +3,13 @@
 -- refused-fails; that no check of an entry gives 0 (tree-never to read-never); head-refuses, head-goes-on, head-count. Assumes nothing.
 use mathlib.Core.Path.{_≡_, refl, sym, ap, ap₂, _∙_}
 use mathlib.Core.Bool.{Bool, true, false, not, false≢true, true≢false}
-use mathlib.Core.List.{List, [], _∷_, _++_}
+use mathlib.Core.List.{List, [], _∷_, _++_, append-nil}
 use Prim.Native.Nat.{ℕ, _≤_}
 use Rattle.model.specs.Basics.{atPlace, every}
 use Rattle.model.specs.Table.{maxNodes, nodeCount}
 use borrow.Author.Tests.{ltb-false, eq-eqb}
 use Rattle.theory.specs.Bools.{both-true, both-false}
-use Rattle.theory.specs.Ranges.{when-nowhere, append-nil}
+use Rattle.theory.specs.Ranges.{when-nowhere}
 use Rattle.theory.specs.TableFacts.{passes-first, passes-rest}
 use lib.Dec.{eqb, ltb}
 use Rattle.model.specs.Refusals.{Check, shortTable, badCount, badLimit, badLength, noWeight, badWalk, heavyNode, badMarks, shortScratch, markRefused, pageRefused, badOutput, noArchive, formChecks, treeChecks, planChecks, judgeChecks, writeChecks, readChecks, readTree, passes, accepted, firstOf}

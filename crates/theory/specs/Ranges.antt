@@ -382,10 +382,6 @@ listTo-cong (suc n) f g h =
     let last : f (suc n) ≡ g (suc n) = upto-last (λ v. f v ≡ g v) n h in
     rw (listTo-suc n f, listTo-suc n g, before, last)
 
-pub append-nil {ℓ} : {X : Type ℓ} (l : List X) → l ++ [] ≡ l
-append-nil [] = refl
-append-nil (x ∷ l) = ap (λ r. x ∷ r) (append-nil l)
-
 pub length-listTo {ℓ} : {X : Type ℓ} (n : ℕ) (f : ℕ → X) → length (listTo n (λ v. f v ∷ [])) ≡ n
 length-listTo zero f = rw (listTo-zero (λ v. f v ∷ []))
 length-listTo (suc n) f =
