@@ -6,7 +6,7 @@ use native.Mathlib.Omega.{arith}
 use mathlib.Core.Bool.{Bool, true, false, true≢false}
 use mathlib.Core.Path.{_≡_, refl, sym, _∙_, ap}
 use mathlib.Core.Logic.{_⊎_, inl, inr}
-use mathlib.Core.List.{List, [], _∷_, _++_}
+use mathlib.Core.List.{List, [], _∷_, _++_, append-nil}
 use lib.ListN.{length, getD, length-append, List·getD-append}
 use lib.Seq.{getD-append-seam}
 use lib.Dec.{leb}
@@ -14,7 +14,7 @@ use borrow.Author.Tests.{leb-true, leb-false}
 use Rattle.model.specs.Basics.{pick, countTo, listTo}
 use Rattle.theory.specs.Ranges.{Upto, pick-true, pick-false, order-cases, upto-suc, countTo-zero, countTo-suc}
 use Rattle.theory.specs.Ranges.{countTo-yes}
-use Rattle.theory.specs.Ranges.{countTo-no, listTo-zero, listTo-suc, append-nil}
+use Rattle.theory.specs.Ranges.{countTo-no, listTo-zero, listTo-suc}
 
 module _ (p : ℕ → Bool) where
   countTo-step : (n : ℕ) → countTo n p ≤ countTo (suc n) p

@@ -1,6 +1,6 @@
 -- Marks laid node by node, without counting the pages; and what makes a plan of a tree feasible.
--- Defines MarksLaid and FeasibleShape. Proves laid-end, laid-stays, laid-begins, laid-continues (a node by its mark) and
--- feasible-tree. Assumes nothing.
+-- Defines MarksLaid and FeasibleShape. Proves laid-end, laid-stays, laid-begins, laid-continues (a node by its mark)
+-- and feasible-tree. Assumes nothing.
 use Prim.Native.Nat.{ℕ, _+_, _≤_}
 use mathlib.Core.Path.{_≡_, refl}
 use mathlib.Core.Bool.{Bool, true, false}

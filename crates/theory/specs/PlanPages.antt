@@ -1,8 +1,9 @@
--- Pages by number: the page of a node by its mark, and the marks that are good.
--- Proves pageOf-begins, pageOf-continues, pageOf-stays; bad-none, good-first, good-later, good-continues, good-after; with
--- no bad mark good-node, root-begins, not-root, pages-low. Assumes nothing.
+-- Pages by number: the page of a node by its mark, and the marks that are good. Proves pageOf-begins, pageOf-continues,
+-- pageOf-stays; bad-none, good-first, good-later, good-continues, good-after; of marks with none bad good-node,
+-- root-begins, not-root, pages-low. Assumes nothing.
 use Prim.Native.Nat.{ℕ, _≤_, _<_}
 use native.Mathlib.Omega.{arith}
+use native.Mathlib.Nat.{eq-or-lt-of-le}
 use mathlib.Core.Bool.{true, false, not, _&&_, _||_, true≢false}
 use mathlib.Core.Path.{_≡_, refl, sym, _∙_, ap}
 use mathlib.Core.Logic.{_↔_, _⊎_, inl, inr, ⊎-elim}
@@ -15,7 +16,7 @@ use Rattle.model.specs.Plan.{prevAt, parentAt, begins, continues, stays, markAt
 use Rattle.model.specs.Plan.{pageCount, badMark}
 use Rattle.model.specs.declared.Place.the-variants.{Nowhere}
 use Rattle.theory.specs.Bools.{both-true}
-use Rattle.theory.specs.Ranges.{Upto, le-cases, pick-true, pick-false, firstTo-none, firstTo-nowhere}
+use Rattle.theory.specs.Ranges.{Upto, pick-true, pick-false, firstTo-none, firstTo-nowhere}
 use Rattle.theory.specs.Chosen.{countTo-some}
 use Rattle.theory.specs.TableFacts.{SoundFacts}
 use Rattle.theory.specs.PlanPass.{stepBack, pageOf-step}
@@ -69,11 +70,11 @@ good-later t m v low = pick-false (eqb v 1) (hasMark m begins v) _ (ne-eqb v 1 (
 -- a node that continues a run has a sibling before it, in the run
 good-prev : (t m : List ℕ) (v : ℕ) → 1 ≤ v → goodMark t m v ≡ true → hasMark m continues v ≡ true
     → (1 ≤ prevAt t v) × (inRun m (prevAt t v) ≡ true)
-good-prev t m v low good e = go (le-cases 1 v low)
+good-prev t m v low good e = go (eq-or-lt-of-le low)
   where
-    go : (v ≡ 1) ⊎ (1 < v) → (1 ≤ prevAt t v) × (inRun m (prevAt t v) ≡ true)
+    go : (1 ≡ v) ⊎ (1 < v) → (1 ≤ prevAt t v) × (inRun m (prevAt t v) ≡ true)
     go (inl one) =
-        let first : hasMark m begins 1 ≡ true = sym (good-first t m) ∙ ap (goodMark t m) (sym one) ∙ good in
+        let first : hasMark m begins 1 ≡ true = sym (good-first t m) ∙ ap (goodMark t m) one ∙ good in
         absurd (omega (arith, eqb-true (markAt m 1) 1 first, eqb-true (markAt m v) 2 e, ap (markAt m) one))
     go (inr two) =
         let both =
@@ -106,5 +107,5 @@ module _ {t : List ℕ} (s : SoundFacts t) (m : List ℕ) (good : badMark t m �
   -- a node that begins no run is not the root
   pub not-root : (v : ℕ) → 1 ≤ v → hasMark m begins v ≡ false → 2 ≤ v
   not-root v low e =
-      ⊎-elim (λ q. absurd (true≢false (sym root-begins ∙ ap (hasMark m begins) (sym q) ∙ e))) (λ two. two)
-      (le-cases 1 v low)
+      ⊎-elim (λ q. absurd (true≢false (sym root-begins ∙ ap (hasMark m begins) q ∙ e))) (λ two. two)
+      (eq-or-lt-of-le low)

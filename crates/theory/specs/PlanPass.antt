@@ -3,6 +3,7 @@
 -- Defines stepBack, weightTo. Proves pageOf-none, pageOf-step, pageOf-le, weightTo-suc, parentAt-step. Assumes nothing.
 use Prim.Native.Nat.{ℕ, zero, suc, _+_, _-_, _≤_, _<_}
 use native.Mathlib.Omega.{arith}
+use native.Mathlib.Nat.{eq-or-lt-of-le, eq-zero-or-pos}
 use mathlib.Core.Path.{_≡_, refl, sym, _∙_, ap}
 use mathlib.Core.Logic.{_⊎_, inl, inr}
 use mathlib.Core.List.{List}
@@ -11,7 +12,7 @@ use borrow.Author.Tests.{eq-eqb, ne-eqb}
 use Rattle.model.specs.Basics.{pick, sumTo, countTo}
 use Rattle.model.specs.Table.{nodeCount, weightAt, firstAt}
 use Rattle.model.specs.Plan.{prevAt, parentAt, hasMark, begins, continues, pageFrom, pageOf}
-use Rattle.theory.specs.Ranges.{le-cases, zero-cases, steps-enough, pick-true, pick-false, pick-both, sumTo-zero}
+use Rattle.theory.specs.Ranges.{steps-enough, pick-true, pick-false, pick-both, sumTo-zero}
 use Rattle.theory.specs.Ranges.{sumTo-suc, countTo-zero, countTo-le}
 use Rattle.theory.specs.TableFacts.{SoundFacts}
 use Rattle.theory.specs.TableLinks.{first-step, prevAt-none, prevAt-less, parentAt-none, parentAt-one}
@@ -105,10 +106,10 @@ weightTo-suc v t m p = sumTo-suc v (λ u. pick (eqb (pageOf t m u) p) (weightAt 
 -- a node with no sibling before it comes just after its parent
 pub parentAt-step : {t : List ℕ} → SoundFacts t → (v : ℕ) → 1 ≤ v → v ≤ nodeCount t
     → parentAt t v ≡ pick (eqb (prevAt t v) 0) (v - 1) (parentAt t (prevAt t v))
-parentAt-step {t} s v low high = go (zero-cases (prevAt t v))
+parentAt-step {t} s v low high = go (eq-zero-or-pos (prevAt t v))
   where
-    before : prevAt t v ≡ 0 → (v ≡ 1) ⊎ (1 < v) → parentAt t v ≡ v - 1
-    before z (inl one) = ap (parentAt t) one ∙ parentAt-one t ∙ omega arith
+    before : prevAt t v ≡ 0 → (1 ≡ v) ⊎ (1 < v) → parentAt t v ≡ v - 1
+    before z (inl one) = ap (parentAt t) (sym one) ∙ parentAt-one t ∙ omega arith
     before z (inr two) =
         let first : firstAt t (parentAt t v) ≡ v = parent-first s v two high z in
         let within : parentAt t v < v = parentAt-less t v low in
@@ -116,7 +117,7 @@ parentAt-step {t} s v low high = go (zero-cases (prevAt t v))
 
     go : (prevAt t v ≡ 0) ⊎ (1 ≤ prevAt t v)
         → parentAt t v ≡ pick (eqb (prevAt t v) 0) (v - 1) (parentAt t (prevAt t v))
-    go (inl z) = before z (le-cases 1 v low) ∙ sym (pick-true (eqb (prevAt t v) 0) _ _ (eq-eqb (prevAt t v) 0 z))
+    go (inl z) = before z (eq-or-lt-of-le low) ∙ sym (pick-true (eqb (prevAt t v) 0) _ _ (eq-eqb (prevAt t v) 0 z))
     go (inr one) =
         parentAt-later t v low one
         ∙ sym (pick-false (eqb (prevAt t v) 0) _ _ (ne-eqb (prevAt t v) 0 (λ z. omega arith)))

@@ -3,12 +3,12 @@ use Prim.Native.Nat.{ℕ, suc, _+_, _*_, _/_, _%_, _≤_}
 use native.Mathlib.Omega.{arith}
 use native.Mathlib.Numerals.{add-one}
 use mathlib.Core.Path.{_≡_, refl, sym, _∙_, ap}
-use mathlib.Core.List.{List, [], _∷_, _++_, append-assoc}
+use mathlib.Core.List.{List, [], _∷_, _++_, append-assoc, append-nil}
 use lib.ListN.{length, take, set, length-append, length-set}
 use lib.Seq.{take-suc-set, take-all}
 use Rattle.model.specs.Basics.{listTo}
 use Rattle.model.specs.Table.{bytesOf}
-use Rattle.theory.specs.Ranges.{listTo-zero, listTo-suc, append-nil}
+use Rattle.theory.specs.Ranges.{listTo-zero, listTo-suc}
 
 -- word i of the string becomes w
 unfoldable pub putWord : List ℕ → ℕ → ℕ → List ℕ

@@ -1,18 +1,20 @@
--- Laws of a choice by a test, of a place, of two numbers in order, of what goes by earlier numbers, and of the numbers 1
--- to n summed, counted, searched and listed. `Upto n P` says P of each of 1 to n. Assumes nothing.
+-- Laws of a choice by a test, of a place, of two numbers in order, of what goes by earlier numbers, and of the numbers
+-- 1 to n summed, counted, searched and listed. `Upto n P` says P of each of 1 to n. Assumes nothing.
 use Prim.Native.Nat.{ℕ, zero, suc, _+_, _≤_, _<_}
 use native.Mathlib.Omega.{arith}
+use native.Mathlib.Nat.{eq-or-lt-of-le, le-suc-iff, eq-zero-or-pos}
 use mathlib.Core.Bool.{Bool, true, false, true≢false, false≢true}
 use mathlib.Core.Path.{_≡_, refl, sym, _∙_, ap}
 use mathlib.Core.Logic.{_⊎_, inl, inr, ⊎-elim}
 use mathlib.Core.List.{List, [], _∷_, _++_}
 use lib.ListN.{length, getD, length-append, List·getD-append}
 use lib.Seq.{getD-append-seam}
-use lib.Dec.{leb, ltb}
-use borrow.Author.Tests.{leb-true, leb-false, ltb-true, ltb-false}
+use lib.Dec.{leb}
+use borrow.Author.Tests.{leb-true, leb-false}
 use Rattle.model.specs.Basics.{pick, when, atPlace, sumTo, countTo, firstTo, lastTo, listTo}
 use Rattle.model.specs.declared.Place.{Place}
 use Rattle.model.specs.declared.Place.the-variants.{At, Nowhere}
+use Rattle.theory.specs.Bools.{bool-cases}
 
 -- ---- Choices and places
 
@@ -74,18 +76,9 @@ place-cases Nowhere = inr refl
 -- ---- Numbers in order
 
 pub order-cases : (a b : ℕ) → (a < b) ⊎ ((a ≡ b) ⊎ (b < a))
-order-cases a b = go (ltb a b) refl (ltb b a) refl
-  where
-    go : (x : Bool) → ltb a b ≡ x → (y : Bool) → ltb b a ≡ y → (a < b) ⊎ ((a ≡ b) ⊎ (b < a))
-    go true e y h = inl (ltb-true a b e)
-    go false e true h = inr (inr (ltb-true b a h))
-    go false e false h = inr (inl (omega (arith, ltb-false a b e, ltb-false b a h)))
-
-pub le-cases : (a b : ℕ) → a ≤ b → (b ≡ a) ⊎ (a < b)
-le-cases a b h = ⊎-elim inr (⊎-elim (λ e. inl (sym e)) (λ l. absurd (omega arith))) (order-cases a b)
-
-pub zero-cases : (n : ℕ) → (n ≡ 0) ⊎ (1 ≤ n)
-zero-cases n = le-cases 0 n (omega arith)
+order-cases a b =
+    ⊎-elim (λ e. ⊎-elim (λ q. inr (inl q)) inl (eq-or-lt-of-le (leb-true a b e))) (λ e. inr (inr (leb-false a b e)))
+    (bool-cases (leb a b))
 
 -- what holds of a number where it holds of all earlier ones holds of every number
 pub by-earlier {ℓ} : (P : ℕ → Type ℓ) → ((v : ℕ) → ((u : ℕ) → u < v → P u) → P v) → (v : ℕ) → P v
@@ -113,19 +106,11 @@ abbrev pub Upto {ℓ} : ℕ → (ℕ → Type ℓ) → Type ℓ
 Upto n P = (v : ℕ) → 1 ≤ v → v ≤ n → P v
 
 pub upto-suc : (n v : ℕ) → v ≤ suc n → (v ≤ n) ⊎ (v ≡ suc n)
-upto-suc n v h = go (leb v n) refl
-  where
-    go : (b : Bool) → leb v n ≡ b → (v ≤ n) ⊎ (v ≡ suc n)
-    go true e = inl (leb-true v n e)
-    go false e = let l : n < v = leb-false v n e in inr (omega arith)
+upto-suc n v h = le-suc-iff .0 h
 
 -- what holds of 1 to n and of n + 1 holds of 1 to n + 1, and back
 upto-add {ℓ} : (P : ℕ → Type ℓ) (n : ℕ) → Upto n P → P (suc n) → Upto (suc n) P
-upto-add P n below last v low high = go (upto-suc n v high)
-  where
-    go : (v ≤ n) ⊎ (v ≡ suc n) → P v
-    go (inl h) = below v low h
-    go (inr e) = rw e last
+upto-add P n below last v low high = ⊎-elim (below v low) (λ e. rw e last) (upto-suc n v high)
 
 pub upto-less {ℓ} : (P : ℕ → Type ℓ) (n : ℕ) → Upto (suc n) P → Upto n P
 upto-less P n h v low high = h v low (omega arith)
@@ -353,7 +338,7 @@ lastTo-at (suc n) v p e low = go (p (suc n)) refl (lastTo-at n v p)
 
 -- the last one that passes is found
 pub lastTo-last : (n v : ℕ) (p : ℕ → Bool) → Last n p v → lastTo n p ≡ v
-lastTo-last n v p f = go (zero-cases u)
+lastTo-last n v p f = go (eq-zero-or-pos u)
   where
     u : ℕ
     u = lastTo n p
@@ -396,10 +381,6 @@ listTo-cong (suc n) f g h =
     let before : listTo n f ≡ listTo n g = listTo-cong n f g (upto-less (λ v. f v ≡ g v) n h) in
     let last : f (suc n) ≡ g (suc n) = upto-last (λ v. f v ≡ g v) n h in
     rw (listTo-suc n f, listTo-suc n g, before, last)
-
-pub append-nil {ℓ} : {X : Type ℓ} (l : List X) → l ++ [] ≡ l
-append-nil [] = refl
-append-nil (x ∷ l) = ap (λ r. x ∷ r) (append-nil l)
 
 pub length-listTo {ℓ} : {X : Type ℓ} (n : ℕ) (f : ℕ → X) → length (listTo n (λ v. f v ∷ [])) ≡ n
 length-listTo zero f = rw (listTo-zero (λ v. f v ∷ []))

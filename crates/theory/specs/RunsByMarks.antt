@@ -5,6 +5,7 @@
 -- Assumes nothing.
 use Prim.Native.Nat.{ℕ, _≤_, _<_}
 use native.Mathlib.Omega.{arith}
+use native.Mathlib.Nat.{eq-or-lt-of-le}
 use mathlib.Core.Bool.{true, false}
 use mathlib.Core.Path.{_≡_, sym, _∙_, ap}
 use mathlib.Core.Logic.{_⊎_, inl, inr, ⊎-elim}
@@ -15,7 +16,7 @@ use Rattle.model.specs.Plan.{prevAt, parentAt, stays, begins, continues, markAt
 use Rattle.model.specs.Plan.{runLast}
 use Rattle.model.specs.declared.Place.the-variants.{Nowhere}
 use Rattle.theory.specs.Bools.{bool-cases, either-true}
-use Rattle.theory.specs.Ranges.{Upto, le-cases, pick-false}
+use Rattle.theory.specs.Ranges.{Upto, pick-false}
 use Rattle.theory.specs.TableFacts.{SoundFacts}
 use Rattle.theory.specs.TableLinks.{next-le}
 use Rattle.theory.specs.SiblingChains.{After, LastLink, here, step, reach-after, reach-last, reach-total}
@@ -38,11 +39,11 @@ inRun-cases m v e =
     (either-true (hasMark m begins v) (hasMark m continues v) e)
 
 good-few : (t m : List ℕ) (v : ℕ) → 1 ≤ v → goodMark t m v ≡ true → markAt m v ≤ 2
-good-few t m v low good = go (le-cases 1 v low) (bool-cases (hasMark m continues v))
+good-few t m v low good = go (eq-or-lt-of-le low) (bool-cases (hasMark m continues v))
   where
-    go : (v ≡ 1) ⊎ (1 < v) → (hasMark m continues v ≡ true) ⊎ (hasMark m continues v ≡ false) → markAt m v ≤ 2
+    go : (1 ≡ v) ⊎ (1 < v) → (hasMark m continues v ≡ true) ⊎ (hasMark m continues v ≡ false) → markAt m v ≤ 2
     go (inl root) b =
-        let first : hasMark m begins 1 ≡ true = sym (good-first t m) ∙ ap (goodMark t m) (sym root) ∙ good in
+        let first : hasMark m begins 1 ≡ true = sym (good-first t m) ∙ ap (goodMark t m) root ∙ good in
         omega (arith, eqb-true (markAt m 1) 1 first, ap (markAt m) root)
     go (inr two) (inl q) = omega (arith, eqb-true (markAt m v) 2 q)
     go (inr two) (inr q) =

@@ -1,8 +1,10 @@
 -- The plan of a sequence of runs that holds the tree: its marks are good, its runs are those of the sequence, and it is
 -- the only plan with those runs.
--- Defines markOfRuns, marksOf. Proves marks-length, marks-good, runs-of-marks (the same runs), one-plan. Assumes nothing.
+-- Defines markOfRuns, marksOf. Proves marks-length, marks-good, runs-of-marks (the same runs), one-plan. Assumes
+-- nothing.
 use Prim.Native.Nat.{ℕ, zero, suc, _-_, _≤_, _<_}
 use native.Mathlib.Omega.{arith}
+use native.Mathlib.Nat.{eq-or-lt-of-le}
 use mathlib.Core.Bool.{Bool, true, false, not, _&&_, _||_, true≢false, false≢true}
 use mathlib.Core.Path.{_≡_, refl, sym, _∙_, ap}
 use mathlib.Core.Logic.{_⊎_, inl, inr, ⊎-elim}
@@ -18,7 +20,7 @@ use Rattle.model.specs.Runs.{Run, runWith, runsOf}
 use Rattle.model.specs.declared.Place.{Place}
 use Rattle.model.specs.declared.Place.the-variants.{At, Nowhere}
 use Rattle.theory.specs.Bools.{either-true}
-use Rattle.theory.specs.Ranges.{le-cases, pick-true, pick-false, atPlace-at, atPlace-nowhere, listTo-cong}
+use Rattle.theory.specs.Ranges.{pick-true, pick-false, atPlace-at, atPlace-nowhere, listTo-cong}
 use Rattle.theory.specs.Ranges.{length-listTo}
 use Rattle.theory.specs.Ranges.{getD-listTo}
 use Rattle.theory.specs.TableFacts.{SoundFacts}
@@ -153,11 +155,11 @@ module _ {t : List ℕ} (s : SoundFacts t) (rs : List Run) (h : HoldFacts t rs) 
 
   -- its marks are good
   good-mark : (v : ℕ) → 1 ≤ v → v ≤ nodeCount t → goodMark t (marksOf t rs) v ≡ true
-  good-mark v low high = go (le-cases 1 v low)
+  good-mark v low high = go (eq-or-lt-of-le low)
     where
-      go : (v ≡ 1) ⊎ (1 < v) → goodMark t (marksOf t rs) v ≡ true
+      go : (1 ≡ v) ⊎ (1 < v) → goodMark t (marksOf t rs) v ≡ true
       go (inl q) =
-          ap (goodMark t (marksOf t rs)) q
+          ap (goodMark t (marksOf t rs)) (sym q)
           ∙ good-first t (marksOf t rs)
           ∙ mark-is 1 1 (omega arith) (s .count-low) (markOfRuns-first t rs 1 1 (runWith-root s rs h) refl)
       go (inr two) = good-later t (marksOf t rs) v two ∙ by (mark-case t rs v)

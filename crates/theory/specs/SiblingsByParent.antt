@@ -3,6 +3,7 @@
 -- it where that has it for its parent (first-by-parent). Assumes nothing.
 use Prim.Native.Nat.{ℕ, suc, _+_, _≤_, _<_}
 use native.Mathlib.Omega.{arith}
+use native.Mathlib.Nat.{eq-zero-or-pos}
 use mathlib.Core.Bool.{Bool, true, false, _&&_}
 use mathlib.Core.Path.{_≡_, refl, sym, _∙_, ap}
 use mathlib.Core.Logic.{_⊎_, inl, inr}
@@ -13,7 +14,7 @@ use Rattle.model.specs.Basics.{pick, atPlace, firstTo}
 use Rattle.model.specs.Table.{nodeCount, firstAt, nextAt}
 use Rattle.model.specs.Plan.{prevAt, parentAt}
 use Rattle.theory.specs.Bools.{bool-cases, and-true, and-false-left, and-false-right, both-true}
-use Rattle.theory.specs.Ranges.{order-cases, zero-cases, by-earlier, pick-true, pick-false, atPlace-at}
+use Rattle.theory.specs.Ranges.{order-cases, by-earlier, pick-true, pick-false, atPlace-at}
 use Rattle.theory.specs.Ranges.{atPlace-nowhere, firstTo-none}
 use Rattle.theory.specs.Ranges.{firstTo-first}
 use Rattle.theory.specs.TableFacts.{SoundFacts}
@@ -65,7 +66,7 @@ module _ {t : List ℕ} (s : SoundFacts t) where
 
   -- a later sibling comes after it in the chain
   pub sibling-after : (v u : ℕ) → 1 ≤ v → v < u → u ≤ nodeCount t → parentAt t v ≡ parentAt t u → After t v u
-  sibling-after v u = by-earlier AfterSiblings (λ x earlier. after-turn x earlier (zero-cases (prevAt t x))) u v
+  sibling-after v u = by-earlier AfterSiblings (λ x earlier. after-turn x earlier (eq-zero-or-pos (prevAt t x))) u v
 
   -- and so is the next sibling or comes after that
   sibling-next : (v u : ℕ) → 1 ≤ v → v < u → u ≤ nodeCount t → parentAt t v ≡ parentAt t u → Follows v u

@@ -3,7 +3,7 @@
 -- Assumes nothing.
 use Prim.Native.Nat.{ℕ, zero, suc, _-_, _≤_, _<_}
 use native.Mathlib.Omega.{arith}
-use mathlib.Core.Bool.{Bool, true, false}
+use native.Mathlib.Nat.{eq-or-lt-of-le, eq-zero-or-pos}
 use mathlib.Core.Path.{_≡_, refl, sym, _∙_, ap}
 use mathlib.Core.Logic.{_⊎_, inl, inr, ⊎-elim}
 use mathlib.Core.List.{List}
@@ -12,7 +12,8 @@ use borrow.Author.Tests.{eqb-true, eqb-false, eq-eqb, ne-eqb}
 use Rattle.model.specs.Basics.{pick}
 use Rattle.model.specs.Table.{nodeCount, firstAt, nextAt, Chain}
 use Rattle.model.specs.Plan.{prevAt, ownerAt, parentFrom, parentAt}
-use Rattle.theory.specs.Ranges.{Upto, zero-cases, by-earlier, steps-enough, pick-true, pick-false, lastTo-zero}
+use Rattle.theory.specs.Bools.{bool-cases}
+use Rattle.theory.specs.Ranges.{Upto, order-cases, by-earlier, steps-enough, pick-true, pick-false, lastTo-zero}
 use Rattle.theory.specs.Ranges.{lastTo-le, lastTo-none, lastTo-only}
 use Rattle.theory.specs.Ranges.{lastTo-at}
 use Rattle.theory.specs.TableFacts.{SoundFacts}
@@ -20,20 +21,28 @@ use Rattle.theory.specs.TableNumbered.{Numbered, none, some, numbered-le
 
 -- ---- Within a numbering
 
--- the links of node u, where e is the last number
+-- the links of node u, whose last node below it is last, where e is the last number
 record NodeLinks (t : List ℕ) (e u : ℕ) : Type 0 where
+  last : ℕ
+  low : u ≤ last
+  high : last ≤ e
   first-step : 1 ≤ firstAt t u → firstAt t u ≡ suc u
-  first-high : firstAt t u ≤ e
-  next-later : 1 ≤ nextAt t u → u < nextAt t u
+  next-step : 1 ≤ nextAt t u → nextAt t u ≡ suc last
   next-high : nextAt t u ≤ e
+  first-below : (x : ℕ) → u ≤ x → x ≤ last → firstAt t x ≤ last
+  next-below : (x : ℕ) → u < x → x ≤ last → nextAt t x ≤ last
 
 links-more : {t : List ℕ} {e e′ u : ℕ} → e ≤ e′ → NodeLinks t e u → NodeLinks t e′ u
 links-more h l =
     record {
+      last = l .last;
+      low = l .low;
+      high = omega (arith, l .high);
       first-step = l .first-step;
-      first-high = omega (arith, l .first-high);
-      next-later = l .next-later;
+      next-step = l .next-step;
       next-high = omega (arith, l .next-high);
+      first-below = l .first-below;
+      next-below = l .next-below;
     }
 
 -- a link that is not 0 is the number after m, and at most e
@@ -49,72 +58,21 @@ numbered-links : {t : List ℕ} {m v e : ℕ} {c : Chain} → Numbered t m v c e
 numbered-links none = λ u low high. absurd (omega arith)
 numbered-links {t} (some {m = m} {e₁ = e₁} {e₂ = e₂} k s) =
     let kids = numbered-links k in
-    let rest = numbered-links s in
     between-join (NodeLinks t e₂) m e₁ e₂
     (record {
+      last = e₁;
+      low = numbered-le k;
+      high = numbered-le s;
       first-step = entry-step k;
-      first-high = omega (arith, entry-high k, numbered-le s);
-      next-later = λ low. omega (arith, entry-step s low, numbered-le k);
+      next-step = entry-step s;
       next-high = entry-high s;
+      first-below = λ x a b. ⊎-elim (λ q. rw (← q) (entry-high k))
+          (λ l. let f = kids x l b in omega (arith, f .first-below x (omega arith) (f .low), f .high))
+          (eq-or-lt-of-le a);
+      next-below = λ x a b. kids x a b .next-high;
     })
     (λ u low high. links-more (numbered-le s) (kids u low high))
-    rest
-
--- two nodes with the same sibling after them are the same
-abbrev OneBefore : List ℕ → ℕ → ℕ → Type 0
-OneBefore t u u′ = 1 ≤ nextAt t u → nextAt t u ≡ nextAt t u′ → u ≡ u′
-
-numbered-one-before : {t : List ℕ} {m v e : ℕ} {c : Chain} → Numbered t m v c e
-    → Between m e (λ u. Between m e (OneBefore t u))
-numbered-one-before none = λ u low high. absurd (omega arith)
-numbered-one-before {t} (some {m = m} {e₁ = e₁} {e₂ = e₂} k s) =
-    let kids = numbered-links k in
-    let rest = numbered-links s in
-    let in-kids = numbered-one-before k in
-    let in-rest = numbered-one-before s in
-    between-join (λ u. Between m e₂ (OneBefore t u)) m e₁ e₂
-    (between-join (OneBefore t (suc m)) m e₁ e₂
-    (λ a q. refl)
-    (λ u low high a q. absurd (omega (arith, kids u low high .next-high, entry-step s a)))
-    (λ u low high a q. absurd (omega (arith, rest u low high .next-later (omega arith), entry-step s a))))
-    (λ u low high.
-    between-join (OneBefore t u) m e₁ e₂
-    (λ a q. absurd (omega (arith, kids u low high .next-high, entry-step s (omega arith))))
-    (in-kids u low high)
-    (λ u′ low′ high′ a q. absurd
-    (omega (arith, kids u low high .next-high, rest u′ low′ high′ .next-later (omega arith)))))
-    (λ u low high.
-    between-join (OneBefore t u) m e₁ e₂
-    (λ a q. absurd (omega (arith, rest u low high .next-later a, entry-step s (omega arith))))
-    (λ u′ low′ high′ a q. absurd (omega (arith, kids u′ low′ high′ .next-high, rest u low high .next-later a)))
-    (in-rest u low high))
-
--- a first child is no sibling of a node before it
-abbrev Apart : List ℕ → ℕ → ℕ → Type 0
-Apart t u u′ = 1 ≤ firstAt t u → firstAt t u ≡ nextAt t u′ → ⊥
-
-numbered-apart : {t : List ℕ} {m v e : ℕ} {c : Chain} → Numbered t m v c e → Between m e (λ u. Between m e (Apart t u))
-numbered-apart none = λ u low high. absurd (omega arith)
-numbered-apart {t} (some {m = m} {e₁ = e₁} {e₂ = e₂} k s) =
-    let kids = numbered-links k in
-    let rest = numbered-links s in
-    let in-kids = numbered-apart k in
-    let in-rest = numbered-apart s in
-    between-join (λ u. Between m e₂ (Apart t u)) m e₁ e₂
-    (between-join (Apart t (suc m)) m e₁ e₂
-    (λ a q. omega (arith, entry-high k, entry-step s (omega arith)))
-    (λ u low high a q. omega (arith, entry-step k a, kids u low high .next-later (omega arith)))
-    (λ u low high a q. omega (arith, entry-step k a, numbered-le k, rest u low high .next-later (omega arith))))
-    (λ u low high.
-    between-join (Apart t u) m e₁ e₂
-    (λ a q. omega (arith, kids u low high .first-high, entry-step s (omega arith)))
-    (in-kids u low high)
-    (λ u′ low′ high′ a q. omega (arith, kids u low high .first-high, rest u′ low′ high′ .next-later (omega arith))))
-    (λ u low high.
-    between-join (Apart t u) m e₁ e₂
-    (λ a q. omega (arith, rest u low high .first-step a, entry-step s (omega arith)))
-    (λ u′ low′ high′ a q. omega (arith, rest u low high .first-step a, kids u′ low′ high′ .next-high))
-    (in-rest u low high))
+    (numbered-links s)
 
 -- the node that links to v, after m and before v
 pub record Source (t : List ℕ) (m v : ℕ) : Type 0 where
@@ -134,25 +92,30 @@ numbered-source {t} (some {m = m} {e₁ = e₁} {e₂ = e₂} k s) =
     let rest = numbered-source s in
     between-join (λ u. (u ≡ suc m → ⊥) → Source t m u) m e₁ e₂
     (λ other. absurd (other refl))
-    (λ u low high other. by-first u low (kids u low high) (eqb u (firstAt t (suc m))) refl)
-    (λ u low high other. by-next u low (rest u low high) (eqb u (nextAt t (suc m))) refl)
-  where
-    by-first : (u : ℕ) → suc m < u → ((u ≡ firstAt t (suc m) → ⊥) → Source t (suc m) u)
-        → (b : Bool) → eqb u (firstAt t (suc m)) ≡ b → Source t m u
-    by-first u low ih true q =
-        record { from = suc m; low = omega arith; earlier = low; link = inl (sym (eqb-true u (firstAt t (suc m)) q)) }
-    by-first u low ih false q = source-less (omega arith) (ih (eqb-false u (firstAt t (suc m)) q))
-
-    by-next : (u : ℕ) → e₁ < u → ((u ≡ nextAt t (suc m) → ⊥) → Source t e₁ u)
-        → (b : Bool) → eqb u (nextAt t (suc m)) ≡ b → Source t m u
-    by-next u low ih true q =
-        record {
-          from = suc m;
-          low = omega arith;
-          earlier = omega (arith, numbered-le k);
-          link = inr (sym (eqb-true u (nextAt t (suc m)) q));
-        }
-    by-next u low ih false q = source-less (omega (arith, numbered-le k)) (ih (eqb-false u (nextAt t (suc m)) q))
+    (λ u low high other.
+    ⊎-elim
+    (λ q. record {
+      from = suc m;
+      low = omega arith;
+      earlier = low;
+      link = inl
+          (sym (eqb-true u (firstAt t (suc m)) q));
+    })
+    (λ q. source-less (omega arith) (kids u low high (eqb-false u (firstAt t (suc m)) q)))
+    (bool-cases (eqb u (firstAt t (suc m)))))
+    (λ u low high other.
+    let below : suc m ≤ e₁ = numbered-le k in
+    ⊎-elim
+    (λ q.
+    record {
+      from = suc m;
+      low = omega arith;
+      earlier = omega arith;
+      link = inr
+          (sym (eqb-true u (nextAt t (suc m)) q));
+    })
+    (λ q. source-less (omega arith) (rest u low high (eqb-false u (nextAt t (suc m)) q)))
+    (bool-cases (eqb u (nextAt t (suc m)))))
 
 -- ---- The links of a table of sound form
 
@@ -165,18 +128,19 @@ module _ {t : List ℕ} (s : SoundFacts t) where
   first-step v low high a = node-links v low high .first-step a
 
   pub first-le : (v : ℕ) → 1 ≤ v → v ≤ nodeCount t → firstAt t v ≤ nodeCount t
-  first-le v low high = node-links v low high .first-high
+  first-le v low high =
+      let l = node-links v low high in omega (arith, l .first-below v (omega arith) (l .low), l .high)
 
   pub first-cases : (v : ℕ) → 1 ≤ v → v ≤ nodeCount t
       → (firstAt t v ≡ 0) ⊎ ((firstAt t v ≡ suc v) × (suc v ≤ nodeCount t))
   first-cases v low high =
       ⊎-elim inl
       (λ one. inr (first-step v low high one, omega (arith, first-step v low high one, first-le v low high)))
-      (zero-cases (firstAt t v))
+      (eq-zero-or-pos (firstAt t v))
 
   -- the sibling after a node comes later
   pub next-later : (v : ℕ) → 1 ≤ v → v ≤ nodeCount t → 1 ≤ nextAt t v → v < nextAt t v
-  next-later v low high a = node-links v low high .next-later a
+  next-later v low high a = let l = node-links v low high in omega (arith, l .next-step a, l .low)
 
   pub next-le : (v : ℕ) → 1 ≤ v → v ≤ nodeCount t → nextAt t v ≤ nodeCount t
   next-le v low high = node-links v low high .next-high
@@ -184,7 +148,7 @@ module _ {t : List ℕ} (s : SoundFacts t) where
   pub next-cases : (v : ℕ) → 1 ≤ v → v ≤ nodeCount t
       → (nextAt t v ≡ 0) ⊎ ((v < nextAt t v) × (nextAt t v ≤ nodeCount t))
   next-cases v low high =
-      ⊎-elim inl (λ one. inr (next-later v low high one, next-le v low high)) (zero-cases (nextAt t v))
+      ⊎-elim inl (λ one. inr (next-later v low high one, next-le v low high)) (eq-zero-or-pos (nextAt t v))
 
   -- one node has v as its first child, one as the sibling after it, and not both
   pub first-one : (u u′ : ℕ) → 1 ≤ u → u ≤ nodeCount t → 1 ≤ u′ → u′ ≤ nodeCount t → 1 ≤ firstAt t u
@@ -194,11 +158,26 @@ module _ {t : List ℕ} (s : SoundFacts t) where
 
   pub next-one : (u u′ : ℕ) → 1 ≤ u → u ≤ nodeCount t → 1 ≤ u′ → u′ ≤ nodeCount t → 1 ≤ nextAt t u
       → nextAt t u ≡ nextAt t u′ → u ≡ u′
-  next-one u u′ low high low′ high′ = numbered-one-before (sound-tree s) u low high u′ low′ high′
+  next-one u u′ low high low′ high′ a q = by (order-cases u u′)
+    where
+      apart : (v w : ℕ) → 1 ≤ v → v < w → w ≤ nodeCount t → 1 ≤ nextAt t v → nextAt t v ≡ nextAt t w → ⊥
+      apart v w one less top b e =
+          let l = node-links v one (omega arith) in
+          let later : w < nextAt t w = next-later w (omega arith) top (omega arith) in
+          omega (arith, l .next-step b, l .next-below w less (omega (arith, l .next-step b)))
+
+      by : (u < u′) ⊎ ((u ≡ u′) ⊎ (u′ < u)) → u ≡ u′
+      by (inl h) = absurd (apart u u′ low h high′ a q)
+      by (inr (inl e)) = e
+      by (inr (inr h)) = absurd (apart u′ u low′ h high (omega arith) (sym q))
 
   pub first-not-next : (u u′ : ℕ) → 1 ≤ u → u ≤ nodeCount t → 1 ≤ u′ → u′ ≤ nodeCount t → 1 ≤ firstAt t u
       → firstAt t u ≡ nextAt t u′ → ⊥
-  first-not-next u u′ low high low′ high′ = numbered-apart (sound-tree s) u low high u′ low′ high′
+  first-not-next u u′ low high low′ high′ a q =
+      let l = node-links u′ low′ high′ in
+      let step : firstAt t u ≡ suc u = first-step u low high a in
+      let end : u ≡ l .last = omega (arith, l .next-step (omega arith)) in
+      omega (arith, l .first-below u (omega (arith, l .low)) (omega arith))
 
   -- every other node is linked to
   pub linked : (v : ℕ) → 2 ≤ v → v ≤ nodeCount t → Source t 0 v
@@ -289,7 +268,7 @@ parentAt-one t = parentAt-first t 1 (omega arith) (prevAt-one t) ∙ ownerAt-one
 
 pub parentAt-less : (t : List ℕ) (v : ℕ) → 1 ≤ v → parentAt t v < v
 parentAt-less t =
-    by-earlier (λ v. 1 ≤ v → parentAt t v < v) (λ v earlier low. go v earlier low (zero-cases (prevAt t v)))
+    by-earlier (λ v. 1 ≤ v → parentAt t v < v) (λ v earlier low. go v earlier low (eq-zero-or-pos (prevAt t v)))
   where
     go : (v : ℕ) → ((u : ℕ) → u < v → 1 ≤ u → parentAt t u < u) → 1 ≤ v → (prevAt t v ≡ 0) ⊎ (1 ≤ prevAt t v)
         → parentAt t v < v

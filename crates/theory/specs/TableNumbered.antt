@@ -4,8 +4,10 @@
 -- nodes. Assumes nothing.
 use Prim.Native.Nat.{ℕ, zero, suc, _+_, _*_, _≤_, _<_}
 use native.Mathlib.Omega.{arith}
+use native.Mathlib.Nat.{eq-or-lt-of-le}
 use mathlib.Core.Bool.{Bool, true, false, not, _&&_}
 use mathlib.Core.Path.{_≡_, refl, sym, _∙_, ap}
+use mathlib.Core.Logic.{⊎-elim}
 use mathlib.Core.List.{List, [], _∷_}
 use lib.Dec.{eqb, ltb, leb}
 use borrow.Author.Tests.{eqb-true, eq-eqb, lt-ltb, leb-true, leb-false, not-false}
@@ -14,7 +16,7 @@ use Rattle.model.specs.Table.{nodeCount, limitOf, weightAt, labelAt, firstAt, n
 use Rattle.model.specs.Table.{chainFrom, treeOf}
 use Rattle.model.specs.declared.Place.{Place}
 use Rattle.model.specs.declared.Place.the-variants.{At, Nowhere}
-use Rattle.theory.specs.Bools.{both-true}
+use Rattle.theory.specs.Bools.{bool-cases, both-true}
 use Rattle.theory.specs.PlanShape.{size, EachWithin, Positive}
 use Rattle.theory.specs.Ranges.{pick-true, pick-false, when-false, when-nowhere, at-nowhere}
 use Rattle.theory.specs.TableFacts.{SoundFacts, AcceptedFacts}
@@ -223,12 +225,10 @@ Between m e P = (u : ℕ) → m < u → u ≤ e → P u
 
 -- the node m + 1, those below it to e₁, and those after them to e₂ are all from m + 1 to e₂
 pub between-join : (P : ℕ → Type 0) (m e₁ e₂ : ℕ) → P (suc m) → Between (suc m) e₁ P → Between e₁ e₂ P → Between m e₂ P
-between-join P m e₁ e₂ here below after u low high = go (leb u (suc m)) refl (leb u e₁) refl
+between-join P m e₁ e₂ here below after u low high = ⊎-elim (λ e. rw (← e) here) later (eq-or-lt-of-le low)
   where
-    go : (a : Bool) → leb u (suc m) ≡ a → (b : Bool) → leb u e₁ ≡ b → P u
-    go true p b q = let l : u ≤ suc m = leb-true u (suc m) p in let same : u ≡ suc m = omega arith in rw same here
-    go false p true q = below u (leb-false u (suc m) p) (leb-true u e₁ q)
-    go false p false q = after u (leb-false u e₁ q) high
+    later : suc m < u → P u
+    later l = ⊎-elim (λ e. below u l (leb-true u e₁ e)) (λ e. after u (leb-false u e₁ e) high) (bool-cases (leb u e₁))
 
 module _ (P : ℕ → ℕ → Type 0) where
   pub numbered-each : {t : List ℕ} {m v e : ℕ} {c : Chain} → Numbered t m v c e
