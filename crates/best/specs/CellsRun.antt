@@ -17,7 +17,7 @@ use Rattle.model.specs.Basics.{pick}
 use Rattle.model.specs.Table.{maxNodes, maxLimit}
 use Rattle.model.specs.Steps.{Member, Child, restSum, gainSum, takenCount, largestGain, asMember, runOf, reduce, lightest, stopsAt}
 use Rattle.theory.specs.Ranges.{pick-true, pick-false}
-use Rattle.theory.specs.Reduce.{Each, GainFits, sumOf, leastSum, reduce-least, least-gain}
+use Rattle.theory.specs.Reduce.{EachMember, GainFits, sumOf, leastSum, reduce-least, least-gain}
 use Rattle.theory.specs.ReduceCount.{Sound, asMember-sound, hasGain, countGain, countGain-cons, Counted, Figures, figuresOf, takeUpTo, takeUpTo-room, byCount, byCount-room, reduce-by-count}
 use Rattle.best.specs.Cells.{Cell, page, lower, tryRun, cellAt, onward, GoodChild, Good, run-taken, entry-within, cell-entry}
 use Rattle.best.specs.CellsFront.{Earlier, EachGood, frontOf}
@@ -82,13 +82,13 @@ total-high K (k ∷ run) g =
     let ih = total-high K run (g .1) in
     (omega (arith, g .0 .fits, ih .0), omega (arith, g .0 .light, ih .1))
 
-pub members-sound : (K : ℕ) (run : List Child) → Good K run → Each Sound (members run)
-unfolding Each Good
+pub members-sound : (K : ℕ) (run : List Child) → Good K run → EachMember Sound (members run)
+unfolding EachMember Good
 members-sound K [] g = tt
 members-sound K (k ∷ run) g = (asMember-sound k (g .0 .fits), members-sound K run (g .1))
 
-members-fit : (K : ℕ) (run : List Child) → Good K run → Each GainFits (members run)
-unfolding Each Good asMember
+members-fit : (K : ℕ) (run : List Child) → Good K run → EachMember GainFits (members run)
+unfolding EachMember Good asMember
 members-fit K [] g = tt
 members-fit K (k ∷ run) g = (g .0 .fits, members-fit K run (g .1))
 

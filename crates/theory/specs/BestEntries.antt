@@ -1,6 +1,6 @@
 -- The level theorem: the entry at a start is a plan of the level (`entry-sound`), and no plan of the level that is usable at that start
 -- is better (`entry-least`): neither fewer pages, nor as many and a lighter rest.
--- Defines Reaches. Assumes nothing.
+-- Defines Usable. Assumes nothing.
 use Prim.Native.Nat.{ℕ, _+_, _≤_}
 use mathlib.Core.Path.{_≡_, refl}
 use mathlib.Core.Bool.{Bool, true, false}
@@ -24,7 +24,7 @@ use Rattle.model.specs.Steps.{
   entryAt,
   stretched,
 }
-use Rattle.theory.specs.BestGreedy.{best, Picked, pickedNone, pickedOne, Gainful, Spared, reduce-least, Offered, offeredNone, offeredOne, reduce-offered}
+use Rattle.theory.specs.BestGreedy.{best, Picked, pickedNone, pickedOne, Gainful, Spared, runOf-least, Offered, offeredNone, offeredOne, runOf-offered}
 use Rattle.theory.specs.BestLevel.{
   Fair,
   stopping,
@@ -94,25 +94,25 @@ run-goes {K} {n = n} {l = l} (offeredOne {k = k} {m = m} {run = run} o r) g p h 
     run-goes r (g .1) (go o refl (omega arith) refl part refl p) (omega arith) (reachable-more K l k run g s) (omega arith)
 
 -- the entry e at start s is a plan of the level, usable there
-pub record Reaches (K s : ℕ) (ks : List Child) (e : Entry) : Type 0 where
+pub record Usable (K s : ℕ) (ks : List Child) (e : Entry) : Type 0 where
   pub sum : ℕ
   pub run : RunSoFar
   pub level : Level K ks (e .choices) (e .count) sum run
   pub total : e .rest ≡ s + sum
   pub within : e .rest ≤ K
 
-stayed-reaches : {K s : ℕ} {k : Child} {ks : List Child} {e : Entry} → Reaches K (s + k .rest) ks e → Reaches K s (k ∷ ks) (stayed e)
-stayed-reaches {k = k} r = record { sum = r .sum + k .rest; run = noRun; level = stay refl (r .level); total = omega arith; within = r .within }
+stayed-usable : {K s : ℕ} {k : Child} {ks : List Child} {e : Entry} → Usable K (s + k .rest) ks e → Usable K s (k ∷ ks) (stayed e)
+stayed-usable {k = k} r = record { sum = r .sum + k .rest; run = noRun; level = stay refl (r .level); total = omega arith; within = r .within }
 
-ran-reaches : {K s : ℕ} {k : Child} {run ks : List Child} {e : Entry} {ms : List Member}
+ran-usable : {K s : ℕ} {k : Child} {run ks : List Child} {e : Entry} {ms : List Member}
     → Gainful (k ∷ run)
     → Offered (k ∷ run) ms
     → Reachable K 0 run
     → restSum ms ≤ K
-    → Reaches K s ks e
-    → Reaches K s (reverseAux (k ∷ run) ks) (ran ms e)
+    → Usable K s ks e
+    → Usable K s (reverseAux (k ∷ run) ks) (ran ms e)
 unfolding restSum takenCount runChoices
-ran-reaches {e = e} g (offeredOne {m = m} {ms = ms} o q) a h r =
+ran-usable {e = e} g (offeredOne {m = m} {ms = ms} o q) a h r =
     let n : ℕ = e .count + 1 + (pick (m .taken) 1 0 + takenCount ms) in
     let x : Extended _ _ _ n _ = run-goes q (g .1) (begin o (omega arith) refl refl (r .level)) (omega arith) a (omega arith) in
     record {
@@ -142,10 +142,10 @@ stretched-cons K s run k ks = rw stopsAt-stopping
 
 -- the run of one child is within K
 alone : (K : ℕ) (k : Child) → k .gain ≤ k .rest → k .rest ≤ K → Spared K 0 (runOf K (k ∷ []))
-alone K k g h = reduce-least (g, tt) (pickedOne (best refl refl) refl refl (pickedNone refl refl)) (omega arith)
+alone K k g h = runOf-least (g, tt) (pickedOne (best refl refl) refl refl (pickedNone refl refl)) (omega arith)
 
 abbrev EntrySound : ℕ → List Child → Type 0
-EntrySound K ks = (s : ℕ) → s ≤ K → Reaches K s ks (entryAt K ks s)
+EntrySound K ks = (s : ℕ) → s ≤ K → Usable K s ks (entryAt K ks s)
 
 abbrev StretchSound : ℕ → List Child → Type 0
 StretchSound K ks =
@@ -153,7 +153,7 @@ StretchSound K ks =
     → s ≤ K
     → Gainful (k ∷ run)
     → Reachable K 0 run
-    → AllOf (Reaches K s (reverseAux (k ∷ run) ks)) (stretched K s (k ∷ run) ks)
+    → AllOf (Usable K s (reverseAux (k ∷ run) ks)) (stretched K s (k ∷ run) ks)
 
 entry-sound-nil : (K : ℕ) → EntrySound K []
 unfolding entryAt
@@ -192,16 +192,16 @@ entry-sound-cons : (K : ℕ) (k : Child) (ks : List Child)
     → StretchSound K ks
     → EntrySound K (k ∷ ks)
 entry-sound-cons K k ks f before stretch s h =
-    let P : Entry → Type 0 = Reaches K s (k ∷ ks) in
+    let P : Entry → Type 0 = Usable K s (k ∷ ks) in
     let single : Gainful (k ∷ []) = (f .1, tt) in
     let one : AllOf P (running K (runOf K (k ∷ [])) (entryAt K ks s)) =
     running-all P K (runOf K (k ∷ [])) (entryAt K ks s)
-    (λ w. ran-reaches {run = []} single (reduce-offered K (k ∷ []) single) tt w (before s h))
+    (λ w. ran-usable {run = []} single (runOf-offered K (k ∷ []) single) tt w (before s h))
     in
     rw entryAt-cons
     (winner-all P (λ (c : Entry). Unit {0}) s (candidates K k ks s)
     (all-append P (staying K s k (entryAt K ks (s + k .rest))) _
-    (staying-all P K s k (entryAt K ks (s + k .rest)) (λ w. stayed-reaches (before (s + k .rest) w)))
+    (staying-all P K s k (entryAt K ks (s + k .rest)) (λ w. stayed-usable (before (s + k .rest) w)))
     (all-append P (running K (runOf K (k ∷ [])) (entryAt K ks s)) _ one (stretch s k [] h single tt)))
     (any-alone (λ (c : Entry). Unit {0}) K s k ks f tt))
 
@@ -214,7 +214,7 @@ unfolding pick
 stretch-sound-cons K k ks f before stretch s j run h g a = rw stretched-cons (ask (stopping K (lightest (j ∷ run))) refl)
   where
     P : Entry → Type 0
-    P = Reaches K s (reverseAux (k ∷ j ∷ run) ks)
+    P = Usable K s (reverseAux (k ∷ j ∷ run) ks)
 
     gains : Gainful (k ∷ j ∷ run)
     gains = (f .1, g)
@@ -225,7 +225,7 @@ stretch-sound-cons K k ks f before stretch s j run h g a = rw stretched-cons (as
         let on : stopping K (0 + lightest (j ∷ run)) ≡ false = stopping-less K _ _ e (omega arith) in
         let ms : List Member = runOf K (k ∷ j ∷ run) in
         all-append P (running K ms (entryAt K ks s)) _
-        (running-all P K ms (entryAt K ks s) (λ w. ran-reaches {run = j ∷ run} gains (reduce-offered K (k ∷ j ∷ run) gains) on w (before s h)))
+        (running-all P K ms (entryAt K ks s) (λ w. ran-usable {run = j ∷ run} gains (runOf-offered K (k ∷ j ∷ run) gains) on w (before s h)))
         (stretch s k (j ∷ run) h gains on)
 
 sound : (K : ℕ) (ks : List Child) → Fair K ks → EntrySound K ks × StretchSound K ks
@@ -234,7 +234,7 @@ sound K (k ∷ ks) f =
     let r : EntrySound K ks × StretchSound K ks = sound K ks (f .2) in
     (entry-sound-cons K k ks f (r .0) (r .1), stretch-sound-cons K k ks f (r .0) (r .1))
 
-pub entry-sound : (K : ℕ) (ks : List Child) → Fair K ks → (s : ℕ) → s ≤ K → Reaches K s ks (entryAt K ks s)
+pub entry-sound : (K : ℕ) (ks : List Child) → Fair K ks → (s : ℕ) → s ≤ K → Usable K s ks (entryAt K ks s)
 entry-sound K ks f = sound K ks f .0
 
 -- ---- No usable plan of the level is better
@@ -253,20 +253,20 @@ record Least (K : ℕ) (ks : List Child) : Type 0 where
       → AnyOf (λ (c : Entry). Below c t (s + x)) (stretched K s run ks)
 
 -- a run has members
-abbrev Peopled : List Child → RunSoFar → Type 0
-Peopled [] noRun = Unit {0}
-Peopled [] (aRun y l) = ⊥
-Peopled (k ∷ ks) o = Unit {0}
+abbrev HasMembers : List Child → RunSoFar → Type 0
+HasMembers [] noRun = Unit {0}
+HasMembers [] (aRun y l) = ⊥
+HasMembers (k ∷ ks) o = Unit {0}
 
-peopled : {K n x : ℕ} {ks : List Child} {cs : List Choice} {o : RunSoFar} → Level K ks cs n x o → Peopled ks o
-peopled (empty e f) = tt
-peopled (stay e p) = tt
-peopled (begin o h e f p) = tt
-peopled (go o e h f s q p) = tt
+has-members : {K n x : ℕ} {ks : List Child} {cs : List Choice} {o : RunSoFar} → Level K ks cs n x o → HasMembers ks o
+has-members (empty e f) = tt
+has-members (stay e p) = tt
+has-members (begin o h e f p) = tt
+has-members (go o e h f s q p) = tt
 
 least-nil : (K : ℕ) → Least K []
 unfolding entryAt
-least-nil K = record { entry = λ s l h. entry s l h; stretch = λ s t g p l w e h i. absurd (peopled l) }
+least-nil K = record { entry = λ s l h. entry s l h; stretch = λ s t g p l w e h i. absurd (has-members l) }
   where
     entry : (s : ℕ) {cs : List Choice} {n x : ℕ} {o : RunSoFar} → Level K [] cs n x o → s + x ≤ K → Below (entryAt K [] s) n (s + x)
     entry s (empty e f) h = lighter (omega arith) (omega arith)
@@ -308,7 +308,7 @@ stretch-least-cons : (s t : ℕ) {K m z n x y l : ℕ} {k : Child} {run ks : Lis
     → AnyOf (λ (c : Entry). Below c t (s + x)) (longer K s run k ks)
 stretch-least-cons s t {K} {k = k} {run = run} {ks = ks} f before g p (begin o a b c l) w e h i =
     let ms : List Member = runOf K (k ∷ run) in
-    let least : Spared K _ ms = reduce-least (f .1, g) (pickedOne o refl refl p) (omega arith) in
+    let least : Spared K _ ms = runOf-least (f .1, g) (pickedOne o refl refl p) (omega arith) in
     any-left _ (running K ms (entryAt K ks s)) _
     (running-any _ K ms (entryAt K ks s) (least .within) (ran-below ms (before .entry s l h) (least .fewest) (omega arith)))
 stretch-least-cons s t {K} {k = k} {run = run} {ks = ks} f before g p (go {l′ = l′} o a b c d u l) w e h i =

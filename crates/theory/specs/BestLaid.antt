@@ -14,7 +14,7 @@ use Rattle.model.specs.Steps.{Child, Choice, entryAt, childOf, childrenFrom, ch
 use Rattle.theory.specs.PlanShape.{weighed, EachWithin}
 use Rattle.theory.specs.BestGreedy.{Offers, best, second}
 use Rattle.theory.specs.BestLevel.{Fair, RunSoFar, noRun, aRun, Level, empty, stay, begin, go, run-within}
-use Rattle.theory.specs.BestEntries.{Reaches}
+use Rattle.theory.specs.BestEntries.{Usable}
 use Rattle.theory.specs.BestNodes.{bestEntry, secondEntry, node-rest, node-best, SecondPlan, node-second, children-fair}
 use Rattle.theory.specs.PlanLaid.{FeasibleShape}
 use Rattle.theory.specs.PlanWeighs.{Weighs, node-page, weighs-end, weighs-stays, weighs-begins, weighs-continues}
@@ -30,7 +30,7 @@ abbrev marksBelow : Bool → ℕ → ℕ → Chain → Bool → List ℕ
 marksBelow gains K w kids b = layMarks gains K kids (choicesOf gains K w kids b)
 
 -- a node that follows a plan with e pages more than its best, and rest r
-record LaidBelow (gains : Bool) (K w : ℕ) (kids : Chain) (b : Bool) (e r : ℕ) : Type 0 where
+record NodeLaid (gains : Bool) (K w : ℕ) (kids : Chain) (b : Bool) (e r : ℕ) : Type 0 where
   sum : ℕ
   carry : ℕ
   pages : ℕ
@@ -50,7 +50,7 @@ HasRoom K (aRun y l) c = y + c ≤ K
 
 -- The marks of a chain after some siblings, laid under the choices ds of a plan of the level with n pages, and x that stays: the choices
 -- are split into those of the chain and those of the siblings before, for which the plan is one too.
-record Laid (gains : Bool) (K : ℕ) (c : Chain) (before : List Child) (ds : List Choice) (n x : ℕ) : Type 0 where
+record ChainLaid (gains : Bool) (K : ℕ) (c : Chain) (before : List Child) (ds : List Choice) (n x : ℕ) : Type 0 where
   own : List Choice
   others : List Choice
   split : reverseAux own others ≡ ds
@@ -70,11 +70,11 @@ room-zero : {K n x : ℕ} {ks : List Child} {cs : List Choice} (o : RunSoFar) �
 room-zero noRun l = tt
 room-zero (aRun y z) l = omega (arith, run-within l)
 
-laid-end : {gains : Bool} {K n x : ℕ} {before : List Child} {ds : List Choice} {o : RunSoFar}
+chain-laid-end : {gains : Bool} {K n x : ℕ} {before : List Child} {ds : List Choice} {o : RunSoFar}
     → Level K before ds n x o
-    → Laid gains K end before ds n x
+    → ChainLaid gains K end before ds n x
 unfolding layMarks pagesBelow
-laid-end {gains} {K} {n} {x} {o = o} l =
+chain-laid-end {gains} {K} {n} {x} {o = o} l =
     record {
       own = [];
       others = _;
@@ -95,11 +95,11 @@ laid-end {gains} {K} {n} {x} {o = o} l =
 -- what a node's children weigh under each plan that it offers
 abbrev Offering : Bool → ℕ → ℕ → Chain → Type 0
 Offering gains K w kids =
-    (b : Bool) (e r : ℕ) → Offers (childOf gains K w (childrenOf gains K kids)) b e r → LaidBelow gains K w kids b e r
+    (b : Bool) (e r : ℕ) → Offers (childOf gains K w (childrenOf gains K kids)) b e r → NodeLaid gains K w kids b e r
 
 -- one sibling more, before those of `next`
 module _ {gains : Bool} {K w l n x stayed carried pages : ℕ} {kids next : Chain} {before : List Child} {ds : List Choice} (own : List Choice) where
-  laid-node : {count sum : ℕ} {others : List Choice} {run : RunSoFar}
+  chain-laid-node : {count sum : ℕ} {others : List Choice} {run : RunSoFar}
       → Offering gains K w kids
       → reverseAux own others ≡ ds
       → Level K (childOf gains K w (childrenOf gains K kids) ∷ before) others count sum run
@@ -107,10 +107,10 @@ module _ {gains : Bool} {K w l n x stayed carried pages : ℕ} {kids next : Chai
       → HasRoom K run carried
       → x ≡ sum + stayed
       → n + pagesBelow gains K next ≡ count + pages
-      → Laid gains K (node w l kids next) before ds n x
+      → ChainLaid gains K (node w l kids next) before ds n x
   unfolding layMarks pagesBelow
-  laid-node kid s (stay {cs = cs} {n = m} {x′ = y} {o = o} e v) q h t u =
-      let p : LaidBelow gains K w kids false 0 _ = kid false 0 _ (best refl refl) in
+  chain-laid-node kid s (stay {cs = cs} {n = m} {x′ = y} {o = o} e v) q h t u =
+      let p : NodeLaid gains K w kids false 0 _ = kid false 0 _ (best refl refl) in
       record {
         own = record { mark = stays; second = false } ∷ own;
         others = cs;
@@ -127,8 +127,8 @@ module _ {gains : Bool} {K w l n x stayed carried pages : ℕ} {kids next : Chai
         total = omega arith;
         counted = omega arith;
       }
-  laid-node kid s (begin {cs = cs} {b = b} {e = more} {r = r} {n′ = m} {x = y} {o = o} f c e z v) q h t u =
-      let p : LaidBelow gains K w kids b more r = kid b more r f in
+  chain-laid-node kid s (begin {cs = cs} {b = b} {e = more} {r = r} {n′ = m} {x = y} {o = o} f c e z v) q h t u =
+      let p : NodeLaid gains K w kids b more r = kid b more r f in
       record {
         own = record { mark = begins; second = b } ∷ own;
         others = cs;
@@ -145,8 +145,8 @@ module _ {gains : Bool} {K w l n x stayed carried pages : ℕ} {kids next : Chai
         total = t;
         counted = omega arith;
       }
-  laid-node kid s (go {cs = cs} {b = b} {e = more} {r = r} {n′ = m} {x = y} {y′ = z} {l′ = y₂} f c d e g i v) q h t u =
-      let p : LaidBelow gains K w kids b more r = kid b more r f in
+  chain-laid-node kid s (go {cs = cs} {b = b} {e = more} {r = r} {n′ = m} {x = y} {y′ = z} {l′ = y₂} f c d e g i v) q h t u =
+      let p : NodeLaid gains K w kids b more r = kid b more r f in
       record {
         own = record { mark = continues; second = b } ∷ own;
         others = cs;
@@ -165,14 +165,14 @@ module _ {gains : Bool} {K w l n x stayed carried pages : ℕ} {kids next : Chai
       }
 
 -- the children of a node under a plan of their level
-record LaidAll (gains : Bool) (K : ℕ) (c : Chain) (ds : List Choice) (n x : ℕ) : Type 0 where
+record ChildrenLaid (gains : Bool) (K : ℕ) (c : Chain) (ds : List Choice) (n x : ℕ) : Type 0 where
   carry : ℕ
   pages : ℕ
   marks : Weighs K false c (layMarks gains K c (reverse ds)) x carry pages
   counted : pages ≡ n + pagesBelow gains K c
 
-laid-all : {gains : Bool} {K n x : ℕ} {c : Chain} {ds : List Choice} → Laid gains K c [] ds n x → LaidAll gains K c ds n x
-laid-all r = whole (r .own) (r .split) (r .level) (r .marks) (r .total) (r .counted)
+children-laid : {gains : Bool} {K n x : ℕ} {c : Chain} {ds : List Choice} → ChainLaid gains K c [] ds n x → ChildrenLaid gains K c ds n x
+children-laid r = whole (r .own) (r .split) (r .level) (r .marks) (r .total) (r .counted)
   where
     whole : {gains : Bool} {K n x count sum stayed carried pages : ℕ} {c : Chain} {ds others : List Choice} {run : RunSoFar} (own : List Choice)
         → reverseAux own others ≡ ds
@@ -180,7 +180,7 @@ laid-all r = whole (r .own) (r .split) (r .level) (r .marks) (r .total) (r .coun
         → Weighs K (inRunSoFar run) c (layMarks gains K c own) stayed carried pages
         → x ≡ sum + stayed
         → n + pagesBelow gains K c ≡ count + pages
-        → LaidAll gains K c ds n x
+        → ChildrenLaid gains K c ds n x
     whole {x = x} {stayed = stayed} {ds = ds} own s (empty e f) m t u =
         let mine : own ≡ reverse ds = sym (reverse-reverse own) ∙ ap reverse s in
         let all : stayed ≡ x = omega arith in
@@ -190,13 +190,13 @@ laid-all r = whole (r .own) (r .split) (r .level) (r .marks) (r .total) (r .coun
 offering : (gains : Bool) {K w : ℕ} {kids : Chain}
     → Fair K (childrenOf gains K kids)
     → w ≤ K
-    → ((ds : List Choice) (n x : ℕ) (o : RunSoFar) → Level K (childrenOf gains K kids) ds n x o → LaidAll gains K kids ds n x)
+    → ((ds : List Choice) (n x : ℕ) (o : RunSoFar) → Level K (childrenOf gains K kids) ds n x o → ChildrenLaid gains K kids ds n x)
     → Offering gains K w kids
 unfolding choicesOf pick
 offering gains {K} {w} {kids} f h lay b e r (best p q) =
     let ks : List Child = childrenOf gains K kids in
-    let b : Reaches K w ks (bestEntry K w ks) = node-best f h in
-    let a : LaidAll gains K kids (bestEntry K w ks .choices) (bestEntry K w ks .count) (b .sum) = lay _ _ _ _ (b .level) in
+    let b : Usable K w ks (bestEntry K w ks) = node-best f h in
+    let a : ChildrenLaid gains K kids (bestEntry K w ks .choices) (bestEntry K w ks .count) (b .sum) = lay _ _ _ _ (b .level) in
     record {
       sum = b .sum;
       carry = a .carry;
@@ -208,7 +208,7 @@ offering gains {K} {w} {kids} f h lay b e r (best p q) =
 offering gains {K} {w} {kids} f h lay b e r (second p g q) =
     let ks : List Child = childrenOf gains K kids in
     let b : SecondPlan K w ks (childOf gains K w ks .gain) = node-second gains f h g in
-    let a : LaidAll gains K kids (secondEntry K w ks .choices) (secondEntry K w ks .count) (b .sum) = lay _ _ _ _ (b .level) in
+    let a : ChildrenLaid gains K kids (secondEntry K w ks .choices) (secondEntry K w ks .count) (b .sum) = lay _ _ _ _ (b .level) in
     record {
       sum = b .sum;
       carry = a .carry;
@@ -221,14 +221,14 @@ offering gains {K} {w} {kids} f h lay b e r (second p g q) =
 lay-chain : (gains : Bool) {K n x : ℕ} (c : Chain) (before : List Child) {ds : List Choice} {o : RunSoFar}
     → EachWithin K c
     → Level K (childrenFrom gains K c before) ds n x o
-    → Laid gains K c before ds n x
+    → ChainLaid gains K c before ds n x
 unfolding childrenFrom childrenOf EachWithin
-lay-chain gains end before e l = laid-end l
+lay-chain gains end before e l = chain-laid-end l
 lay-chain gains {K} (node w z kids next) before e l =
-    let r : Laid gains K next _ _ _ _ = lay-chain gains next (childOf gains K w (childrenFrom gains K kids []) ∷ before) (e .2) l in
+    let r : ChainLaid gains K next _ _ _ _ = lay-chain gains next (childOf gains K w (childrenFrom gains K kids []) ∷ before) (e .2) l in
     let f : Fair K (childrenFrom gains K kids []) = children-fair gains K kids [] (e .1) tt in
-    laid-node (r .own)
-    (offering gains f (e .0) (λ ds n x o v. laid-all (lay-chain gains kids [] (e .1) v)))
+    chain-laid-node (r .own)
+    (offering gains f (e .0) (λ ds n x o v. children-laid (lay-chain gains kids [] (e .1) v)))
     (r .split) (r .level) (r .marks) (r .room) (r .total) (r .counted)
 
 -- ---- The whole tree
@@ -249,12 +249,12 @@ pub laid-feasible : (gains : Bool) (K w l : ℕ) (kids : Chain)
 unfolding layMarks childrenOf EachWithin pagesBelow
 laid-feasible gains K w l kids e =
     let f : Fair K (childrenFrom gains K kids []) = children-fair gains K kids [] (e .1) tt in
-    let p : LaidBelow gains K w kids false 0 _ =
-    offering gains f (e .0) (λ ds n x o v. laid-all (lay-chain gains kids [] (e .1) v)) false 0 _ (best refl refl)
+    let p : NodeLaid gains K w kids false 0 _ =
+    offering gains f (e .0) (λ ds n x o v. children-laid (lay-chain gains kids [] (e .1) v)) false 0 _ (best refl refl)
     in
     let ms : List ℕ = marksBelow gains K w kids false in
     let ks : List Child = childrenOf gains K kids in
-    let b : Reaches K w ks (bestEntry K w ks) = node-best f (e .0) in
+    let b : Usable K w ks (bestEntry K w ks) = node-best f (e .0) in
     let rest : childOf gains K w ks .rest ≡ bestEntry K w ks .rest = node-rest gains K w ks in
     let q : Weighs K false (node w l kids end) (1 ∷ (ms ++ [])) 0 0 (suc (p .pages + 0)) =
     weighs-begins w l kids end ms [] false (p .marks) (weighs-end K true) (omega (arith, b .within, p .total))

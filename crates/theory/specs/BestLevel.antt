@@ -20,8 +20,8 @@ Fair K (k ∷ ks) = (k .rest ≤ K) × (k .gain ≤ k .rest) × Fair K ks
 
 -- ---- Where the stretch stops
 
--- Whether a lightest total stops the stretch: `stopsAt` by the number alone. That it stops at K, and not only above it, is used here and
--- in `Reach` only.
+-- Whether a lightest total stops the stretch: `stopsAt` by the number alone. That it stops at K, and not only above
+-- it, is used here and in BestReaching only.
 unfoldable pub stopping : ℕ → ℕ → Bool
 stopping K l = leb K l
 

@@ -62,11 +62,11 @@ module _ {t : List ℕ} (a : AcceptedFacts t) where
   pair-judged = judged pairMarks (by-shape (Plans pairMarks) (λ w l kids e p. (_, pair-feasible (limitOf t) w l kids e)))
 
   -- the figures of a feasible plan are those of its pages by shape
-  count-is : (m : List ℕ) → Judged t m → pageCount t m ≡ length (weighed (treeOf t) m .pages)
-  count-is m j = count-bridge (a .sound) m (j .long) (judged-bridge a m (j .long) .0 j .allows)
+  page-count-is : (m : List ℕ) → Judged t m → pageCount t m ≡ length (weighed (treeOf t) m .pages)
+  page-count-is m j = count-bridge (a .sound) m (j .long) (judged-bridge a m (j .long) .0 j .allows)
 
-  root-is : (m : List ℕ) → Judged t m → pageWeight t m 1 ≡ getD (weighed (treeOf t) m .pages) 0 0
-  root-is m j = weight-bridge (a .sound) m (j .long) (judged-bridge a m (j .long) .0 j .allows) 1 (omega arith)
+  root-weight-is : (m : List ℕ) → Judged t m → pageWeight t m 1 ≡ getD (weighed (treeOf t) m .pages) 0 0
+  root-weight-is m j = weight-bridge (a .sound) m (j .long) (judged-bridge a m (j .long) .0 j .allows) 1 (omega arith)
 
   -- the verdict's figures are those of the entries: the sum of the counts and a page for the root, and the rest of the root's entry
   abbrev ByEntries : Bool → List ℕ → Type 0
@@ -78,7 +78,7 @@ module _ {t : List ℕ} (a : AcceptedFacts t) where
       → ByEntries gains m
   by-entries gains m j f =
       judged-answer j
-      ∙ ap₂ (λ (p w : ℕ). answerOf (Feasible p w)) (count-is m j ∙ f .count) (root-is m j ∙ f .feasible .root-page)
+      ∙ ap₂ (λ (p w : ℕ). answerOf (Feasible p w)) (page-count-is m j ∙ f .count) (root-weight-is m j ∙ f .feasible .root-page)
 
   pub best-figures : ByEntries true (bestMarks (limitOf t) (treeOf t))
   unfolding rootEntry
@@ -104,34 +104,34 @@ module _ {t : List ℕ} (a : AcceptedFacts t) where
       (s .allows) (s .within)
 
   -- the best plan of the tree, and its page count and root weight
-  abbrev best : List ℕ
-  best = bestMarks (limitOf t) (treeOf t)
+  abbrev bestPlan : List ℕ
+  bestPlan = bestMarks (limitOf t) (treeOf t)
 
   -- no feasible plan has fewer pages, nor as many and a lighter root page
   pub best-least-plan : (m : List ℕ) → Judged t m
-      → (pageCount t best ≤ pageCount t m) × (pageCount t m ≡ pageCount t best → pageWeight t best 1 ≤ pageWeight t m 1)
+      → (pageCount t bestPlan ≤ pageCount t m) × (pageCount t m ≡ pageCount t bestPlan → pageWeight t bestPlan 1 ≤ pageWeight t m 1)
   best-least-plan m j =
       let b = best-judged in
       let n = no-better m j in (
-        omega (arith, count-is best b, count-is m j, n .count),
-        λ e. omega (arith, root-is best b, root-is m j, n .root (sym (count-is best b) ∙ (sym e ∙ count-is m j))),
+        omega (arith, page-count-is bestPlan b, page-count-is m j, n .count),
+        λ e. omega (arith, root-weight-is bestPlan b, root-weight-is m j, n .root (sym (page-count-is bestPlan b) ∙ (sym e ∙ page-count-is m j))),
       )
 
   -- so it has at most as many as each other planner's
-  pub best-below-level : pageCount t best ≤ pageCount t (levelMarks (limitOf t) (treeOf t))
+  pub best-below-level : pageCount t bestPlan ≤ pageCount t (levelMarks (limitOf t) (treeOf t))
   best-below-level = best-least-plan _ level-judged .0
 
-  pub best-below-single : pageCount t best ≤ pageCount t (singleMarks (limitOf t) (treeOf t))
+  pub best-below-single : pageCount t bestPlan ≤ pageCount t (singleMarks (limitOf t) (treeOf t))
   best-below-single = best-least-plan _ single-judged .0
 
-  pub best-below-pair : pageCount t best ≤ pageCount t (pairMarks (limitOf t) (treeOf t))
+  pub best-below-pair : pageCount t bestPlan ≤ pageCount t (pairMarks (limitOf t) (treeOf t))
   best-below-pair = best-least-plan _ pair-judged .0
 
   -- demand 3
-  pub best-lowest : Lowest t (pageCount t best) (pageWeight t best 1) (runsOf t best)
+  pub best-lowest : Lowest t (pageCount t bestPlan) (pageWeight t bestPlan 1) (runsOf t bestPlan)
   best-lowest =
       let b = best-judged in
-      let r : PlanRuns t best = plan-runs (a .sound) best (b .marked) in
+      let r : PlanRuns t bestPlan = plan-runs (a .sound) bestPlan (b .marked) in
       record {
         least =
             λ qs h w.

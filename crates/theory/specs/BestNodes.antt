@@ -14,7 +14,7 @@ use Rattle.model.specs.Steps.{Child, Choice, Entry, entryAt, secondStart, gainO
 use Rattle.theory.specs.PlanShape.{EachWithin}
 use Rattle.theory.specs.BestLevel.{Fair, RunSoFar, Level, Lighter, lighter}
 use Rattle.theory.specs.BestCandidates.{Below, fewer, lighter as noHeavier}
-use Rattle.theory.specs.BestEntries.{Reaches, entry-sound, entry-least}
+use Rattle.theory.specs.BestEntries.{Usable, entry-sound, entry-least}
 
 -- the entry of a node's best plan, and that of its second
 abbrev pub bestEntry : ℕ → ℕ → List Child → Entry
@@ -53,7 +53,7 @@ secondStart-is : (K w W : ℕ) → secondStart K w W ≡ w + (K - W) + 1
 unfolding secondStart
 secondStart-is K w W = refl
 
-pub node-best : {K w : ℕ} {ks : List Child} → Fair K ks → w ≤ K → Reaches K w ks (bestEntry K w ks)
+pub node-best : {K w : ℕ} {ks : List Child} → Fair K ks → w ≤ K → Usable K w ks (bestEntry K w ks)
 node-best {K} {w} {ks} f h = entry-sound K ks f w h
 
 -- a plan of a node's children: one page more than its best plan, and g less of rest
@@ -75,8 +75,8 @@ second-plan {K} {w} {ks} f h l =
     let W : ℕ = bestEntry K w ks .rest in
     let s : ℕ = secondStart K w W in
     let e : s ≡ w + (K - W) + 1 = secondStart-is K w W in
-    let b : Reaches K w ks (bestEntry K w ks) = node-best f h in
-    let r : Reaches K s ks (secondEntry K w ks) = entry-sound K ks f s l in
+    let b : Usable K w ks (bestEntry K w ks) = node-best f h in
+    let r : Usable K s ks (secondEntry K w ks) = entry-sound K ks f s l in
     let i : Lighter K ks (bestEntry K w ks .count) (b .sum) (b .run) = lighter f (b .level) (omega arith) in
     record {
       sum = r .sum;
@@ -112,7 +112,7 @@ pub node-left : (gains : Bool) {K w : ℕ} (ks : List Child)
     → w + childOf gains K w ks .gain ≤ bestEntry K w ks .rest
 node-left gains {K} {w} ks f h = ask (gain-case gains K w ks)
   where
-    b : Reaches K w ks (bestEntry K w ks)
+    b : Usable K w ks (bestEntry K w ks)
     b = node-best f h
 
     ask : {c : Bool} {g : ℕ} → GainCase K w (bestEntry K w ks .rest) (secondEntry K w ks) c g → w + g ≤ bestEntry K w ks .rest
@@ -137,7 +137,7 @@ node-least {K} {w} {n} {x} {ks} f h l u = ask (gain-case true K w ks) (entry-lea
     W : ℕ
     W = bestEntry K w ks .rest
 
-    b : Reaches K w ks (bestEntry K w ks)
+    b : Usable K w ks (bestEntry K w ks)
     b = node-best f h
 
     s : secondStart K w W ≡ w + (K - W) + 1
@@ -177,6 +177,6 @@ children-fair gains K end before e f = f
 children-fair gains K (node w l kids next) before e f =
     let ks : List Child = childrenFrom gains K kids [] in
     let g : Fair K ks = children-fair gains K kids [] (e .1) tt in
-    let b : Reaches K w ks (bestEntry K w ks) = node-best g (e .0) in
+    let b : Usable K w ks (bestEntry K w ks) = node-best g (e .0) in
     children-fair gains K next (childOf gains K w ks ∷ before) (e .2)
     (omega (arith, node-rest gains K w ks, b .within), omega (arith, node-rest gains K w ks, node-left gains ks g (e .0)), f)

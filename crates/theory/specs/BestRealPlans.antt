@@ -165,12 +165,12 @@ kid-plan {K} {w} {p} {x} {kids} f h m =
     }
 
 -- the run before a chain has room for what the chain carries to it
-abbrev Room : ℕ → Bool → ℕ → ℕ → Type 0
-Room K false y c = Unit {0}
-Room K true y c = y + c ≤ K
+abbrev RunRoom : ℕ → Bool → ℕ → ℕ → Type 0
+RunRoom K false y c = Unit {0}
+RunRoom K true y c = y + c ≤ K
 
 -- what a node's mark asks of its children and of the siblings after it, where all together is within K
-record Parts (K w : ℕ) (a b : Weights) : Type 0 where
+record NodeParts (K w : ℕ) (a b : Weights) : Type 0 where
   own : w + a .stay ≤ K
   kids : AllWithin K (a .pages)
   next : AllWithin K (b .pages)
@@ -182,21 +182,21 @@ record Step (K : ℕ) (ks : List Child) (k w more n x : ℕ) (a b : Weights) : T
   sum : ℕ
   weight : ℕ
   matches : Matches K ks (runs k) pages sum weight
-  room : Room K (runs k) weight (b .carry)
+  room : RunRoom K (runs k) weight (b .carry)
   counted : pages + length (a .pages) + length (b .pages) ≤ n + more + length (joined k w a b .pages)
   stayed : sum + b .stay ≤ x + joined k w a b .stay
 
 module _ {K w : ℕ} (a b : Weights) where
-  halves : w + a .stay ≤ K → AllWithin K (a .pages ++ b .pages) → b .stay ≤ K → Parts K w a b
+  halves : w + a .stay ≤ K → AllWithin K (a .pages ++ b .pages) → b .stay ≤ K → NodeParts K w a b
   halves o h s =
       record { own = o; kids = all-within-left K (a .pages) (b .pages) h; next = all-within-right K (a .pages) (b .pages) h; stay-within = s }
 
   parts : (y k : ℕ) (after : Bool)
       → allowedMark after k ≡ true
-      → Room K after y (joined k w a b .carry)
+      → RunRoom K after y (joined k w a b .carry)
       → AllWithin K (joined k w a b .pages)
       → joined k w a b .stay ≤ K
-      → Parts K w a b
+      → NodeParts K w a b
   unfolding allowedMark joined AllWithin
   parts y zero after m r h s = halves (omega arith) h (omega arith)
   parts y (suc zero) after m r h s = halves (omega arith) (h .1) s
@@ -208,7 +208,7 @@ module _ {K w : ℕ} (a b : Weights) where
       → Fair K (kid ∷ ks)
       → ReachingAfter K ks
       → allowedMark after k ≡ true
-      → Room K after y (joined k w a b .carry)
+      → RunRoom K after y (joined k w a b .carry)
       → AllWithin K (joined k w a b .pages)
       → Matches K ks after n x y
       → w + a .stay ≤ K
@@ -259,7 +259,7 @@ match-chain : {K n x y : ℕ} (after : Bool) (c : Chain) (before : List Child) (
     → Matches K before after n x y
     → allowed after c ms ≡ true
     → AllWithin K (weighed c ms .pages)
-    → Room K after y (weighed c ms .carry)
+    → RunRoom K after y (weighed c ms .carry)
     → weighed c ms .stay ≤ K
     → Matching K (childrenFrom true K c before) (pagesBelow true K c) (n + length (weighed c ms .pages)) (x + weighed c ms .stay)
 unfolding childrenFrom EachWithin Reaching allowed weighed pagesBelow childrenOf
@@ -280,7 +280,7 @@ match-chain {K} {n} {x} {y} after (node w l kids next) before (k ∷ ms) e f g m
     let B : Weights = weighed next ns in
     let both : (allowedMark after k && allowed false kids ms ≡ true) × (allowed (runs k) next ns ≡ true) = and-eq-true-iff _ _ .0 a in
     let fine : (allowedMark after k ≡ true) × (allowed false kids ms ≡ true) = and-eq-true-iff _ _ .0 (both .0) in
-    let t : Parts K w A B = parts A B y k after (fine .0) r h s in
+    let t : NodeParts K w A B = parts A B y k after (fine .0) r h s in
     let below : Matching K (childrenFrom true K kids []) (pagesBelow true K kids) (0 + length (A .pages)) (0 + A .stay) =
     match-chain false kids [] ms (e .1) tt (g .1) (nothing K) (fine .1) (t .kids) tt (omega (arith, t .own))
     in

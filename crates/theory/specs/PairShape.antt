@@ -12,7 +12,7 @@ use Rattle.model.specs.Table.{Chain, end, node}
 use Rattle.model.specs.Plan.{stays, continues}
 use Rattle.model.specs.Steps.{Member, restSum, whole, cutDown, sides, remainder, takenAt, layPair, pairMarks}
 use Rattle.theory.specs.PlanShape.{EachWithin}
-use Rattle.theory.specs.Reduce.{Each, whole-Whole, cutOff, Cuts, Reduced, reduce-whole}
+use Rattle.theory.specs.Reduce.{EachMember, whole-Whole, cutOff, Cuts, Reduced, reduce-whole}
 use Rattle.theory.specs.PlanLaid.{Laid, laid-end, laid-stays, laid-begins, laid-continues, FeasibleShape, feasible-tree}
 
 -- what is left of a side that weighs r
@@ -36,7 +36,7 @@ two-sum left right (x ∷ y ∷ z ∷ zs) c = absurd (c .1 .1)
 
 module _ (K w left right : ℕ) where
   sides-reduced : Reduced (K - w) (whole left ∷ whole right ∷ []) (sides K w left right)
-  unfolding sides cutDown Each
+  unfolding sides cutDown EachMember
   sides-reduced = reduce-whole (K - w) (whole left ∷ whole right ∷ []) (whole-Whole left, (whole-Whole right, tt))
 
   -- what a node keeps of its sides is what was not cut

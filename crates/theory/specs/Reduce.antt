@@ -1,5 +1,5 @@
 -- Laws of `reduce`, which takes gains off members, the largest first, until their sum has room.
--- Defines Each, sumOf, leastSum, gainers, Earliest and TurnOf (one turn), Turns, Done, Whole, Cuts, Reduced. Proves earliest-turn (a turn
+-- Defines EachMember, sumOf, leastSum, gainers, Earliest and TurnOf (one turn), Turns, NoMoreTaken, Whole, Cuts, Reduced. Proves earliest-turn (a turn
 -- by sums), reduce-keeps (what every turn keeps), reduceFrom-enough (more turns than gainers change nothing), reduce-length, reduce-room (a
 -- sum that can have room has it), reduce-whole (members that can be taken off whole have room, each kept or cut). Assumes nothing.
 use Prim.Native.Nat.{ℕ, zero, suc, _+_, _-_, _≤_, _<_}
@@ -17,9 +17,9 @@ use Rattle.model.specs.Steps.{Member, restSum, gainSum, largestGain, takeEarlie
 -- ---- Members one by one
 
 -- every member has a property
-unfoldable pub Each : (Member → Type 0) → List Member → Type 0
-Each P [] = Unit {0}
-Each P (m ∷ ms) = P m × Each P ms
+unfoldable pub EachMember : (Member → Type 0) → List Member → Type 0
+EachMember P [] = Unit {0}
+EachMember P (m ∷ ms) = P m × EachMember P ms
 
 -- what a figure of each member comes to
 unfoldable pub sumOf : (Member → ℕ) → List Member → ℕ
@@ -78,8 +78,8 @@ earliest-turn (there {m = m} n r) =
 
 -- a property of each member, and of one whose gain was taken off, is still there after a turn
 pub earliest-each : {g : ℕ} {ms ns : List Member} (P : Member → Type 0) → ((m : Member) → m .gain ≡ g → P m → P (offBy g m))
-    → Earliest g ms ns → Each P ms → Each P ns
-unfolding Each
+    → Earliest g ms ns → EachMember P ms → EachMember P ns
+unfolding EachMember
 earliest-each P off (here {m = m} e) h = (off m e (h .0), h .1)
 earliest-each P off (there n r) h = (h .0, earliest-each P off r (h .1))
 
@@ -95,13 +95,13 @@ pub record Turns (room : ℕ) (ms : List Member) : Type 0 where
   pub some : 0 < largestGain ms
 
 -- there is room, or nothing is left to take off
-abbrev pub Done : ℕ → List Member → Type 0
-Done room ms = (restSum ms ≤ room) ⊎ (largestGain ms ≡ 0)
+abbrev pub NoMoreTaken : ℕ → List Member → Type 0
+NoMoreTaken room ms = (restSum ms ≤ room) ⊎ (largestGain ms ≡ 0)
 
-pub turns? : (room : ℕ) (ms : List Member) → Done room ms ⊎ Turns room ms
+pub turns? : (room : ℕ) (ms : List Member) → NoMoreTaken room ms ⊎ Turns room ms
 turns? room ms = go (leb (restSum ms) room) (eqb (largestGain ms) 0) refl refl
   where
-    go : (b c : Bool) → leb (restSum ms) room ≡ b → eqb (largestGain ms) 0 ≡ c → Done room ms ⊎ Turns room ms
+    go : (b c : Bool) → leb (restSum ms) room ≡ b → eqb (largestGain ms) 0 ≡ c → NoMoreTaken room ms ⊎ Turns room ms
     go true c e f = inl (inl (leb-true _ _ e))
     go false true e f = inl (inr (eqb-true _ _ f))
     go false false e f =
@@ -112,7 +112,7 @@ reduceFrom-zero : (room : ℕ) (ms : List Member) → reduceFrom zero room ms �
 unfolding reduceFrom
 reduceFrom-zero room ms = refl
 
-pub reduceFrom-stop : (f room : ℕ) (ms : List Member) → Done room ms → reduceFrom f room ms ≡ ms
+pub reduceFrom-stop : (f room : ℕ) (ms : List Member) → NoMoreTaken room ms → reduceFrom f room ms ≡ ms
 unfolding reduceFrom pick
 reduceFrom-stop zero room ms d = refl
 reduceFrom-stop (suc f) room ms (inl h) = rw (le-leb (restSum ms) room h)
@@ -135,7 +135,7 @@ pub reduceFrom-keeps : (room : ℕ) (P : List Member → Type 0)
 reduceFrom-keeps room P turn zero ms p = rw reduceFrom-zero p
 reduceFrom-keeps room P turn (suc f) ms p = go (turns? room ms) (reduceFrom-keeps room P turn f)
   where
-    go : Done room ms ⊎ Turns room ms → ((ns : List Member) → P ns → P (reduceFrom f room ns)) → P (reduceFrom (suc f) room ms)
+    go : NoMoreTaken room ms ⊎ Turns room ms → ((ns : List Member) → P ns → P (reduceFrom f room ns)) → P (reduceFrom (suc f) room ms)
     go (inl d) ih = rw (reduceFrom-stop (suc f) room ms d) p
     go (inr t) ih = rw (reduceFrom-turn f room ms t) (ih _ (turn ms _ t (earliest (largestGain ms) ms (t .some) refl) p))
 
@@ -186,11 +186,11 @@ earliest-gainers {g} {ms} {ns} p r =
     omega (arith, s)
 
 -- as many turns as there are gainers end with room, or with no gain left
-pub reduceFrom-done : (f room : ℕ) (ms : List Member) → gainers ms ≤ f → Done room (reduceFrom f room ms)
+pub reduceFrom-done : (f room : ℕ) (ms : List Member) → gainers ms ≤ f → NoMoreTaken room (reduceFrom f room ms)
 reduceFrom-done zero room ms h = rw reduceFrom-zero (inr (gainers-none ms (omega arith)))
 reduceFrom-done (suc f) room ms h = go (turns? room ms) (reduceFrom-done f room)
   where
-    go : Done room ms ⊎ Turns room ms → ((ns : List Member) → gainers ns ≤ f → Done room (reduceFrom f room ns)) → Done room (reduceFrom (suc f) room ms)
+    go : NoMoreTaken room ms ⊎ Turns room ms → ((ns : List Member) → gainers ns ≤ f → NoMoreTaken room (reduceFrom f room ns)) → NoMoreTaken room (reduceFrom (suc f) room ms)
     go (inl d) ih = rw (reduceFrom-stop (suc f) room ms d) d
     go (inr t) ih =
         let less = earliest-gainers (t .some) (earliest (largestGain ms) ms (t .some) refl) in
@@ -199,14 +199,14 @@ reduceFrom-done (suc f) room ms h = go (turns? room ms) (reduceFrom-done f room)
 -- more turns than there are gainers change nothing
 pub reduceFrom-enough : (f k room : ℕ) (ms : List Member) → gainers ms ≤ f → gainers ms ≤ k → reduceFrom f room ms ≡ reduceFrom k room ms
 reduceFrom-enough zero k room ms h l =
-    let d : Done room ms = inr (gainers-none ms (omega arith)) in
+    let d : NoMoreTaken room ms = inr (gainers-none ms (omega arith)) in
     reduceFrom-stop zero room ms d ∙ sym (reduceFrom-stop k room ms d)
 reduceFrom-enough (suc f) zero room ms h l =
-    let d : Done room ms = inr (gainers-none ms (omega arith)) in
+    let d : NoMoreTaken room ms = inr (gainers-none ms (omega arith)) in
     reduceFrom-stop (suc f) room ms d ∙ sym (reduceFrom-stop zero room ms d)
 reduceFrom-enough (suc f) (suc k) room ms h l = go (turns? room ms) (reduceFrom-enough f k room)
   where
-    go : Done room ms ⊎ Turns room ms
+    go : NoMoreTaken room ms ⊎ Turns room ms
         → ((ns : List Member) → gainers ns ≤ f → gainers ns ≤ k → reduceFrom f room ns ≡ reduceFrom k room ns)
         → reduceFrom (suc f) room ms ≡ reduceFrom (suc k) room ms
     go (inl d) ih = reduceFrom-stop (suc f) room ms d ∙ sym (reduceFrom-stop (suc k) room ms d)
@@ -218,7 +218,7 @@ pub reduceFrom-reduce : (f room : ℕ) (ms : List Member) → gainers ms ≤ f �
 unfolding reduce
 reduceFrom-reduce f room ms h = reduceFrom-enough f (length ms) room ms h (gainers-le-length ms)
 
-pub reduce-done : (room : ℕ) (ms : List Member) → Done room (reduce room ms)
+pub reduce-done : (room : ℕ) (ms : List Member) → NoMoreTaken room (reduce room ms)
 unfolding reduce
 reduce-done room ms = reduceFrom-done (length ms) room ms (gainers-le-length ms)
 
@@ -245,7 +245,7 @@ reduce-least room ms = go (reduce-done room ms)
     same : leastSum (reduce room ms) ≡ leastSum ms
     same = reduce-keeps room (λ ns. leastSum ns ≡ leastSum ms) (λ xs ys t r e. earliest-least r ∙ e) ms refl
 
-    go : Done room (reduce room ms) → (restSum (reduce room ms) ≤ room) ⊎ (restSum (reduce room ms) ≡ leastSum ms)
+    go : NoMoreTaken room (reduce room ms) → (restSum (reduce room ms) ≤ room) ⊎ (restSum (reduce room ms) ≡ leastSum ms)
     go (inl h) = inl h
     go (inr h) = inr (no-gain-least (reduce room ms) h ∙ same)
 
@@ -262,8 +262,8 @@ abbrev pub GainFits : Member → Type 0
 GainFits m = m .gain ≤ m .rest
 
 -- then the least sum is the sum of the rests less the sum of the gains
-pub least-gain : (ms : List Member) → Each GainFits ms → leastSum ms + gainSum ms ≡ restSum ms
-unfolding Each leastSum sumOf gainSum restSum
+pub least-gain : (ms : List Member) → EachMember GainFits ms → leastSum ms + gainSum ms ≡ restSum ms
+unfolding EachMember leastSum sumOf gainSum restSum
 least-gain [] h = refl
 least-gain (m ∷ ms) h =
     let ih = least-gain ms (h .1) in
@@ -306,15 +306,15 @@ off-cut g m x w e p (inr q) =
     let none : x .gain ≡ 0 = rw q refl in
     absurd (omega arith)
 
-pub earliest-cuts : {g : ℕ} {ns ps : List Member} (ms : List Member) → Each Whole ms → 0 < g → Earliest g ns ps → Cuts ms ns → Cuts ms ps
-unfolding Each Cuts
+pub earliest-cuts : {g : ℕ} {ns ps : List Member} (ms : List Member) → EachMember Whole ms → 0 < g → Earliest g ns ps → Cuts ms ns → Cuts ms ps
+unfolding EachMember Cuts
 earliest-cuts [] h p (here e) c = absurd c
 earliest-cuts [] h p (there n r) c = absurd c
 earliest-cuts {g} (m ∷ ms) h p (here {m = x} e) c = (inr (off-cut g m x (h .0) e p (c .0)), c .1)
 earliest-cuts (m ∷ ms) h p (there n r) c = (c .0, earliest-cuts ms (h .1) p r (c .1))
 
-whole-least : (ms : List Member) → Each Whole ms → leastSum ms ≡ 0
-unfolding Each leastSum sumOf
+whole-least : (ms : List Member) → EachMember Whole ms → leastSum ms ≡ 0
+unfolding EachMember leastSum sumOf
 whole-least [] h = refl
 whole-least (m ∷ ms) h =
     let ih = whole-least ms (h .1) in
@@ -325,7 +325,7 @@ pub record Reduced (room : ℕ) (ms : List Member) (ns : List Member) : Type 0 w
   pub cuts : Cuts ms ns
   pub fits : restSum ns ≤ room
 
-pub reduce-whole : (room : ℕ) (ms : List Member) → Each Whole ms → Reduced room ms (reduce room ms)
+pub reduce-whole : (room : ℕ) (ms : List Member) → EachMember Whole ms → Reduced room ms (reduce room ms)
 reduce-whole room ms h =
     record {
       cuts = reduce-keeps room (Cuts ms) (λ xs ys t r c. earliest-cuts ms h (t .some) r c) ms (cuts-none ms);

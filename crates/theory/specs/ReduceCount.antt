@@ -13,11 +13,11 @@ use lib.Dec.{eqb, leb}
 use borrow.Author.Tests.{leb-true, leb-false, eqb-true, le-leb, eq-eqb, ne-eqb}
 use Rattle.model.specs.Basics.{pick}
 use Rattle.model.specs.Steps.{Member, restSum, takenCount, largestGain, takeEarliest, reduce, Child, asMember}
-use Rattle.theory.specs.Reduce.{Each, sumOf, Earliest, here, there, earliest, earliest-turn, earliest-each, earliest-gainers, Turns, Done, reduceFrom-stop, reduceFrom-turn, reduceFrom-reduce, gainers}
+use Rattle.theory.specs.Reduce.{EachMember, sumOf, Earliest, here, there, earliest, earliest-turn, earliest-each, earliest-gainers, Turns, NoMoreTaken, reduceFrom-stop, reduceFrom-turn, reduceFrom-reduce, gainers}
 
 -- ---- One turn of reduce
 
-pub reduce-stop : (room : ℕ) (ms : List Member) → Done room ms → reduce room ms ≡ ms
+pub reduce-stop : (room : ℕ) (ms : List Member) → NoMoreTaken room ms → reduce room ms ≡ ms
 unfolding reduce
 reduce-stop room ms d = reduceFrom-stop (length ms) room ms d
 
@@ -43,16 +43,16 @@ pub asMember-sound : (k : Child) → k .gain ≤ k .rest → Sound (asMember k)
 unfolding asMember
 asMember-sound k h = record { fits = h; fresh = λ p. refl }
 
-pub earliest-sound : {g : ℕ} {ms ns : List Member} → Earliest g ms ns → Each Sound ms → Each Sound ns
+pub earliest-sound : {g : ℕ} {ms ns : List Member} → Earliest g ms ns → EachMember Sound ms → EachMember Sound ns
 earliest-sound {g} r h = earliest-each Sound (λ m e s. record { fits = omega arith; fresh = λ p. absurd (omega arith) }) r h
 
-pub earliest-rest : {g : ℕ} {ms ns : List Member} → Earliest g ms ns → Each Sound ms → restSum ns + g ≡ restSum ms
-unfolding Each restSum
+pub earliest-rest : {g : ℕ} {ms ns : List Member} → Earliest g ms ns → EachMember Sound ms → restSum ns + g ≡ restSum ms
+unfolding EachMember restSum
 earliest-rest (here e) h = omega (arith, h .0 .fits)
 earliest-rest (there n r) h = omega (arith, earliest-rest r (h .1))
 
-pub earliest-taken : {g : ℕ} {ms ns : List Member} → 0 < g → Earliest g ms ns → Each Sound ms → takenCount ns ≡ suc (takenCount ms)
-unfolding Each takenCount pick
+pub earliest-taken : {g : ℕ} {ms ns : List Member} → 0 < g → Earliest g ms ns → EachMember Sound ms → takenCount ns ≡ suc (takenCount ms)
+unfolding EachMember takenCount pick
 earliest-taken p (here {m = m} e) h =
     let f : m .taken ≡ false = h .0 .fresh (omega arith) in
     rw f (omega arith)
@@ -150,7 +150,7 @@ byCount-room (suc g) c room s h = rw (takeUpTo-room (c (suc g)) (suc g) room s h
 
 -- what is known of the members where gains above g are gone
 pub record Counted (g : ℕ) (c : ℕ → ℕ) (ms : List Member) : Type 0 where
-  pub sound : Each Sound ms
+  pub sound : EachMember Sound ms
   pub below : largestGain ms ≤ g
   pub counts : (h : ℕ) → 0 < h → h ≤ g → countGain h ms ≡ c h
 
@@ -158,7 +158,7 @@ module _ (g : ℕ) (c : ℕ → ℕ) (room : ℕ)
     (lower : (ms : List Member) → Counted g c ms → figuresOf (reduce room ms) ≡ byCount g c room (figuresOf ms))
   where
     -- n members have the gain g + 1
-    level-by-count : (n : ℕ) (ms : List Member) → Each Sound ms → largestGain ms ≤ suc g → countGain (suc g) ms ≡ n
+    level-by-count : (n : ℕ) (ms : List Member) → EachMember Sound ms → largestGain ms ≤ suc g → countGain (suc g) ms ≡ n
         → ((h : ℕ) → 0 < h → h ≤ g → countGain h ms ≡ c h)
         → figuresOf (reduce room ms) ≡ byCount g c room (takeUpTo n (suc g) room (figuresOf ms))
     unfolding takeUpTo figuresOf pick
@@ -167,7 +167,7 @@ module _ (g : ℕ) (c : ℕ → ℕ) (room : ℕ)
     level-by-count (suc n) ms sound below this counts = go (leb (restSum ms) room) refl (level-by-count n)
       where
         go : (b : Bool) → leb (restSum ms) room ≡ b
-            → ((ns : List Member) → Each Sound ns → largestGain ns ≤ suc g → countGain (suc g) ns ≡ n → ((h : ℕ) → 0 < h → h ≤ g → countGain h ns ≡ c h)
+            → ((ns : List Member) → EachMember Sound ns → largestGain ns ≤ suc g → countGain (suc g) ns ≡ n → ((h : ℕ) → 0 < h → h ≤ g → countGain h ns ≡ c h)
             → figuresOf (reduce room ns) ≡ byCount g c room (takeUpTo n (suc g) room (figuresOf ns)))
             → figuresOf (reduce room ms) ≡ byCount g c room (takeUpTo (suc n) (suc g) room (figuresOf ms))
         go true e ih =

@@ -12,11 +12,11 @@ use Rattle.model.specs.Basics.{pick}
 use Rattle.model.specs.Table.{Chain, end, node}
 use Rattle.model.specs.Steps.{Member, restSum, whole, cutDown, remainders, laySingle, singleMarks}
 use Rattle.theory.specs.PlanShape.{EachWithin}
-use Rattle.theory.specs.Reduce.{Each, Whole, whole-Whole, cutOff, Cuts, Reduced, reduce-whole}
+use Rattle.theory.specs.Reduce.{EachMember, Whole, whole-Whole, cutOff, Cuts, Reduced, reduce-whole}
 use Rattle.theory.specs.PlanLaid.{Laid, laid-end, laid-stays, laid-begins, FeasibleShape, feasible-tree}
 
-pub remainders-whole : (K : ℕ) (c : Chain) → Each Whole (remainders K c)
-unfolding Each remainders
+pub remainders-whole : (K : ℕ) (c : Chain) → EachMember Whole (remainders K c)
+unfolding EachMember remainders
 remainders-whole K end = tt
 remainders-whole K (node w l kids next) = (whole-Whole (w + restSum (cutDown K w (remainders K kids))), remainders-whole K next)
 
