@@ -28,7 +28,7 @@ Reaching K before (node w l kids next) =
     ReachingAfter K before × Reaching K [] kids × Reaching K (childOf true K w (childrenOf true K kids) ∷ before) next
 
 -- every child leaves something, whatever its plan
-abbrev pub Light : List Child → Type 0
+abbrev Light : List Child → Type 0
 Light [] = Unit {0}
 Light (k ∷ ks) = (k .gain < k .rest) × Light ks
 

@@ -40,7 +40,7 @@ module _ (K w left right : ℕ) where
   sides-reduced = reduce-whole (K - w) (whole left ∷ whole right ∷ []) (whole-Whole left, (whole-Whole right, tt))
 
   -- what a node keeps of its sides is what was not cut
-  pub sides-sum : restSum (sides K w left right)
+  sides-sum : restSum (sides K w left right)
       ≡ unlessCut (takenAt 0 (sides K w left right)) left + unlessCut (takenAt 1 (sides K w left right)) right
   sides-sum = two-sum left right (sides K w left right) (sides-reduced .cuts)
 
@@ -49,7 +49,7 @@ module _ (K w left right : ℕ) where
 
 -- whether the first child, and the next sibling, of a node is cut
 module _ (K w : ℕ) (kids next : Chain) where
-  abbrev pub kidsCut : Bool
+  abbrev kidsCut : Bool
   kidsCut = takenAt 0 (sides K w (remainder K kids) (remainder K next))
 
   abbrev pub nextCut : Bool
@@ -68,9 +68,9 @@ remainder-fits K (node w l kids next) h = omega (arith, sides-fit K w (remainder
 -- ---- A chain
 
 -- a chain whose first node, where it is uncut, stays, and one where it continues a run
-pub record PairLaid (K : ℕ) (c : Chain) : Type 0 where
-  pub staying : (cut run : Bool) → Laid K run c (layPair K c cut stays) (unlessCut cut (remainder K c)) 0
-  pub going-on : (cut : Bool) → Laid K true c (layPair K c cut continues) 0 (unlessCut cut (remainder K c))
+record PairLaid (K : ℕ) (c : Chain) : Type 0 where
+  staying : (cut run : Bool) → Laid K run c (layPair K c cut stays) (unlessCut cut (remainder K c)) 0
+  going-on : (cut : Bool) → Laid K true c (layPair K c cut continues) 0 (unlessCut cut (remainder K c))
 
 module _ (K w l : ℕ) (kids next : Chain) (in-kids : PairLaid K kids) (in-next : PairLaid K next)
     (fits : remainder K (node w l kids next) ≤ K)
@@ -100,7 +100,7 @@ unfolding pick remainder
 end-none K true = refl
 end-none K false = refl
 
-pub pair-laid : (K : ℕ) (c : Chain) → EachWithin K c → PairLaid K c
+pair-laid : (K : ℕ) (c : Chain) → EachWithin K c → PairLaid K c
 unfolding EachWithin layPair
 pair-laid K end h =
     record { staying = λ cut run. rw (end-none K cut) (laid-end K run); going-on = λ cut. rw (end-none K cut) (laid-end K true) }
@@ -113,7 +113,7 @@ pair-laid K (node w l kids next) h =
 -- ---- Pages
 
 -- the root has no sibling: its page holds it and what its children keep
-pub remainder-root : (K w l : ℕ) (kids : Chain)
+remainder-root : (K w l : ℕ) (kids : Chain)
     → remainder K (node w l kids end) ≡ w + unlessCut (kidsCut K w kids end) (remainder K kids)
 remainder-root K w l kids = omega (arith, remainder-node K w kids end l, end-none K (nextCut K w kids end))
 

@@ -27,14 +27,14 @@ sumOf f [] = 0
 sumOf f (m ∷ ms) = f m + sumOf f ms
 
 -- what is left when every gain is taken off
-abbrev pub leastOfMember : Member → ℕ
+abbrev leastOfMember : Member → ℕ
 leastOfMember m = m .rest - m .gain
 
 unfoldable pub leastSum : List Member → ℕ
 leastSum ms = sumOf leastOfMember ms
 
 -- how many members have a gain
-abbrev pub gainerOne : Member → ℕ
+abbrev gainerOne : Member → ℕ
 gainerOne m = pick (eqb (m .gain) 0) 0 1
 
 unfoldable pub gainers : List Member → ℕ
@@ -83,7 +83,7 @@ unfolding EachMember
 earliest-each P off (here {m = m} e) h = (off m e (h .0), h .1)
 earliest-each P off (there n r) h = (h .0, earliest-each P off r (h .1))
 
-pub earliest-length : {g : ℕ} {ms ns : List Member} → Earliest g ms ns → length ns ≡ length ms
+earliest-length : {g : ℕ} {ms ns : List Member} → Earliest g ms ns → length ns ≡ length ms
 earliest-length (here e) = refl
 earliest-length (there n r) = ap suc (earliest-length r)
 
@@ -129,7 +129,7 @@ reduceFrom-turn f room ms t =
     rw (lt-leb (restSum ms) room (t .over), ne-eqb (largestGain ms) 0 n)
 
 -- what each turn keeps, any number of turns keeps
-pub reduceFrom-keeps : (room : ℕ) (P : List Member → Type 0)
+reduceFrom-keeps : (room : ℕ) (P : List Member → Type 0)
     → ((ms ns : List Member) → Turns room ms → Earliest (largestGain ms) ms ns → P ms → P ns)
     → (f : ℕ) (ms : List Member) → P ms → P (reduceFrom f room ms)
 reduceFrom-keeps room P turn zero ms p = rw reduceFrom-zero p
@@ -152,7 +152,7 @@ reduce-length room ms = reduce-keeps room (λ ns. length ns ≡ length ms) (λ x
 -- ---- Turns enough
 
 -- with no gainer there is no gain
-pub gainers-none : (ms : List Member) → gainers ms ≡ 0 → largestGain ms ≡ 0
+gainers-none : (ms : List Member) → gainers ms ≡ 0 → largestGain ms ≡ 0
 unfolding gainers sumOf largestGain pick
 gainers-none [] e = refl
 gainers-none (m ∷ ms) e = go (eqb (m .gain) 0) refl (gainers-none ms)
@@ -167,7 +167,7 @@ gainers-none (m ∷ ms) e = go (eqb (m .gain) 0) refl (gainers-none ms)
         absurd (omega arith)
 
 -- there are no more gainers than members
-pub gainers-le-length : (ms : List Member) → gainers ms ≤ length ms
+gainers-le-length : (ms : List Member) → gainers ms ≤ length ms
 unfolding gainers sumOf pick
 gainers-le-length [] = omega arith
 gainers-le-length (m ∷ ms) = go (eqb (m .gain) 0) refl (gainers-le-length ms)
@@ -186,7 +186,7 @@ earliest-gainers {g} {ms} {ns} p r =
     omega (arith, s)
 
 -- as many turns as there are gainers end with room, or with no gain left
-pub reduceFrom-done : (f room : ℕ) (ms : List Member) → gainers ms ≤ f → NoMoreTaken room (reduceFrom f room ms)
+reduceFrom-done : (f room : ℕ) (ms : List Member) → gainers ms ≤ f → NoMoreTaken room (reduceFrom f room ms)
 reduceFrom-done zero room ms h = rw reduceFrom-zero (inr (gainers-none ms (omega arith)))
 reduceFrom-done (suc f) room ms h = go (turns? room ms) (reduceFrom-done f room)
   where
@@ -197,7 +197,7 @@ reduceFrom-done (suc f) room ms h = go (turns? room ms) (reduceFrom-done f room)
         rw (reduceFrom-turn f room ms t) (ih _ (omega arith))
 
 -- more turns than there are gainers change nothing
-pub reduceFrom-enough : (f k room : ℕ) (ms : List Member) → gainers ms ≤ f → gainers ms ≤ k → reduceFrom f room ms ≡ reduceFrom k room ms
+reduceFrom-enough : (f k room : ℕ) (ms : List Member) → gainers ms ≤ f → gainers ms ≤ k → reduceFrom f room ms ≡ reduceFrom k room ms
 reduceFrom-enough zero k room ms h l =
     let d : NoMoreTaken room ms = inr (gainers-none ms (omega arith)) in
     reduceFrom-stop zero room ms d ∙ sym (reduceFrom-stop k room ms d)
@@ -218,20 +218,20 @@ pub reduceFrom-reduce : (f room : ℕ) (ms : List Member) → gainers ms ≤ f �
 unfolding reduce
 reduceFrom-reduce f room ms h = reduceFrom-enough f (length ms) room ms h (gainers-le-length ms)
 
-pub reduce-done : (room : ℕ) (ms : List Member) → NoMoreTaken room (reduce room ms)
+reduce-done : (room : ℕ) (ms : List Member) → NoMoreTaken room (reduce room ms)
 unfolding reduce
 reduce-done room ms = reduceFrom-done (length ms) room ms (gainers-le-length ms)
 
 -- ---- Room
 
-pub earliest-least : {g : ℕ} {ms ns : List Member} → Earliest g ms ns → leastSum ns ≡ leastSum ms
+earliest-least : {g : ℕ} {ms ns : List Member} → Earliest g ms ns → leastSum ns ≡ leastSum ms
 unfolding leastSum
 earliest-least {g} {ms} {ns} r =
     let t = earliest-turn r in
     omega (arith, t .gains, t .sums leastOfMember)
 
 -- where no gain is left, the sum is the least
-pub no-gain-least : (ms : List Member) → largestGain ms ≡ 0 → restSum ms ≡ leastSum ms
+no-gain-least : (ms : List Member) → largestGain ms ≡ 0 → restSum ms ≡ leastSum ms
 unfolding leastSum sumOf restSum largestGain
 no-gain-least [] e = refl
 no-gain-least (m ∷ ms) e =
@@ -250,7 +250,7 @@ reduce-least room ms = go (reduce-done room ms)
     go (inr h) = inr (no-gain-least (reduce room ms) h ∙ same)
 
 -- members that can be reduced to the room are
-pub reduce-room : (room : ℕ) (ms : List Member) → leastSum ms ≤ room → restSum (reduce room ms) ≤ room
+reduce-room : (room : ℕ) (ms : List Member) → leastSum ms ≤ room → restSum (reduce room ms) ≤ room
 reduce-room room ms h = go (reduce-least room ms)
   where
     go : (restSum (reduce room ms) ≤ room) ⊎ (restSum (reduce room ms) ≡ leastSum ms) → restSum (reduce room ms) ≤ room
@@ -291,7 +291,7 @@ Cuts [] (x ∷ xs) = ⊥
 Cuts (m ∷ ms) [] = ⊥
 Cuts (m ∷ ms) (x ∷ xs) = ((x ≡ m) ⊎ (x ≡ cutOff)) × Cuts ms xs
 
-pub cuts-none : (ms : List Member) → Cuts ms ms
+cuts-none : (ms : List Member) → Cuts ms ms
 unfolding Cuts
 cuts-none [] = tt
 cuts-none (m ∷ ms) = (inl refl, cuts-none ms)
@@ -306,7 +306,7 @@ off-cut g m x w e p (inr q) =
     let none : x .gain ≡ 0 = rw q refl in
     absurd (omega arith)
 
-pub earliest-cuts : {g : ℕ} {ns ps : List Member} (ms : List Member) → EachMember Whole ms → 0 < g → Earliest g ns ps → Cuts ms ns → Cuts ms ps
+earliest-cuts : {g : ℕ} {ns ps : List Member} (ms : List Member) → EachMember Whole ms → 0 < g → Earliest g ns ps → Cuts ms ns → Cuts ms ps
 unfolding EachMember Cuts
 earliest-cuts [] h p (here e) c = absurd c
 earliest-cuts [] h p (there n r) c = absurd c

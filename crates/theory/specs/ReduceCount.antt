@@ -101,7 +101,7 @@ count-le-largest h (m ∷ ms) p = go (eqb (m .gain) h) refl (count-le-largest h 
         let p' : 0 < 0 + countGain h ms = rw t at p in
         omega (arith, ih (omega arith))
 
-pub count-largest : (ms : List Member) → 0 < largestGain ms → 0 < countGain (largestGain ms) ms
+count-largest : (ms : List Member) → 0 < largestGain ms → 0 < countGain (largestGain ms) ms
 count-largest ms p = omega (arith, earliest-count p (largest-earliest ms p))
 
 pub largest-below : (g : ℕ) (ms : List Member) → largestGain ms ≤ suc g → countGain (suc g) ms ≡ 0 → largestGain ms ≤ g

@@ -15,7 +15,7 @@ use Rattle.theory.specs.PlanShape.{EachWithin}
 use Rattle.theory.specs.Reduce.{EachMember, Whole, whole-Whole, cutOff, Cuts, Reduced, reduce-whole}
 use Rattle.theory.specs.PlanLaid.{Laid, laid-end, laid-stays, laid-begins, FeasibleShape, feasible-tree}
 
-pub remainders-whole : (K : ℕ) (c : Chain) → EachMember Whole (remainders K c)
+remainders-whole : (K : ℕ) (c : Chain) → EachMember Whole (remainders K c)
 unfolding EachMember remainders
 remainders-whole K end = tt
 remainders-whole K (node w l kids next) = (whole-Whole (w + restSum (cutDown K w (remainders K kids))), remainders-whole K next)
@@ -40,7 +40,7 @@ module _ (K w l : ℕ) (kids next : Chain) (ms : List Member) where
   single-node run m h a b (inr e) = rw (e, zero-add (restSum ms))
       (laid-begins K w l a run (b true) (omega (arith, cutDown-reduced K w kids .fits)))
 
-pub single-laid : (K : ℕ) (c : Chain) (ms : List Member) → EachWithin K c → Cuts (remainders K c) ms
+single-laid : (K : ℕ) (c : Chain) (ms : List Member) → EachWithin K c → Cuts (remainders K c) ms
     → (run : Bool) → Laid K run c (laySingle K c ms) (restSum ms) 0
 unfolding EachWithin Cuts remainders laySingle restSum
 single-laid K end [] h c run = laid-end K run
