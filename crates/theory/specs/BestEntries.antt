@@ -8,58 +8,15 @@ use mathlib.Core.List.{List, [], _∷_, _++_, reverseAux, reverseAux-eq}
 use native.Mathlib.Omega.{arith}
 use Rattle.model.specs.Basics.{pick}
 use Rattle.model.specs.Plan.{begins, continues}
-use Rattle.model.specs.Steps.{
-  Member,
-  Child,
-  Choice,
-  Entry,
-  restSum,
-  takenCount,
-  winner,
-  staying,
-  runChoices,
-  running,
-  runOf,
-  lightest,
-  entryAt,
-  stretched,
-}
-use Rattle.theory.specs.BestGreedy.{best, Picked, pickedNone, pickedOne, Gainful, Spared, runOf-least, Offered, offeredNone, offeredOne, runOf-offered}
-use Rattle.theory.specs.BestLevel.{
-  Fair,
-  stopping,
-  stopsAt-stopping,
-  stopping-less,
-  lightestOf,
-  lightest-nil,
-  lightest-cons,
-  RunSoFar,
-  noRun,
-  aRun,
-  Level,
-  empty,
-  stay,
-  begin,
-  go,
-}
-use Rattle.theory.specs.BestCandidates.{
-  AllOf,
-  AnyOf,
-  all-append,
-  any-left,
-  any-right,
-  winner-all,
-  Below,
-  fewer,
-  lighter,
-  winner-below,
-  stayed,
-  ran,
-  staying-all,
-  staying-any,
-  running-all,
-  running-any,
-}
+use Rattle.model.specs.Steps.{Member, Child, Choice, Entry, restSum, takenCount, winner, staying, runChoices, running}
+use Rattle.model.specs.Steps.{runOf, lightest, entryAt, stretched}
+use Rattle.theory.specs.BestGreedy.{best, Picked, pickedNone, pickedOne, Gainful, Spared, runOf-least, RunReduced}
+use Rattle.theory.specs.BestGreedy.{reducedNone, reducedOne, reduced-offers, runOf-reduced}
+use Rattle.theory.specs.BestLevel.{Fair, stopping, stopsAt-stopping, stopping-less, lightestOf, lightest-nil}
+use Rattle.theory.specs.BestLevel.{lightest-cons, RunSoFar, noRun, aRun, Level, empty, stay, begin, go}
+use Rattle.theory.specs.BestCandidates.{AllOf, AnyOf, all-append, any-left, any-right, winner-all, Below, fewer}
+use Rattle.theory.specs.BestCandidates.{lighter, winner-below, stayed, ran, staying-all, staying-any}
+use Rattle.theory.specs.BestCandidates.{running-all, running-any}
 
 -- ---- The entry is a plan of the level
 
@@ -80,7 +37,7 @@ reachable-more K l k [] g s = tt
 reachable-more K l k (j ∷ run) g s = stopping-less K _ _ s (omega (arith, lightest-cons k (j ∷ run) g))
 
 run-goes : {K n n′ x y l : ℕ} {ks run : List Child} {cs : List Choice} {ms : List Member}
-    → Offered run ms
+    → RunReduced run ms
     → Gainful run
     → Level K ks cs n x (aRun y l)
     → y + restSum ms ≤ K
@@ -88,10 +45,10 @@ run-goes : {K n n′ x y l : ℕ} {ks run : List Child} {cs : List Choice} {ms :
     → n′ ≡ n + takenCount ms
     → Extended K (reverseAux run ks) (reverseAux (runChoices continues ms) cs) n′ x
 unfolding restSum takenCount runChoices
-run-goes {n = n} {n′ = n′} offeredNone g p h s e = let q : n′ ≡ n = omega arith in rw q (record { run = _; level = p })
-run-goes {K} {n = n} {l = l} (offeredOne {k = k} {m = m} {run = run} o r) g p h s e =
+run-goes {n = n} {n′ = n′} reducedNone g p h s e = let q : n′ ≡ n = omega arith in rw q (record { run = _; level = p })
+run-goes {K} {n = n} {l = l} (reducedOne {k = k} {m = m} {run = run} o r) g p h s e =
     let part : stopping K (l + lightestOf k) ≡ false = stopping-less K _ _ s (omega (arith, lightest-cons k run g)) in
-    run-goes r (g .1) (go o refl (omega arith) refl part refl p) (omega arith) (reachable-more K l k run g s) (omega arith)
+    run-goes r (g .1) (go (reduced-offers o) refl (omega arith) refl part refl p) (omega arith) (reachable-more K l k run g s) (omega arith)
 
 -- the entry e at start s is a plan of the level, usable there
 pub record Usable (K s : ℕ) (ks : List Child) (e : Entry) : Type 0 where
@@ -106,15 +63,15 @@ stayed-usable {k = k} r = record { sum = r .sum + k .rest; run = noRun; level = 
 
 ran-usable : {K s : ℕ} {k : Child} {run ks : List Child} {e : Entry} {ms : List Member}
     → Gainful (k ∷ run)
-    → Offered (k ∷ run) ms
+    → RunReduced (k ∷ run) ms
     → Reachable K 0 run
     → restSum ms ≤ K
     → Usable K s ks e
     → Usable K s (reverseAux (k ∷ run) ks) (ran ms e)
 unfolding restSum takenCount runChoices
-ran-usable {e = e} g (offeredOne {m = m} {ms = ms} o q) a h r =
+ran-usable {e = e} g (reducedOne {m = m} {ms = ms} o q) a h r =
     let n : ℕ = e .count + 1 + (pick (m .taken) 1 0 + takenCount ms) in
-    let x : Extended _ _ _ n _ = run-goes q (g .1) (begin o (omega arith) refl refl (r .level)) (omega arith) a (omega arith) in
+    let x : Extended _ _ _ n _ = run-goes q (g .1) (begin (reduced-offers o) (omega arith) refl refl (r .level)) (omega arith) a (omega arith) in
     record {
       sum = r .sum;
       run = x .run;
@@ -196,7 +153,7 @@ entry-sound-cons K k ks f before stretch s h =
     let single : Gainful (k ∷ []) = (f .1, tt) in
     let one : AllOf P (running K (runOf K (k ∷ [])) (entryAt K ks s)) =
     running-all P K (runOf K (k ∷ [])) (entryAt K ks s)
-    (λ w. ran-usable {run = []} single (runOf-offered K (k ∷ []) single) tt w (before s h))
+    (λ w. ran-usable {run = []} single (runOf-reduced K (k ∷ []) single) tt w (before s h))
     in
     rw entryAt-cons
     (winner-all P (λ (c : Entry). Unit {0}) s (candidates K k ks s)
@@ -225,7 +182,7 @@ stretch-sound-cons K k ks f before stretch s j run h g a = rw stretched-cons (as
         let on : stopping K (0 + lightest (j ∷ run)) ≡ false = stopping-less K _ _ e (omega arith) in
         let ms : List Member = runOf K (k ∷ j ∷ run) in
         all-append P (running K ms (entryAt K ks s)) _
-        (running-all P K ms (entryAt K ks s) (λ w. ran-usable {run = j ∷ run} gains (runOf-offered K (k ∷ j ∷ run) gains) on w (before s h)))
+        (running-all P K ms (entryAt K ks s) (λ w. ran-usable {run = j ∷ run} gains (runOf-reduced K (k ∷ j ∷ run) gains) on w (before s h)))
         (stretch s k (j ∷ run) h gains on)
 
 sound : (K : ℕ) (ks : List Child) → Fair K ks → EntrySound K ks × StretchSound K ks

@@ -12,7 +12,7 @@ use Rattle.model.specs.Table.{Chain, end, node}
 use Rattle.model.specs.Plan.{stays, continues}
 use Rattle.model.specs.Steps.{Member, restSum, whole, cutDown, sides, remainder, takenAt, layPair, pairMarks}
 use Rattle.theory.specs.PlanShape.{EachWithin}
-use Rattle.theory.specs.Reduce.{EachMember, whole-Whole, cutOff, Cuts, Reduced, reduce-whole}
+use Rattle.theory.specs.Reduce.{EachMember, cutOff, Cuts, cutsNone, cutsOne, Reduced, reduce-whole}
 use Rattle.theory.specs.PlanLaid.{Laid, laid-end, laid-stays, laid-begins, laid-continues, FeasibleShape, feasible-tree}
 
 -- what is left of a side that weighs r
@@ -28,16 +28,14 @@ kept-rest r x (inr e) = rw e
 
 two-sum : (left right : ℕ) (ms : List Member) → Cuts (whole left ∷ whole right ∷ []) ms
     → restSum ms ≡ unlessCut (takenAt 0 ms) left + unlessCut (takenAt 1 ms) right
-unfolding Cuts restSum takenAt
-two-sum left right [] c = absurd c
-two-sum left right (x ∷ []) c = absurd (c .1)
-two-sum left right (x ∷ y ∷ []) c = omega (arith, kept-rest left x (c .0), kept-rest right y (c .1 .0))
-two-sum left right (x ∷ y ∷ z ∷ zs) c = absurd (c .1 .1)
+unfolding restSum takenAt
+two-sum left right ms (cutsOne {x = x} c (cutsOne {x = y} d cutsNone)) =
+    omega (arith, kept-rest left x c, kept-rest right y d)
 
 module _ (K w left right : ℕ) where
   sides-reduced : Reduced (K - w) (whole left ∷ whole right ∷ []) (sides K w left right)
-  unfolding sides cutDown EachMember
-  sides-reduced = reduce-whole (K - w) (whole left ∷ whole right ∷ []) (whole-Whole left, (whole-Whole right, tt))
+  unfolding sides cutDown EachMember whole
+  sides-reduced = reduce-whole (K - w) (whole left ∷ whole right ∷ []) (refl, (refl, tt))
 
   -- what a node keeps of its sides is what was not cut
   sides-sum : restSum (sides K w left right)

@@ -8,29 +8,20 @@ use mathlib.Core.Bool.{Bool, true, false}
 use mathlib.Core.List.{List, [], _∷_}
 use mathlib.Core.Logic.{inl, inr}
 use native.Mathlib.Omega.{arith}
-use lib.ListN.{length}
 use lib.Dec.{eqb, leb}
 use borrow.Author.Tests.{leb-true, leb-false, eqb-true, le-leb, eq-eqb, ne-eqb}
 use Rattle.model.specs.Basics.{pick}
 use Rattle.model.specs.Steps.{Member, restSum, takenCount, largestGain, takeEarliest, reduce, Child, asMember}
-use Rattle.theory.specs.Reduce.{EachMember, sumOf, Earliest, here, there, earliest, earliest-turn, earliest-each, earliest-gainers, Turns, NoMoreTaken, reduceFrom-stop, reduceFrom-turn, reduceFrom-reduce, gainers}
+use Rattle.theory.specs.Reduce.{EachMember, sumOf, Earliest, here, there, earliest, earliest-turn, earliest-each, Turns, NoMoreTaken, ended, turned, reduction-same, reduce-reduction, largest-earliest}
 
 -- ---- One turn of reduce
 
 pub reduce-stop : (room : ℕ) (ms : List Member) → NoMoreTaken room ms → reduce room ms ≡ ms
-unfolding reduce
-reduce-stop room ms d = reduceFrom-stop (length ms) room ms d
+reduce-stop room ms d = reduction-same (reduce-reduction room ms) (ended d)
 
-pub largest-earliest : (ms : List Member) → 0 < largestGain ms → Earliest (largestGain ms) ms (takeEarliest (largestGain ms) ms)
-largest-earliest ms p = earliest (largestGain ms) ms p refl
-
-pub reduce-turn : (room : ℕ) (ms : List Member) → Turns room ms → reduce room ms ≡ reduce room (takeEarliest (largestGain ms) ms)
-reduce-turn room ms t =
-    let ns : List Member = takeEarliest (largestGain ms) ms in
-    let less : suc (gainers ns) ≡ gainers ms = earliest-gainers (t .some) (largest-earliest ms (t .some)) in
-    sym (reduceFrom-reduce (suc (gainers ns)) room ms (omega arith))
-    ∙ reduceFrom-turn (gainers ns) room ms t
-    ∙ reduceFrom-reduce (gainers ns) room ns (omega arith)
+pub reduce-turn : (room : ℕ) (ms : List Member) → Turns room ms
+    → reduce room ms ≡ reduce room (takeEarliest (largestGain ms) ms)
+reduce-turn room ms t = reduction-same (reduce-reduction room ms) (turned t (reduce-reduction room _))
 
 -- ---- What a turn does to the figures
 
