@@ -195,7 +195,7 @@ offering : (gains : Bool) {K w : ℕ} {kids : Chain}
 unfolding choicesOf pick
 offering gains {K} {w} {kids} f h lay b e r (best p q) =
     let ks : List Child = childrenOf gains K kids in
-    let b : Usable K w ks (bestEntry K w ks) = node-best f h in
+    let b : Usable K w ks (bestEntry K w ks) = node-best K w ks f h in
     let a : ChildrenLaid gains K kids (bestEntry K w ks .choices) (bestEntry K w ks .count) (b .sum) = lay _ _ _ _ (b .level) in
     record {
       sum = b .sum;
@@ -207,7 +207,7 @@ offering gains {K} {w} {kids} f h lay b e r (best p q) =
     }
 offering gains {K} {w} {kids} f h lay b e r (second p g q) =
     let ks : List Child = childrenOf gains K kids in
-    let b : SecondPlan K w ks (childOf gains K w ks .gain) = node-second gains f h g in
+    let b : SecondPlan K w ks (childOf gains K w ks .gain) = node-second K w ks f h gains g in
     let a : ChildrenLaid gains K kids (secondEntry K w ks .choices) (secondEntry K w ks .count) (b .sum) = lay _ _ _ _ (b .level) in
     record {
       sum = b .sum;
@@ -254,7 +254,7 @@ laid-feasible gains K w l kids e =
     in
     let ms : List ℕ = marksBelow gains K w kids false in
     let ks : List Child = childrenOf gains K kids in
-    let b : Usable K w ks (bestEntry K w ks) = node-best f (e .0) in
+    let b : Usable K w ks (bestEntry K w ks) = node-best K w ks f (e .0) in
     let rest : childOf gains K w ks .rest ≡ bestEntry K w ks .rest = node-rest gains K w ks in
     let q : Weighs K false (node w l kids end) (1 ∷ (ms ++ [])) 0 0 (suc (p .pages + 0)) =
     weighs-begins w l kids end ms [] false (p .marks) (weighs-end K true) (omega (arith, b .within, p .total))

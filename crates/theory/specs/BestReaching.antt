@@ -45,7 +45,7 @@ positive-reaching K before end e p g = tt
 positive-reaching K before (node w l kids next) e p g =
     let ks : List Child = childrenFrom true K kids [] in
     let f : Fair K ks = children-fair true K kids [] (e .1) tt in
-    let own : childOf true K w ks .gain < childOf true K w ks .rest = omega (arith, node-rest true K w ks, node-left true ks f (e .0)) in (
+    let own : childOf true K w ks .gain < childOf true K w ks .rest = omega (arith, node-rest true K w ks, node-left K w ks f (e .0) true) in (
       light-reaching g,
       positive-reaching K [] kids (e .1) (p .1) tt,
       positive-reaching K (childOf true K w ks ∷ before) next (e .2) (p .2) (own, g),

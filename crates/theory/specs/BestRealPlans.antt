@@ -153,7 +153,7 @@ kid-plan {K} {w} {p} {x} {kids} f h m =
     let ks : List Child = childrenOf true K kids in
     let e : Entry = bestEntry K w ks in
     let c : childOf true K w ks .rest ≡ e .rest = node-rest true K w ks in
-    let b : NoBetter (m .pages) (m .sum) e w (childOf true K w ks .gain) = node-least f (omega arith) (m .level) (omega (arith, m .light)) in
+    let b : NoBetter (m .pages) (m .sum) e w (childOf true K w ks .gain) = node-least K w ks f (omega arith) (m .level) (omega (arith, m .light)) in
     record {
       more = p - (e .count + pagesBelow true K kids);
       counted = omega (arith, b .count, m .few);

@@ -70,7 +70,7 @@ module _ (K w l : ℕ) (kids : Chain) where
       match-children kids ms (e .1) (g .1) (r .fine) (r .within) (omega (arith, r .root-within))
       in
       let c : NoBetter (m .pages) (m .sum) (bestEntry K w (childrenOf true K kids)) w _ =
-      node-least (children-fair true K kids [] (e .1) tt) (e .0) (m .level) (omega (arith, m .light, r .root-within))
+      node-least K w (childrenOf true K kids) (children-fair true K kids [] (e .1) tt) (e .0) (m .level) (omega (arith, m .light, r .root-within))
       in
       record {
         count = omega (arith, b .count, c .count, m .few, r .count);
