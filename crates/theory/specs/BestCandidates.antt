@@ -1,5 +1,5 @@
--- The candidates of an entry, and the one that wins: what holds of every candidate holds of the winner (winner-all), and
--- the winner is no worse than any candidate (winner-below).
+-- The candidates of an entry, and the one that wins: what holds of every candidate holds of the winner (winner-all),
+-- and the winner is no worse than any candidate (winner-below).
 -- Defines AllOf, AnyOf, Below, stayed and ran (the candidates where the last child stays, and where it ends a run).
 -- Assumes nothing.
 use Prim.Native.Nat.{ℕ, _+_, _≤_}
@@ -103,7 +103,11 @@ stayed e = record { count = e .count; rest = e .rest; choices = record { mark = 
 
 abbrev pub ran : List Member → Entry → Entry
 ran ms e =
-    record { count = e .count + 1 + takenCount ms; rest = e .rest; choices = reverse (runChoices begins ms) ++ e .choices }
+    record {
+      count = e .count + 1 + takenCount ms;
+      rest = e .rest;
+      choices = reverse (runChoices begins ms) ++ e .choices;
+    }
 
 -- a candidate that there is where a is at most K
 tested-all : (P : Entry → Type 0) (a K : ℕ) (c : Entry) → (a ≤ K → P c) → AllOf P (pick (leb a K) (c ∷ []) [])

@@ -1,5 +1,5 @@
--- The level theorem: the entry at a start is a plan of the level (`entry-sound`), and no plan of the level that is usable
--- at that start is better (`entry-least`): neither fewer pages, nor as many and a lighter rest.
+-- The level theorem: the entry at a start is a plan of the level (`entry-sound`), and no plan of the level that is
+-- usable at that start is better (`entry-least`): neither fewer pages, nor as many and a lighter rest.
 -- Defines Usable. Assumes nothing.
 use Prim.Native.Nat.{ℕ, _+_, _≤_}
 use mathlib.Core.Path.{_≡_, refl}
@@ -14,7 +14,8 @@ use Rattle.model.specs.Steps.{runOf, lightest, entryAt, stretched}
 use Rattle.theory.specs.BestGreedy.{best, Picked, pickedNone, pickedOne, Gainful, Spared, runOf-least, RunReduced}
 use Rattle.theory.specs.BestGreedy.{reducedNone, reducedOne, reduced-offers, runOf-reduced}
 use Rattle.theory.specs.BestLevel.{Fair, stopping, stopsAt-stopping, stopping-less, lightestOf, lightest-nil}
-use Rattle.theory.specs.BestLevel.{lightest-cons, RunSoFar, noRun, aRun, Level, empty, stay, begin, go, run-within}
+use Rattle.theory.specs.BestLevel.{lightest-cons, RunSoFar, noRun, aRun, Level, empty, stay, begin, go}
+use Rattle.theory.specs.BestLevel.{run-within}
 use Rattle.theory.specs.BestCandidates.{AllOf, AnyOf, all-append, any-left, any-right, winner-all, Below}
 use Rattle.theory.specs.BestCandidates.{winner-below, stayed, ran, staying-all, staying-any, running-all}
 use Rattle.theory.specs.BestCandidates.{running-any}
@@ -102,42 +103,43 @@ sound-nil K =
       stretch = λ s k run h g a. tt;
     }
 
-module _ (K : ℕ) (k : Child) (ks : List Child) (f : Fair K (k ∷ ks)) (before : LevelSound K ks) (s : ℕ) (h : s ≤ K) where
-  longer-sound : (run : List Child) → Gainful run → Reachable K 0 run
-      → AllOf (Usable K s (reverseAux (k ∷ run) ks)) (longer K s run k ks)
-  longer-sound run g a =
-      let ms : List Member = runOf K (k ∷ run) in
-      let reduced = runOf-reduced K (k ∷ run) (f .1, g) in
-      all-append _ (running K ms (entryAt K ks s)) _
-      (running-all _ K ms _ (λ w. ran-usable {run = run} (f .1, g) reduced a w (before .entry s h)))
-      (before .stretch s k run h (f .1, g) a)
+module _ (K : ℕ) (k : Child) (ks : List Child) (f : Fair K (k ∷ ks)) (before : LevelSound K ks) (s : ℕ) (h : s ≤ K)
+  where
+    longer-sound : (run : List Child) → Gainful run → Reachable K 0 run
+        → AllOf (Usable K s (reverseAux (k ∷ run) ks)) (longer K s run k ks)
+    longer-sound run g a =
+        let ms : List Member = runOf K (k ∷ run) in
+        let reduced = runOf-reduced K (k ∷ run) (f .1, g) in
+        all-append _ (running K ms (entryAt K ks s)) _
+        (running-all _ K ms _ (λ w. ran-usable {run = run} (f .1, g) reduced a w (before .entry s h)))
+        (before .stretch s k run h (f .1, g) a)
 
-  -- there is a candidate: the run of one child is within K
-  candidate : AnyOf (λ (c : Entry). Unit {0}) (candidates K k ks s)
-  candidate =
-      let alone : Spared K 0 (runOf K (k ∷ [])) =
-      runOf-least (f .1, tt) (pickedOne (best refl refl) refl refl (pickedNone refl refl)) (omega arith) in
-      any-right _ (staying K s k (entryAt K ks (s + k .rest))) _
-      (any-left _ (running K (runOf K (k ∷ [])) (entryAt K ks s)) _ (running-any _ K _ _ (alone .within) tt))
+    -- there is a candidate: the run of one child is within K
+    candidate : AnyOf (λ (c : Entry). Unit {0}) (candidates K k ks s)
+    candidate =
+        let alone : Spared K 0 (runOf K (k ∷ [])) =
+        runOf-least (f .1, tt) (pickedOne (best refl refl) refl refl (pickedNone refl refl)) (omega arith) in
+        any-right _ (staying K s k (entryAt K ks (s + k .rest))) _
+        (any-left _ (running K (runOf K (k ∷ [])) (entryAt K ks s)) _ (running-any _ K _ _ (alone .within) tt))
 
-  entry-sound-cons : Usable K s (k ∷ ks) (entryAt K (k ∷ ks) s)
-  entry-sound-cons =
-      let P : Entry → Type 0 = Usable K s (k ∷ ks) in
-      rw entryAt-cons
-      (winner-all P (λ (c : Entry). Unit {0}) s (candidates K k ks s)
-      (all-append P (staying K s k (entryAt K ks (s + k .rest))) _
-      (staying-all P K s k _ (λ w. stayed-usable (before .entry (s + k .rest) w))) (longer-sound [] tt tt))
-      candidate)
+    entry-sound-cons : Usable K s (k ∷ ks) (entryAt K (k ∷ ks) s)
+    entry-sound-cons =
+        let P : Entry → Type 0 = Usable K s (k ∷ ks) in
+        rw entryAt-cons
+        (winner-all P (λ (c : Entry). Unit {0}) s (candidates K k ks s)
+        (all-append P (staying K s k (entryAt K ks (s + k .rest))) _
+        (staying-all P K s k _ (λ w. stayed-usable (before .entry (s + k .rest) w))) (longer-sound [] tt tt))
+        candidate)
 
-  stretch-sound-cons : (j : Child) (run : List Child) → Gainful (j ∷ run)
-      → AllOf (Usable K s (reverseAux (k ∷ j ∷ run) ks)) (stretched K s (j ∷ run) (k ∷ ks))
-  unfolding pick
-  stretch-sound-cons j run g = rw stretched-cons (ask (stopping K (lightest (j ∷ run))) refl)
-    where
-      ask : (b : Bool) → stopping K (lightest (j ∷ run)) ≡ b
-          → AllOf (Usable K s (reverseAux (k ∷ j ∷ run) ks)) (pick b [] (longer K s (j ∷ run) k ks))
-      ask true e = tt
-      ask false e = longer-sound (j ∷ run) g (stopping-less K _ _ e (omega arith))
+    stretch-sound-cons : (j : Child) (run : List Child) → Gainful (j ∷ run)
+        → AllOf (Usable K s (reverseAux (k ∷ j ∷ run) ks)) (stretched K s (j ∷ run) (k ∷ ks))
+    unfolding pick
+    stretch-sound-cons j run g = rw stretched-cons (ask (stopping K (lightest (j ∷ run))) refl)
+      where
+        ask : (b : Bool) → stopping K (lightest (j ∷ run)) ≡ b
+            → AllOf (Usable K s (reverseAux (k ∷ j ∷ run) ks)) (pick b [] (longer K s (j ∷ run) k ks))
+        ask true e = tt
+        ask false e = longer-sound (j ∷ run) g (stopping-less K _ _ e (omega arith))
 
 sound : (K : ℕ) (ks : List Child) → Fair K ks → LevelSound K ks
 sound K [] f = sound-nil K
@@ -198,8 +200,8 @@ module _ {K : ℕ} {k : Child} {ks : List Child} (f : Fair K (k ∷ ks)) (before
       (ran-below ms (before .entry s l h) (least .fewest) (omega arith)))
   longer-least t {l = y} {run = run} g p (go {l′ = y′} o a b c d u l) w e h i =
       any-right _ (running K (runOf K (k ∷ run)) (entryAt K ks s)) _
-      (before .stretch s t (f .1, g) (pickedOne o refl refl p) l (omega arith) (reachable-left K y y′ k run (f .1, g) c d e)
-      h (omega arith))
+      (before .stretch s t (f .1, g) (pickedOne o refl refl p) l (omega arith)
+      (reachable-left K y y′ k run (f .1, g) c d e) h (omega arith))
 
   run-least : {n x y l : ℕ} {cs : List Choice} → Level K (k ∷ ks) cs n x (aRun y l) → s + x ≤ K
       → AnyOf (λ (c : Entry). Below c n (s + x)) (candidates K k ks s)
@@ -229,6 +231,6 @@ least K (k ∷ ks) f =
           (longer-least f before s t g p l w e h i);
     }
 
-pub entry-least : {K n x : ℕ} {ks : List Child} {cs : List Choice} {o : RunSoFar} (s : ℕ) → Fair K ks → Level K ks cs n x o
-    → s + x ≤ K → Below (entryAt K ks s) n (s + x)
+pub entry-least : {K n x : ℕ} {ks : List Child} {cs : List Choice} {o : RunSoFar} (s : ℕ) → Fair K ks
+    → Level K ks cs n x o → s + x ≤ K → Below (entryAt K ks s) n (s + x)
 entry-least {K} {ks = ks} s f l h = least K ks f .entry s l h

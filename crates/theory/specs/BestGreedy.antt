@@ -1,7 +1,7 @@
--- What `reduce` makes of the members of a run: it takes the largest gains first, so whatever choice of gains brings the
--- sum of the rests down to the room, `reduce` does too, and takes no more of them.
--- Defines Offers (what a child offers), Picked (an offer of each member of a run), Gainful, Spared and RunReduced (what a
--- run's members are reduced to). Proves runOf-least and runOf-reduced. Assumes nothing.
+-- What `reduce` makes of the members of a run: it takes the largest gains first, so whatever choice of gains brings
+-- the sum of the rests down to the room, `reduce` does too, and takes no more of them.
+-- Defines Offers (what a child offers), Picked (an offer of each member of a run), Gainful, Spared and RunReduced
+-- (what a run's members are reduced to). Proves runOf-least and runOf-reduced. Assumes nothing.
 use Prim.Native.Nat.{ℕ, zero, suc, _+_, _-_, _≤_}
 use mathlib.Core.Path.{_≡_, refl}
 use mathlib.Core.Bool.{Bool, true, false}
@@ -95,7 +95,8 @@ reduction-spared (turned {ms = ms} x r) (suc m) s c h =
 
 -- ---- The members of a run
 
--- what a child offers: its best plan and, where it has a gain, its second, which has a page more; pages more, and rest
+-- what a child offers: its best plan and, where it has a gain, its second, which has a page more; pages more, and
+-- rest
 pub data Offers (k : Child) : Bool → ℕ → ℕ → Type 0 where
   best : {e r : ℕ} → e ≡ 0 → r ≡ k .rest → Offers k false e r
   second : {e r : ℕ} → e ≡ 1 → 1 ≤ k .gain → r + k .gain ≡ k .rest → Offers k true e r
@@ -139,7 +140,8 @@ unfolding takenCount asMember pick
 run-untaken [] = refl
 run-untaken (k ∷ run) = omega (arith, run-untaken run)
 
-pub runOf-least : {room m z : ℕ} {run : List Child} → Gainful run → Picked run m z → z ≤ room → Spared room m (runOf room run)
+pub runOf-least : {room m z : ℕ} {run : List Child} → Gainful run → Picked run m z → z ≤ room
+    → Spared room m (runOf room run)
 unfolding runOf
 runOf-least {room} {m} {run = run} g p l =
     let t = picked-gains p in
@@ -180,4 +182,4 @@ reduced-turn (there n t) g p (reducedOne o r) = reducedOne o (reduced-turn t (g 
 pub runOf-reduced : (room : ℕ) (run : List Child) → Gainful run → RunReduced run (runOf room run)
 unfolding runOf
 runOf-reduced room run g =
-    reduce-keeps room (RunReduced run) (λ xs ys x r c. reduced-turn r g (x .some) c) (map asMember run) (reduced-run run)
+    reduce-keeps room (RunReduced run) (λ xs ys x r c. reduced-turn r g (x .some) c) _ (reduced-run run)

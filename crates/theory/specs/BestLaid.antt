@@ -1,6 +1,6 @@
 -- The marks that best and level lay from the root down weigh what their entries say.
--- Defines Figured, pagesBelow, pagesOf. Proves laid-feasible: these marks are allowed, every page is within K, and the page
--- count and the root page are the entries'. Assumes nothing.
+-- Defines Figured, pagesBelow, pagesOf. Proves laid-feasible: these marks are allowed, every page is within K, and
+-- the page count and the root page are the entries'. Assumes nothing.
 use Prim.Native.Nat.{ℕ, suc, _+_, _≤_}
 use mathlib.Core.Path.{_≡_, refl, sym, ap, _∙_}
 use mathlib.Core.Bool.{Bool, true, false}
@@ -10,7 +10,8 @@ use lib.ListN.{length}
 use Rattle.model.specs.Basics.{pick}
 use Rattle.model.specs.Table.{Chain, end, node}
 use Rattle.model.specs.Plan.{stays, begins, continues}
-use Rattle.model.specs.Steps.{Child, Choice, entryAt, childOf, childrenFrom, childrenOf, choicesOf, layMarks, rootChoice}
+use Rattle.model.specs.Steps.{Child, Choice, entryAt, childOf, childrenFrom, childrenOf, choicesOf, layMarks}
+use Rattle.model.specs.Steps.{rootChoice}
 use Rattle.theory.specs.PlanShape.{weighed, EachWithin}
 use Rattle.theory.specs.PlanLaid.{FeasibleShape, feasible-tree}
 use Rattle.theory.specs.PlanWeighs.{Weighs, weighs-end, weighs-stays, weighs-begins, weighs-continues}
@@ -18,7 +19,8 @@ use Rattle.theory.specs.BestGreedy.{Offers, best, second}
 use Rattle.theory.specs.BestLevel.{Fair, RunSoFar, noRun, aRun, Level, empty, stay, begin, go, run-within}
 use Rattle.theory.specs.BestNodes.{bestEntry, node-rest, node-best, node-second, children-fair}
 
--- the pages that begin in a chain and below it where each node follows its best plan: the counts of their best entries
+-- the pages that begin in a chain and below it where each node follows its best plan: the counts of their best
+-- entries
 unfoldable pub pagesBelow : Bool → ℕ → Chain → ℕ
 pagesBelow gains K end = 0
 pagesBelow gains K (node w l kids next) =
@@ -53,8 +55,9 @@ room-zero : {K n x : ℕ} {ks : List Child} {cs : List Choice} (o : RunSoFar) �
 room-zero noRun l = tt
 room-zero (aRun y z) l = omega (arith, run-within l)
 
--- The marks of a chain after some siblings, laid under the choices ds of a plan of the level with n pages, and x that
--- stays: the choices are split into those of the chain and those of the siblings before, for which the plan is one too.
+-- The marks of a chain after some siblings, laid under the choices ds of a plan of the level with n pages, and x
+-- that stays: the choices are split into those of the chain and those of the siblings before, for which the plan is
+-- one too.
 data ChainLaid (gains : Bool) (K : ℕ) (c : Chain) (before : List Child) (ds : List Choice) (n x : ℕ) : Type 0 where
   chainLaid : {others : List Choice} {count sum stayed carried pages : ℕ} {run : RunSoFar} (own : List Choice)
       → reverseAux own others ≡ ds
@@ -119,7 +122,8 @@ offering gains K w kids f h lay b e r (best p q) =
 offering gains K w kids f h lay b e r (second p g q) =
     let ks : List Child = childrenOf gains K kids in
     let b = node-second K w ks f h gains g in
-    laid-children (lay _ _ _ _ (b .level)) refl (omega (arith, b .total, node-rest gains K w ks)) (omega (arith, b .more))
+    let total = b .total in
+    laid-children (lay _ _ _ _ (b .level)) refl (omega (arith, node-rest gains K w ks)) (omega (arith, b .more))
 
 lay-chain : (gains : Bool) {K n x : ℕ} (c : Chain) (before : List Child) {ds : List Choice} {o : RunSoFar}
     → EachWithin K c → Level K (childrenFrom gains K c before) ds n x o → ChainLaid gains K c before ds n x
@@ -127,7 +131,8 @@ unfolding childrenFrom childrenOf EachWithin
 lay-chain gains end before e l = laid-none l
 lay-chain gains {K} (node w z kids next) before e l =
     laid-sibling
-    (offering gains K w kids (children-fair gains K kids [] (e .1) tt) (e .0) (λ ds n x o v. lay-chain gains kids [] (e .1) v))
+    (offering gains K w kids (children-fair gains K kids [] (e .1) tt) (e .0)
+    (λ ds n x o v. lay-chain gains kids [] (e .1) v))
     (lay-chain gains next (childOf gains K w (childrenFrom gains K kids []) ∷ before) (e .2) l)
 
 -- ---- The whole tree
@@ -142,13 +147,14 @@ abbrev pub pagesOf : Bool → ℕ → Chain → ℕ
 pagesOf gains K c = suc (pagesBelow gains K c)
 
 pub laid-feasible : (gains : Bool) (K w l : ℕ) (kids : Chain) → EachWithin K (node w l kids end)
-    → Figured K (node w l kids end) (layMarks gains K (node w l kids end) rootChoice) (pagesOf gains K (node w l kids end))
-    (entryAt K (childrenOf gains K kids) w .rest)
+    → Figured K (node w l kids end) (layMarks gains K (node w l kids end) rootChoice)
+    (pagesOf gains K (node w l kids end)) (entryAt K (childrenOf gains K kids) w .rest)
 unfolding layMarks childrenOf EachWithin pagesBelow
 laid-feasible gains K w l kids e =
     let ks : List Child = childrenOf gains K kids in
     let f : Fair K ks = children-fair gains K kids [] (e .1) tt in
-    let p = offering gains K w kids f (e .0) (λ ds n x o v. lay-chain gains kids [] (e .1) v) false 0 _ (best refl refl) in
+    let p = offering gains K w kids f (e .0) (λ ds n x o v. lay-chain gains kids [] (e .1) v)
+    false 0 _ (best refl refl) in
     let b = node-best K w ks f (e .0) in
     let total : w + p .sum ≡ bestEntry K w ks .rest = omega (arith, p .total, node-rest gains K w ks) in
     let q = weighs-begins w l kids end _ [] false (p .marks) (weighs-end K true) (omega arith) in

@@ -1,7 +1,7 @@
 -- Plans of one level: what becomes of a node's children, the last child first, each with its best or its second plan.
 -- They do not depend on the start: at start s a plan is usable if s and what stays are within K.
--- Defines Fair, stopping, lightestOf, RunSoFar, Level. Proves that a plan where something stays can be made lighter for
--- one page more (`lighter`). Assumes nothing.
+-- Defines Fair, stopping, lightestOf, RunSoFar, Level. Proves that a plan where something stays can be made lighter
+-- for one page more (`lighter`). Assumes nothing.
 use Prim.Native.Nat.{ℕ, zero, suc, _+_, _-_, _≤_, _<_}
 use mathlib.Core.Path.{_≡_, refl}
 use mathlib.Core.Bool.{Bool, false}
@@ -62,8 +62,8 @@ pub data RunSoFar : Type 0 where
   noRun : RunSoFar
   aRun : (weight others : ℕ) → RunSoFar
 
--- A plan of a level's children: what becomes of each, the pages that begin (more than the children's best plans have),
--- the sum of the rests that stay, and the run so far. No run grows beyond what the stretch reaches.
+-- A plan of a level's children: what becomes of each, the pages that begin (more than the children's best plans
+-- have), the sum of the rests that stay, and the run so far. No run grows beyond what the stretch reaches.
 pub data Level (K : ℕ) : List Child → List Choice → ℕ → ℕ → RunSoFar → Type 0 where
   empty : {n x : ℕ} → n ≡ 0 → x ≡ 0 → Level K [] [] n x noRun
   stay : {k : Child} {ks : List Child} {cs : List Choice} {n x x′ : ℕ} {o : RunSoFar}
@@ -102,7 +102,8 @@ pub record Lighter (K : ℕ) (ks : List Child) (n x : ℕ) (o : RunSoFar) : Type
   pub lighter : sum < x
   keeps : Keeps o run
 
--- the last child, of rest a, stays: it begins a run instead, or where it weighs nothing the plan before it is made lighter
+-- the last child, of rest a, stays: it begins a run instead, or where it weighs nothing the plan before it is made
+-- lighter
 lighter-stay : {K n x x′ : ℕ} {k : Child} {ks : List Child} {cs : List Choice} {o : RunSoFar}
     → Fair K (k ∷ ks) → x ≡ x′ + k .rest → Level K ks cs n x′ o → 1 ≤ x → (1 ≤ x′ → Lighter K ks n x′ o)
     → (a : ℕ) → k .rest ≡ a → Lighter K (k ∷ ks) n x noRun
@@ -122,7 +123,8 @@ lighter f (stay {k = k} e l) p = lighter-stay f e l p (λ h. lighter (f .2) l h)
 lighter {n = n} f (begin {e = u} {n′ = n′} o h e q l) p =
     let i : Lighter _ _ _ _ _ = lighter (f .2) l p in
     let more : n + 1 ≡ n′ + 1 + 1 + u = omega arith in
-    record { choices = _; sum = i .sum; run = _; level = begin o h more q (i .level); lighter = i .lighter; keeps = refl }
+    let l′ = i .level in
+    record { choices = _; sum = i .sum; run = _; level = begin o h more q l′; lighter = i .lighter; keeps = refl }
 lighter {n = n} f (go {e = u} {n′ = n′} o e h q s t l) p =
     let i : Lighter _ _ _ _ _ = lighter (f .2) l p in
     let more : n + 1 ≡ n′ + 1 + u = omega arith in

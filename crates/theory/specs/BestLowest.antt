@@ -1,8 +1,8 @@
 -- Demand 3: the best plan is the lowest there is.
--- Proves best-judged, level-judged, single-judged, pair-judged (each planner's plan of an accepted tree is feasible) and
--- best-lowest. Assumes nothing.
+-- Proves best-judged, level-judged, single-judged, pair-judged (each planner's plan of an accepted tree is feasible)
+-- and best-lowest. Assumes nothing.
 use Prim.Native.Nat.{ℕ, _≤_}
-use mathlib.Core.Path.{_≡_, sym, _∙_}
+use mathlib.Core.Path.{_≡_, _∙_}
 use mathlib.Core.Bool.{true, false}
 use mathlib.Core.List.{List}
 use native.Mathlib.Omega.{arith}
@@ -24,33 +24,42 @@ use Rattle.theory.specs.BestShape.{NoBetterThanBest, best-feasible, leve
 use Rattle.theory.specs.RunsHeld.{PlanRuns, plan-runs, RunsPlan, runs-plan}
 
 module _ {t : List ℕ} (a : AcceptedFacts t) where
+  abbrev K : ℕ
+  K = limitOf t
+
   -- what is shown of a root with its children holds of the tree of the table
   by-shape : (P : Chain → Type 0)
-      → ((w l : ℕ) (kids : Chain) → EachWithin (limitOf t) (node w l kids end) → Positive (node w l kids end) → P (node w l kids end))
+      → ((w l : ℕ) (kids : Chain) → EachWithin K (node w l kids end) → Positive (node w l kids end)
+      → P (node w l kids end))
       → P (treeOf t)
   by-shape P f =
       let r : Rooted t = sound-root (a .sound) in
       rw (r .shape)
-      (f (weightAt t 1) (labelAt t 1) (r .kids) (rw (r .shape) at (tree-within a)) (rw (r .shape) at (tree-positive (a .sound))))
+      (f (weightAt t 1) (labelAt t 1) (r .kids) (rw (r .shape) at (tree-within a))
+      (rw (r .shape) at (tree-positive (a .sound))))
 
   -- a planner whose marks are feasible by shape
   abbrev Plans : (ℕ → Chain → List ℕ) → Chain → Type 0
-  Plans steps c = (root : ℕ) × FeasibleShape (limitOf t) c (steps (limitOf t) c) root
+  Plans steps c = (root : ℕ) × FeasibleShape K c (steps K c) root
 
-  judged : (steps : ℕ → Chain → List ℕ) → Plans steps (treeOf t) → Judged t (steps (limitOf t) (treeOf t))
-  judged steps p = feasible-judged t _ (shape-feasible a _ (p .0) (p .1) .0)
+  judged : (steps : ℕ → Chain → List ℕ)
+      → ((w l : ℕ) (kids : Chain) → EachWithin K (node w l kids end) → Plans steps (node w l kids end))
+      → Judged t (steps K (treeOf t))
+  judged steps f =
+      let p = by-shape (Plans steps) (λ w l kids e p. f w l kids e) in
+      feasible-judged t _ (shape-feasible a _ (p .0) (p .1) .0)
 
-  pub best-judged : Judged t (bestMarks (limitOf t) (treeOf t))
-  best-judged = judged bestMarks (by-shape (Plans bestMarks) (λ w l kids e p. (_, best-feasible (limitOf t) w l kids e .feasible)))
+  pub best-judged : Judged t (bestMarks K (treeOf t))
+  best-judged = judged bestMarks (λ w l kids e. (_, best-feasible K w l kids e .feasible))
 
-  pub level-judged : Judged t (levelMarks (limitOf t) (treeOf t))
-  level-judged = judged levelMarks (by-shape (Plans levelMarks) (λ w l kids e p. (_, level-feasible (limitOf t) w l kids e .feasible)))
+  pub level-judged : Judged t (levelMarks K (treeOf t))
+  level-judged = judged levelMarks (λ w l kids e. (_, level-feasible K w l kids e .feasible))
 
-  pub single-judged : Judged t (singleMarks (limitOf t) (treeOf t))
-  single-judged = judged singleMarks (by-shape (Plans singleMarks) (λ w l kids e p. (_, single-feasible (limitOf t) w l kids e)))
+  pub single-judged : Judged t (singleMarks K (treeOf t))
+  single-judged = judged singleMarks (λ w l kids e. (_, single-feasible K w l kids e))
 
-  pub pair-judged : Judged t (pairMarks (limitOf t) (treeOf t))
-  pair-judged = judged pairMarks (by-shape (Plans pairMarks) (λ w l kids e p. (_, pair-feasible (limitOf t) w l kids e)))
+  pub pair-judged : Judged t (pairMarks K (treeOf t))
+  pair-judged = judged pairMarks (λ w l kids e. (_, pair-feasible K w l kids e))
 
   -- the figures of a feasible plan are those of its pages by shape
   page-count-is : (m : List ℕ) → Judged t m → pageCount t m ≡ length (weighed (treeOf t) m .pages)
@@ -59,27 +68,26 @@ module _ {t : List ℕ} (a : AcceptedFacts t) where
   root-weight-is : (m : List ℕ) → Judged t m → pageWeight t m 1 ≡ getD (weighed (treeOf t) m .pages) 0 0
   root-weight-is m j = weight-bridge (a .sound) m (j .long) (judged-bridge a m (j .long) .0 j .allows) 1 (omega arith)
 
-  no-better : (m : List ℕ) → Judged t m → NoBetterThanBest (limitOf t) (treeOf t) m
+  no-better : (m : List ℕ) → Judged t m → NoBetterThanBest K (treeOf t) m
   unfolding markAt
   no-better m j =
       let s : ShapePlan t m = judged-bridge a m (j .long) .0 j in
-      by-shape
-      (λ c. allowed false c m ≡ true → AllWithin (limitOf t) (weighed c m .pages) → NoBetterThanBest (limitOf t) c m)
-      (λ w l kids e p q h. best-least (limitOf t) w l kids m e p q (s .first) h)
-      (s .allows) (s .within)
+      by-shape (λ c. allowed false c m ≡ true → AllWithin K (weighed c m .pages) → NoBetterThanBest K c m)
+      (λ w l kids e p q h. best-least K w l kids m e p q (s .first) h) (s .allows) (s .within)
 
-  -- the best plan of the tree, and its page count and root weight
   abbrev bestPlan : List ℕ
-  bestPlan = bestMarks (limitOf t) (treeOf t)
+  bestPlan = bestMarks K (treeOf t)
 
-  -- no feasible plan has fewer pages, nor as many and a lighter root page
+  -- no feasible plan has fewer pages than best's, nor as many and a lighter root page
   best-least-plan : (m : List ℕ) → Judged t m
-      → (pageCount t bestPlan ≤ pageCount t m) × (pageCount t m ≡ pageCount t bestPlan → pageWeight t bestPlan 1 ≤ pageWeight t m 1)
+      → (pageCount t bestPlan ≤ pageCount t m)
+      × (pageCount t m ≡ pageCount t bestPlan → pageWeight t bestPlan 1 ≤ pageWeight t m 1)
   best-least-plan m j =
-      let b = best-judged in
-      let n = no-better m j in (
-        omega (arith, page-count-is bestPlan b, page-count-is m j, n .count),
-        λ e. omega (arith, root-weight-is bestPlan b, root-weight-is m j, n .root (sym (page-count-is bestPlan b) ∙ (sym e ∙ page-count-is m j))),
+      let n = no-better m j in
+      let c = page-count-is bestPlan best-judged in
+      let d = page-count-is m j in (
+        omega (arith, n .count),
+        λ e. omega (arith, root-weight-is bestPlan best-judged, root-weight-is m j, n .root (omega arith)),
       )
 
   -- demand 3
@@ -91,8 +99,8 @@ module _ {t : List ℕ} (a : AcceptedFacts t) where
         least =
             λ qs h w.
             let q : RunsPlan t qs = runs-plan (a .sound) qs h in
-            let j : Judged t (q .marks) = record { tree = a; long = q .long; marked = q .good; light = q .limit .1 w } in
-            let n = best-least-plan (q .marks) j in
+            let n = best-least-plan (q .marks)
+            (record { tree = a; long = q .long; marked = q .good; light = q .limit .1 w }) in
             (omega (arith, n .0, q .count), λ e. omega (arith, n .1 (q .count ∙ e), q .root));
         held = r .held;
         within = r .limit .1 (b .light);

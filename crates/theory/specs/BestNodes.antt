@@ -1,6 +1,7 @@
 -- The node theorem: the figures of a node, from its children's, mean to its parent what its children's mean to it.
--- Defines bestEntry, secondEntry, SecondPlan, NoBetter. Proves node-best, node-second (what its best and its second plan
--- are), node-left (what it leaves at least), node-least (no plan of it is better), children-fair (the figures of a chain).
+-- Defines bestEntry, secondEntry, SecondPlan, NoBetter. Proves node-best, node-second (what its best and its second
+-- plan are), node-left (what it leaves at least), node-least (no plan of it is better), children-fair (the figures
+-- of a chain).
 -- Assumes nothing.
 use Prim.Native.Nat.{ℕ, _+_, _-_, _≤_, _<_}
 use mathlib.Core.Path.{_≡_, refl}
@@ -20,7 +21,7 @@ use Rattle.theory.specs.BestEntries.{Usable, entry-sound, entry-least}
 abbrev pub bestEntry : ℕ → ℕ → List Child → Entry
 bestEntry K w ks = entryAt K ks w
 
-abbrev pub secondEntry : ℕ → ℕ → List Child → Entry
+abbrev secondEntry : ℕ → ℕ → List Child → Entry
 secondEntry K w ks = entryAt K ks (secondStart K w (bestEntry K w ks .rest))
 
 pub node-rest : (gains : Bool) (K w : ℕ) (ks : List Child) → childOf gains K w ks .rest ≡ bestEntry K w ks .rest
@@ -125,7 +126,8 @@ module _ (K w : ℕ) (ks : List Child) (f : Fair K ks) (h : w ≤ K) where
           let b = entry-least (secondStart K w W) f l (omega (arith, leb-false W (w + x) e, node-best .within)) in
           omega (arith, p .start, p .total, b .rest (omega (arith, p .more)))
 
-      gain-least : {g : ℕ} → n ≤ bestEntry K w ks .count + 1 → GainCase K w W (secondEntry K w ks) true g → W ≤ w + x + g
+      gain-least : {g : ℕ} → n ≤ bestEntry K w ks .count + 1 → GainCase K w W (secondEntry K w ks) true g
+          → W ≤ w + x + g
       gain-least i (full c e) = omega (arith, node-best .within, secondStart-is K w W)
       gain-least i (gained c e) = rw e (gaining (second-plan c) i (leb W (w + x)) refl)
 

@@ -1,6 +1,6 @@
--- Every plan of a chain that is within K, by its marks, is matched by a plan of the level in which each child follows its
--- best or its second plan: no more pages, and no more that stays. A run with a child that has two pages or more too many is
--- split around it.
+-- Every plan of a chain that is within K, by its marks, is matched by a plan of the level in which each child
+-- follows its best or its second plan: no more pages, and no more that stays. A run with a child that has two pages
+-- or more too many is split around it.
 -- Defines Matching. Proves match-children. Assumes nothing.
 use Prim.Native.Nat.{ℕ, zero, suc, _+_, _-_, _≤_, _<_}
 use mathlib.Core.Path.{_≡_, refl}
@@ -14,7 +14,7 @@ use Rattle.theory.specs.PlanShape.{size, runs, allowedMark, allowed, Wei
 use Rattle.theory.specs.PlanShape.{EachWithin}
 use Rattle.theory.specs.PlanWeighs.{all-within-left, all-within-right}
 use Rattle.theory.specs.BestGreedy.{Offers, best, second}
-use Rattle.theory.specs.BestLevel.{Fair, RunSoFar, noRun, aRun, Level, empty, stay, begin, go}
+use Rattle.theory.specs.BestLevel.{Fair, RunSoFar, aRun, Level, empty, stay, begin, go}
 use Rattle.theory.specs.BestReaching.{ReachingAfter, Reaching}
 use Rattle.theory.specs.BestNodes.{bestEntry, node-rest, node-least, children-fair}
 use Rattle.theory.specs.BestLaid.{pagesBelow}
@@ -45,8 +45,8 @@ matched k (suc (suc e)) r g p = dear (omega arith)
 
 -- ---- The siblings so far
 
--- A plan of the level with n′ pages and this run is ahead of a plan with n pages, and a run of weight y if the last sibling
--- is in one: it has fewer pages, or no more and its run, where that matters, is no heavier.
+-- A plan of the level with n′ pages and this run is ahead of a plan with n pages, and a run of weight y if the last
+-- sibling is in one: it has fewer pages, or no more and its run, where that matters, is no heavier.
 data Ahead (n y n′ : ℕ) : Bool → RunSoFar → Type 0 where
   fewer : {after : Bool} {o : RunSoFar} → n′ < n → Ahead n y n′ after o
   closed : {o : RunSoFar} → n′ ≤ n → Ahead n y n′ false o
@@ -160,7 +160,8 @@ module _ {K : ℕ} (w : ℕ) (a b : Weights) where
   parts y (suc (suc zero)) true m r h s = halves (omega arith) h s
   parts y (suc (suc (suc k))) after m r h s = absurd (false≢true m)
 
-  -- One more sibling, of mark k, whose own plan has so many pages more than its best: `rest` matches the siblings after it.
+  -- One more sibling, of mark k, whose own plan has so many pages more than its best: `rest` matches the siblings
+  -- after it.
   step : {n x y more after-below : ℕ} {kid : Child} {ks all : List Child} (below k : ℕ) (after : Bool)
       → Fair K (kid ∷ ks) → ReachingAfter K ks → allowedMark after k ≡ true → RunRoom K after y (joined k w a b .carry)
       → AllWithin K (joined k w a b .pages) → Matches K ks after n x y → w + a .stay ≤ K
@@ -172,7 +173,8 @@ module _ {K : ℕ} (w : ℕ) (a b : Weights) where
   step {more = more} below zero after f g m r h p w′ c e rest =
       matching-more (rest _ _ _ (match-stays f more p c) tt) (simp length-append (omega arith)) (omega arith)
   step below (suc zero) after f g m r h p w′ c e rest =
-      matching-more (rest _ _ _ (match-begins f p (matched _ _ _ (f .1) c) w′) (h .0)) (simp length-append (omega arith)) (omega arith)
+      matching-more (rest _ _ _ (match-begins f p (matched _ _ _ (f .1) c) w′) (h .0))
+      (simp length-append (omega arith)) (omega arith)
   step below (suc (suc zero)) false f g m r h p w′ c e rest = absurd (false≢true m)
   step below (suc (suc zero)) true f g m r h p w′ c e rest =
       matching-more (rest _ _ _ (match-continues f g p (matched _ _ _ (f .1) c) (omega arith)) (omega arith))

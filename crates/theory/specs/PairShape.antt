@@ -1,6 +1,7 @@
 -- The plan of the pair planner is feasible, by shape: the remainders of the two-way tree are the weights of pages.
--- Proves sides-sum (what a node keeps of its two sides), remainder-fits, pair-laid (a chain that is uncut leaves its remainder to the
--- parent's page, or to the run that it continues, and a cut one leaves nothing) and pair-feasible (the plan of a tree). Assumes nothing.
+-- Proves sides-sum (what a node keeps of its two sides), remainder-fits, pair-laid (a chain that is uncut leaves its
+-- remainder to the parent's page, or to the run that it continues, and a cut one leaves nothing) and pair-feasible
+-- (the plan of a tree). Assumes nothing.
 use Prim.Native.Nat.{ℕ, _+_, _-_, _≤_}
 use mathlib.Core.Path.{_≡_, refl}
 use mathlib.Core.Bool.{Bool, true, false}
@@ -13,7 +14,8 @@ use Rattle.model.specs.Plan.{stays, continues}
 use Rattle.model.specs.Steps.{Member, restSum, whole, cutDown, sides, remainder, takenAt, layPair, pairMarks}
 use Rattle.theory.specs.PlanShape.{EachWithin}
 use Rattle.theory.specs.Reduce.{EachMember, cutOff, Cuts, cutsNone, cutsOne, Reduced, reduce-whole}
-use Rattle.theory.specs.PlanLaid.{Laid, laid-end, laid-stays, laid-begins, laid-continues, FeasibleShape, feasible-tree}
+use Rattle.theory.specs.PlanLaid.{Laid, laid-end, laid-stays, laid-begins, laid-continues, FeasibleShape}
+use Rattle.theory.specs.PlanLaid.{feasible-tree}
 
 -- what is left of a side that weighs r
 abbrev pub unlessCut : Bool → ℕ → ℕ
@@ -53,8 +55,8 @@ module _ (K w : ℕ) (kids next : Chain) where
   abbrev pub nextCut : Bool
   nextCut = takenAt 1 (sides K w (remainder K kids) (remainder K next))
 
-  pub remainder-node : (l : ℕ)
-      → remainder K (node w l kids next) ≡ w + unlessCut kidsCut (remainder K kids) + unlessCut nextCut (remainder K next)
+  pub remainder-node : (l : ℕ) → remainder K (node w l kids next)
+      ≡ w + unlessCut kidsCut (remainder K kids) + unlessCut nextCut (remainder K next)
   unfolding remainder
   remainder-node l = omega (arith, sides-sum K w (remainder K kids) (remainder K next))
 
@@ -73,25 +75,31 @@ record PairLaid (K : ℕ) (c : Chain) : Type 0 where
 module _ (K w l : ℕ) (kids next : Chain) (in-kids : PairLaid K kids) (in-next : PairLaid K next)
     (fits : remainder K (node w l kids next) ≤ K)
   where
-    kids-laid : Laid K false kids (layPair K kids (kidsCut K w kids next) stays) (unlessCut (kidsCut K w kids next) (remainder K kids)) 0
+    abbrev this : Chain
+    this = node w l kids next
+
+    kids-laid : Laid K false kids (layPair K kids (kidsCut K w kids next) stays)
+        (unlessCut (kidsCut K w kids next) (remainder K kids)) 0
     kids-laid = in-kids .staying (kidsCut K w kids next) false
 
-    pair-begins : (uncut : ℕ) (run : Bool) → Laid K run (node w l kids next) (layPair K (node w l kids next) true uncut) 0 0
+    pair-begins : (uncut : ℕ) (run : Bool) → Laid K run this (layPair K this true uncut) 0 0
     unfolding layPair pick
     pair-begins uncut run =
-        laid-begins K w l kids-laid run (in-next .going-on (nextCut K w kids next)) (omega (arith, remainder-node K w kids next l))
+        laid-begins K w l kids-laid run (in-next .going-on (nextCut K w kids next))
+        (omega (arith, remainder-node K w kids next l))
 
-    pair-stays : (cut run : Bool)
-        → Laid K run (node w l kids next) (layPair K (node w l kids next) cut stays) (unlessCut cut (remainder K (node w l kids next))) 0
+    pair-stays : (cut run : Bool) → Laid K run this (layPair K this cut stays) (unlessCut cut (remainder K this)) 0
     unfolding layPair pick
     pair-stays true run = pair-begins stays run
-    pair-stays false run = rw (remainder-node K w kids next l) (laid-stays K w l kids-laid run (in-next .staying (nextCut K w kids next) false))
+    pair-stays false run =
+        rw (remainder-node K w kids next l)
+        (laid-stays K w l kids-laid run (in-next .staying (nextCut K w kids next) false))
 
-    pair-continues : (cut : Bool)
-        → Laid K true (node w l kids next) (layPair K (node w l kids next) cut continues) 0 (unlessCut cut (remainder K (node w l kids next)))
+    pair-continues : (cut : Bool) → Laid K true this (layPair K this cut continues) 0 (unlessCut cut (remainder K this))
     unfolding layPair pick
     pair-continues true = pair-begins continues true
-    pair-continues false = rw (remainder-node K w kids next l) (laid-continues K w l kids-laid (in-next .going-on (nextCut K w kids next)))
+    pair-continues false =
+        rw (remainder-node K w kids next l) (laid-continues K w l kids-laid (in-next .going-on (nextCut K w kids next)))
 
 end-none : (K : ℕ) (cut : Bool) → unlessCut cut (remainder K end) ≡ 0
 unfolding pick remainder
@@ -101,7 +109,10 @@ end-none K false = refl
 pair-laid : (K : ℕ) (c : Chain) → EachWithin K c → PairLaid K c
 unfolding EachWithin layPair
 pair-laid K end h =
-    record { staying = λ cut run. rw (end-none K cut) (laid-end K run); going-on = λ cut. rw (end-none K cut) (laid-end K true) }
+    record {
+      staying = λ cut run. rw (end-none K cut) (laid-end K run);
+      going-on = λ cut. rw (end-none K cut) (laid-end K true);
+    }
 pair-laid K (node w l kids next) h =
     let a = pair-laid K kids (h .1) in
     let b = pair-laid K next (h .2) in

@@ -1,8 +1,9 @@
 -- Laws of `reduce`, which takes gains off members, the largest first, until their sum has room.
--- Defines EachMember, sumOf, leastSum, Earliest and TurnOf (one turn), Turns, NoMoreTaken, Reduction (all turns), Whole, Cuts,
--- Reduced. Proves earliest-turn (a turn by sums), reduce-reduction and reduction-same (`reduce` takes these turns, and no other
--- list comes of them), reduce-keeps (what every turn keeps), reduce-length, reduce-least (a reduced sum has room or is the
--- least), reduce-whole (members that can be taken off whole have room, each kept or cut). Assumes nothing.
+-- Defines EachMember, sumOf, leastSum, Earliest and TurnOf (one turn), Turns, NoMoreTaken, Reduction (all turns),
+-- Whole, Cuts, Reduced. Proves earliest-turn (a turn by sums), reduce-reduction and reduction-same (`reduce` takes
+-- these turns, and no other list comes of them), reduce-keeps (what every turn keeps), reduce-length, reduce-least
+-- (a reduced sum has room or is the least), reduce-whole (members that can be taken off whole have room, each kept
+-- or cut). Assumes nothing.
 use Prim.Native.Nat.{ℕ, zero, suc, _+_, _-_, _≤_, _<_, min}
 use mathlib.Core.Path.{_≡_, refl, _∙_, ap}
 use mathlib.Core.Bool.{Bool, true, false}
@@ -13,7 +14,7 @@ use lib.ListN.{length}
 use lib.Dec.{eqb, leb}
 use borrow.Author.Tests.{leb-true, leb-false, eqb-true, eqb-false}
 use Rattle.model.specs.Basics.{pick}
-use Rattle.model.specs.Steps.{Member, restSum, gainSum, largestGain, takeEarliest, reduceFrom, reduce, whole}
+use Rattle.model.specs.Steps.{Member, restSum, gainSum, largestGain, takeEarliest, reduceFrom, reduce}
 
 -- ---- Members one by one
 
@@ -118,7 +119,8 @@ NoMoreTaken room ms = (restSum ms ≤ room) ⊎ (largestGain ms ≡ 0)
 -- the second list comes of the first by turns, as many as there are
 pub data Reduction (room : ℕ) : List Member → List Member → Type 0 where
   ended : {ms : List Member} → NoMoreTaken room ms → Reduction room ms ms
-  turned : {ms ns : List Member} → Turns room ms → Reduction room (takeEarliest (largestGain ms) ms) ns → Reduction room ms ns
+  turned : {ms ns : List Member} → Turns room ms → Reduction room (takeEarliest (largestGain ms) ms) ns
+      → Reduction room ms ns
 
 pub reduction-same : {room : ℕ} {ms ns ps : List Member} → Reduction room ms ns → Reduction room ms ps → ns ≡ ps
 reduction-same (ended d) (ended e) = refl
@@ -128,7 +130,8 @@ reduction-same (turned t r) (ended (inl h)) = absurd (omega arith)
 reduction-same (turned t r) (ended (inr h)) = absurd (omega arith)
 reduction-same (turned t r) (turned u s) = reduction-same r s
 
-pub largest-earliest : (ms : List Member) → 0 < largestGain ms → Earliest (largestGain ms) ms (takeEarliest (largestGain ms) ms)
+pub largest-earliest : (ms : List Member) → 0 < largestGain ms
+    → Earliest (largestGain ms) ms (takeEarliest (largestGain ms) ms)
 largest-earliest ms p = earliest (largestGain ms) ms p refl
 
 -- with no gainer there is no gain
@@ -148,11 +151,10 @@ reduceFrom-reduction : (f room : ℕ) (ms : List Member) → gainers ms ≤ f �
 unfolding reduceFrom pick
 reduceFrom-reduction zero room ms h = ended (inr (gainers-none ms (omega arith)))
 reduceFrom-reduction (suc f) room ms h =
-    go (leb (restSum ms) room) refl (eqb (largestGain ms) 0) refl (reduceFrom-reduction f room (takeEarliest (largestGain ms) ms))
+    go (leb (restSum ms) room) refl (eqb (largestGain ms) 0) refl (reduceFrom-reduction f room)
   where
     go : (b : Bool) → leb (restSum ms) room ≡ b → (c : Bool) → eqb (largestGain ms) 0 ≡ c
-        → (gainers (takeEarliest (largestGain ms) ms) ≤ f
-        → Reduction room (takeEarliest (largestGain ms) ms) (reduceFrom f room (takeEarliest (largestGain ms) ms)))
+        → ((ns : List Member) → gainers ns ≤ f → Reduction room ns (reduceFrom f room ns))
         → Reduction room ms (reduceFrom (suc f) room ms)
     go true e c q ih = rw e (ended (inl (leb-true _ _ e)))
     go false e true q ih = rw (e, q) (ended (inr (eqb-true _ _ q)))
@@ -160,7 +162,7 @@ reduceFrom-reduction (suc f) room ms h =
         let n : largestGain ms ≡ 0 → ⊥ = eqb-false _ _ q in
         let some : 0 < largestGain ms = omega arith in
         rw (e, q) (turned (record { over = leb-false _ _ e; some = some })
-        (ih (omega (arith, earliest-gainers some (largest-earliest ms some)))))
+        (ih _ (omega (arith, earliest-gainers some (largest-earliest ms some)))))
 
 pub reduce-reduction : (room : ℕ) (ms : List Member) → Reduction room ms (reduce room ms)
 unfolding reduce
@@ -191,13 +193,15 @@ unfolding leastSum sumOf restSum largestGain
 no-gain-least [] e = refl
 no-gain-least (m ∷ ms) e = omega (arith, no-gain-least ms (omega arith))
 
-reduction-least : {room : ℕ} {ms ns : List Member} → Reduction room ms ns → (restSum ns ≤ room) ⊎ (restSum ns ≡ leastSum ms)
+reduction-least : {room : ℕ} {ms ns : List Member} → Reduction room ms ns
+    → (restSum ns ≤ room) ⊎ (restSum ns ≡ leastSum ms)
 reduction-least (ended (inl h)) = inl h
 reduction-least (ended {ms = ms} (inr h)) = inr (no-gain-least ms h)
 reduction-least (turned {ms = ms} t r) = rw (earliest-least (largest-earliest ms (t .some))) at (reduction-least r)
 
 -- a reduced sum has room, or is the least there is
-pub reduce-least : (room : ℕ) (ms : List Member) → (restSum (reduce room ms) ≤ room) ⊎ (restSum (reduce room ms) ≡ leastSum ms)
+pub reduce-least : (room : ℕ) (ms : List Member)
+    → (restSum (reduce room ms) ≤ room) ⊎ (restSum (reduce room ms) ≡ leastSum ms)
 reduce-least room ms = reduction-least (reduce-reduction room ms)
 
 -- no member gains more than it weighs
@@ -239,7 +243,8 @@ off-cut g m x w e p (inr q) =
     let none : x .gain ≡ 0 = rw q refl in
     absurd (omega arith)
 
-earliest-cuts : {g : ℕ} {ms ns ps : List Member} → EachMember Whole ms → 0 < g → Earliest g ns ps → Cuts ms ns → Cuts ms ps
+earliest-cuts : {g : ℕ} {ms ns ps : List Member} → EachMember Whole ms → 0 < g → Earliest g ns ps → Cuts ms ns
+    → Cuts ms ps
 unfolding EachMember
 earliest-cuts {g} h p (here {m = x} e) (cutsOne {m = m} c r) = cutsOne (inr (off-cut g m x (h .0) e p c)) r
 earliest-cuts h p (there n t) (cutsOne c r) = cutsOne c (earliest-cuts (h .1) p t r)

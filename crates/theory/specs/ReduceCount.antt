@@ -1,8 +1,8 @@
--- What counting gains needs of `reduce`: its figures, the sum and how many members were taken, follow from the sum, the
--- room and how many members have each gain.
--- Defines Sound, hasGain, countGain, Figures, figuresOf, takeUpTo, byCount, Counted. Proves reduce-stop, reduce-turn (one
--- turn), earliest-rest, earliest-taken, earliest-count, earliest-count-other (what a turn does to the figures and to each
--- count) and reduce-by-count (the figures of `reduce`, from the largest gain down). Assumes nothing.
+-- What counting gains needs of `reduce`: its figures, the sum and how many members were taken, follow from the sum,
+-- the room and how many members have each gain.
+-- Defines Sound, hasGain, countGain, Figures, figuresOf, takeUpTo, byCount, Counted. Proves reduce-stop, reduce-turn
+-- (one turn), earliest-rest, earliest-taken, earliest-count, earliest-count-other (what a turn does to the figures
+-- and to each count) and reduce-by-count (the figures of `reduce`, from the largest gain down). Assumes nothing.
 use Prim.Native.Nat.{ℕ, zero, suc, _+_, _-_, _≤_, _<_}
 use mathlib.Core.Path.{_≡_, refl, sym, _∙_, ap}
 use mathlib.Core.Bool.{Bool, true, false}

@@ -5,7 +5,7 @@
 use Prim.Native.Nat.{ℕ, _+_, _-_, _≤_}
 use mathlib.Core.Path.{_≡_, refl}
 use mathlib.Core.Bool.{Bool, true, false}
-use mathlib.Core.List.{List, [], _∷_}
+use mathlib.Core.List.{List, _∷_}
 use mathlib.Core.Logic.{_⊎_, inl, inr}
 use native.Mathlib.Omega.{arith}
 use native.Mathlib.Nat.{zero-add}
@@ -52,7 +52,8 @@ single-laid K (node w l kids next) ms h (cutsOne {x = x} {xs = xs} c r) run =
 
 -- the plan of a tree: the root's page holds the root and what its children keep
 pub single-feasible : (K w l : ℕ) (kids : Chain) → EachWithin K (node w l kids end)
-    → FeasibleShape K (node w l kids end) (singleMarks K (node w l kids end)) (w + restSum (cutDown K w (remainders K kids)))
+    → FeasibleShape K (node w l kids end) (singleMarks K (node w l kids end))
+    (w + restSum (cutDown K w (remainders K kids)))
 unfolding EachWithin singleMarks laySingle pick
 single-feasible K w l kids h =
     let cut = cutDown-reduced K w kids in
