@@ -14,7 +14,7 @@ use lib.Dec.{eqb, ltb, leb}
 use borrow.Author.Tests.{leb-true, leb-false, eqb-true, eqb-false, ltb-true, ltb-false, lt-ltb, le-ltb, eq-eqb, ne-eqb}
 use Rattle.model.specs.Basics.{pick}
 use Rattle.model.specs.Steps.{Member, restSum, largestGain, takeEarliest, reduce}
-use Rattle.theory.specs.Reduce.{Each, Earliest, here, there, earliest, offBy}
+use Rattle.theory.specs.Reduce.{EachMember, Earliest, here, there, earliest, offBy}
 use Rattle.theory.specs.ReduceCount.{Sound, countGain, Counted, reduce-stop, reduce-turn, earliest-sound}
 use Rattle.theory.specs.ReduceCount.{earliest-rest, earliest-count, earliest-count-other, earliest-largest}
 use Rattle.theory.specs.ReduceCount.{largest-below, count-le-largest}
@@ -183,7 +183,7 @@ module _ (g : ℕ) (c : ℕ → ℕ) (room : ℕ)
     (next : (ms : List Member) → Counted g c ms → reduce room ms ≡ takeByLevel (levelFrom g c room (restSum ms)) ms)
   where
     -- n members have the gain g + 1, and t had it
-    level-reduce : (n t : ℕ) (ms ls : List Member) → Each Sound ms → largestGain ms ≤ suc g → countGain (suc g) ms ≡ n
+    level-reduce : (n t : ℕ) (ms ls : List Member) → EachMember Sound ms → largestGain ms ≤ suc g → countGain (suc g) ms ≡ n
         → ((h : ℕ) → 0 < h → h ≤ g → countGain h ms ≡ c h) → AfterTurns g t ms ls
         → reduce room ms ≡ takeByLevel (levelHere n t (suc g) room (restSum ms) (levelFrom g c room)) ls
     unfolding levelHere pick
@@ -194,7 +194,7 @@ module _ (g : ℕ) (c : ℕ → ℕ) (room : ℕ)
         go (leb (restSum ms) room) refl (level-reduce n (suc t))
       where
         go : (b : Bool) → leb (restSum ms) room ≡ b
-            → ((ns ks : List Member) → Each Sound ns → largestGain ns ≤ suc g → countGain (suc g) ns ≡ n
+            → ((ns ks : List Member) → EachMember Sound ns → largestGain ns ≤ suc g → countGain (suc g) ns ≡ n
             → ((h : ℕ) → 0 < h → h ≤ g → countGain h ns ≡ c h) → AfterTurns g (suc t) ns ks
             → reduce room ns ≡ takeByLevel (levelHere n (suc t) (suc g) room (restSum ns) (levelFrom g c room)) ks)
             → reduce room ms ≡ takeByLevel (levelHere (suc n) t (suc g) room (restSum ms) (levelFrom g c room)) ls

@@ -21,7 +21,7 @@ use Rattle.model.specs.Table.{maxNodes, maxLimit}
 use Rattle.model.specs.Steps.{Member, Child, restSum, gainSum, takenCount, largestGain, asMember, runOf, reduce}
 use Rattle.model.specs.Steps.{lightest, stopsAt}
 use Rattle.theory.specs.Ranges.{pick-true, pick-false}
-use Rattle.theory.specs.Reduce.{Each, GainFits, sumOf, leastSum, reduce-least, least-gain}
+use Rattle.theory.specs.Reduce.{EachMember, GainFits, sumOf, leastSum, reduce-least, least-gain}
 use Rattle.theory.specs.ReduceCount.{Sound, asMember-sound, hasGain, countGain, countGain-cons, Counted, Figures}
 use Rattle.theory.specs.ReduceCount.{figuresOf, takeUpTo, takeUpTo-room, byCount, byCount-room, reduce-by-count}
 use Rattle.best.specs.Cells.{Cell, pageWord, lower, tryRun, cellAt, longerRuns, GoodChild, GoodChildren}
@@ -84,13 +84,13 @@ total-high K (k ∷ run) g =
     let ih = total-high K run (g .1) in
     (omega (arith, g .0 .fits, ih .0), omega (arith, g .0 .light, ih .1))
 
-pub members-sound : (K : ℕ) (run : List Child) → GoodChildren K run → Each Sound (asMembers run)
-unfolding Each GoodChildren
+pub members-sound : (K : ℕ) (run : List Child) → GoodChildren K run → EachMember Sound (asMembers run)
+unfolding EachMember GoodChildren
 members-sound K [] g = tt
 members-sound K (k ∷ run) g = (asMember-sound k (g .0 .fits), members-sound K run (g .1))
 
-members-fit : (K : ℕ) (run : List Child) → GoodChildren K run → Each GainFits (asMembers run)
-unfolding Each GoodChildren asMember
+members-fit : (K : ℕ) (run : List Child) → GoodChildren K run → EachMember GainFits (asMembers run)
+unfolding EachMember GoodChildren asMember
 members-fit K [] g = tt
 members-fit K (k ∷ run) g = (g .0 .fits, members-fit K run (g .1))
 
