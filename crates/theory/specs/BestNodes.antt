@@ -1,8 +1,7 @@
 -- The node theorem: the figures of a node, from its children's, mean to its parent what its children's mean to it.
 -- Defines bestEntry, secondEntry, SecondPlan, NoBetter. Proves node-best, node-second (what its best and its second
 -- plan are), node-left (what it leaves at least), node-least (no plan of it is better), children-fair (the figures
--- of a chain).
--- Assumes nothing.
+-- of a chain). Assumes nothing.
 use Prim.Native.Nat.{ℕ, _+_, _-_, _≤_, _<_}
 use mathlib.Core.Path.{_≡_, refl}
 use mathlib.Core.Bool.{Bool, true, false}
