@@ -5,7 +5,7 @@
 -- Assumes nothing.
 use Prim.Native.Nat.{ℕ, zero, suc, _+_, _≤_, _<_}
 use native.Mathlib.Omega.{arith}
-use mathlib.Core.Bool.{Bool, true, false, not, _&&_, _||_, true≢false, false≢true}
+use mathlib.Core.Bool.{Bool, true, false, not, _&&_, or-true, true≢false, false≢true}
 use mathlib.Core.Path.{_≡_, refl, sym, _∙_, ap}
 use mathlib.Core.Logic.{_⊎_, inl, inr}
 use mathlib.Core.List.{List}
@@ -86,11 +86,7 @@ inRun-begins m v e = rw e
 
 pub inRun-continues : (m : List ℕ) (v : ℕ) → hasMark m continues v ≡ true → inRun m v ≡ true
 unfolding inRun
-inRun-continues m v e = go (hasMark m begins v)
-  where
-    go : (b : Bool) → (b || hasMark m continues v) ≡ true
-    go true = refl
-    go false = e
+inRun-continues m v e = rw (e, or-true)
 
 pub neither-inRun : (m : List ℕ) (v : ℕ) → hasMark m begins v ≡ false → hasMark m continues v ≡ false
     → inRun m v ≡ false
