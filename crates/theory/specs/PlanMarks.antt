@@ -114,8 +114,7 @@ module _ {t : List ℕ} (s : SoundFacts t) (m : List ℕ) (long : length m ≡ n
       let below = chain-marks k false (omega arith) (omega arith) (first-after (suc v) (omega arith) (omega arith)) in
       let beside : allowedMark after mark ≡ true
       → Between e₁ e₂ (λ x. goodMark t m x ≡ true) ↔ (allowed (runs mark) next (drop e₁ m) ≡ true) =
-      λ ok. chain-marks r (runs mark) (omega arith) high (next-after (suc v) after (omega arith) (omega arith) ok) in
-      (
+      λ ok. chain-marks r (runs mark) (omega arith) high (next-after (suc v) after (omega arith) (omega arith) ok) in (
         λ good.
             let ok : allowedMark after mark ≡ true = sym here ∙ good (suc v) (omega arith) (omega arith) in
             all
