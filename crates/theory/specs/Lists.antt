@@ -37,17 +37,18 @@ module _ {ℓ} {X : Type ℓ} (p : X → Bool) where
   unfolding countOf
   countOf-nil = refl
 
-  countOf-single : (x : X) → countOf p (x ∷ []) ≡ pick (p x) 1 0
-  unfolding countOf
-  countOf-single x = refl
-
-  pub countOf-yes : (x : X) (xs : List X) → p x ≡ true → countOf p (x ∷ xs) ≡ suc (countOf p xs)
+  countOf-yes : (x : X) (xs : List X) → p x ≡ true → countOf p (x ∷ xs) ≡ suc (countOf p xs)
   unfolding countOf
   countOf-yes x xs e = pick-true (p x) (suc (countOf p xs)) (countOf p xs) e
 
-  pub countOf-no : (x : X) (xs : List X) → p x ≡ false → countOf p (x ∷ xs) ≡ countOf p xs
+  countOf-no : (x : X) (xs : List X) → p x ≡ false → countOf p (x ∷ xs) ≡ countOf p xs
   unfolding countOf
   countOf-no x xs e = pick-false (p x) (suc (countOf p xs)) (countOf p xs) e
+
+  pub countOf-cons : (x : X) (xs : List X) → countOf p (x ∷ xs) ≡ pick (p x) 1 0 + countOf p xs
+  countOf-cons x xs =
+      ⊎-elim (λ e. omega (arith, countOf-yes x xs e, pick-true {X = ℕ} (p x) 1 0 e))
+      (λ e. omega (arith, countOf-no x xs e, pick-false {X = ℕ} (p x) 1 0 e)) (bool-cases (p x))
 
   countOf-more : (x : X) (xs : List X) → countOf p xs ≤ countOf p (x ∷ xs)
   unfolding countOf
@@ -153,7 +154,8 @@ module _ {ℓ} {X : Type ℓ} (p : ℕ → Bool) (f : ℕ → X) where
             arith,
             ap (countOf q) (chosen-yes p f n e),
             countOf-append q (chosen p f n) (f (suc n) ∷ []),
-            countOf-single q (f (suc n)),
+            countOf-cons q (f (suc n)) [],
+            countOf-nil q,
             countTo-suc n both,
             ap (λ b. pick {X = ℕ} (b && q (f (suc n))) 1 0) e,
           )

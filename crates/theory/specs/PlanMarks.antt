@@ -100,7 +100,8 @@ module _ {t : List ℕ} (s : SoundFacts t) (m : List ℕ) (long : length m ≡ n
 
   -- the marks of a chain are good just where they are allowed
   chain-marks : {v e u : ℕ} {c : Chain} → Numbered t v u c e → (after : Bool) → 1 ≤ v → e ≤ nodeCount t
-      → (1 ≤ u → afterRun t m u ≡ after) → Between v e (λ x. goodMark t m x ≡ true) ↔ (allowed after c (drop v m) ≡ true)
+      → (1 ≤ u → afterRun t m u ≡ after)
+      → Between v e (λ x. goodMark t m x ≡ true) ↔ (allowed after c (drop v m) ≡ true)
   unfolding allowed
   chain-marks none after low high before = (λ good. refl, λ ok x a b. absurd (omega arith))
   chain-marks (some {m = v} {e₁ = e₁} {e₂ = e₂} {kids = kids} {next = next} k r) after low high before =
