@@ -115,7 +115,8 @@ count-le p rs rs′ one there =
 
 same-count : (p : Run → Bool) (rs rs′ : List Run) → countOf p rs ≤ 1 → countOf p rs′ ≤ 1 → SameRuns rs rs′
     → countOf p rs ≡ countOf p rs′
-same-count p rs rs′ one one′ same = omega (arith, count-le p rs rs′ one (same .there), count-le p rs′ rs one′ (same .back))
+same-count p rs rs′ one one′ same =
+    omega (arith, count-le p rs rs′ one (same .there), count-le p rs′ rs one′ (same .back))
 
 module _ {t : List ℕ} (s : SoundFacts t) where
   starts-once : (rs : List Run) → HoldFacts t rs → Upto (nodeCount t) (λ v. countOf (startsAt v) rs ≤ 1)
