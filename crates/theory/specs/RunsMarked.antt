@@ -5,9 +5,9 @@
 -- Assumes nothing.
 use Prim.Native.Nat.{ℕ, zero, suc, _+_, _≤_, _<_}
 use native.Mathlib.Omega.{arith}
-use mathlib.Core.Bool.{Bool, true, false, not, _&&_, _||_, true≢false, false≢true}
+use mathlib.Core.Bool.{Bool, true, false, not, _&&_, or-true, true≢false, false≢true}
 use mathlib.Core.Path.{_≡_, refl, sym, _∙_, ap}
-use mathlib.Core.Logic.{_⊎_, inl, inr}
+use mathlib.Core.Logic.{_⊎_, inl, inr, ⊎-elim}
 use mathlib.Core.List.{List}
 use lib.ListN.{length}
 use lib.Dec.{eqb}
@@ -17,7 +17,7 @@ use Rattle.model.specs.Plan.{prevAt, badMark, begins, continues, markAt, hasMar
 use Rattle.model.specs.Plan.{runLast}
 use Rattle.model.specs.Runs.{Run, isMember, runsOf}
 use Rattle.model.specs.declared.Place.the-variants.{Nowhere}
-use Rattle.theory.specs.Bools.{both-true, both-false}
+use Rattle.theory.specs.Bools.{bool-cases, both-true, both-false}
 use Rattle.theory.specs.Ranges.{by-earlier, pick-true, pick-false}
 use Rattle.theory.specs.TableFacts.{SoundFacts}
 use Rattle.theory.specs.TableLinks.{next-later, next-le, prevAt-less}
@@ -86,11 +86,7 @@ inRun-begins m v e = rw e
 
 pub inRun-continues : (m : List ℕ) (v : ℕ) → hasMark m continues v ≡ true → inRun m v ≡ true
 unfolding inRun
-inRun-continues m v e = go (hasMark m begins v)
-  where
-    go : (b : Bool) → (b || hasMark m continues v) ≡ true
-    go true = refl
-    go false = e
+inRun-continues m v e = rw (e, or-true)
 
 pub neither-inRun : (m : List ℕ) (v : ℕ) → hasMark m begins v ≡ false → hasMark m continues v ≡ false
     → inRun m v ≡ false
@@ -107,25 +103,20 @@ module _ {t : List ℕ} (s : SoundFacts t) (m : List ℕ) where
   ends-here f u e = rw (runLastFrom-stop f t m u e) (record { goes = here; stops = goesOn-no t m u e })
 
   ends-from : (f u : ℕ) → 1 ≤ u → u ≤ nodeCount t → nodeCount t ≤ f + u → Ends t m u (runLastFrom f t m u)
-  ends-from zero u low high enough = go (goesOn t m u) refl
-    where
-      go : (b : Bool) → goesOn t m u ≡ b → Ends t m u (runLastFrom 0 t m u)
-      go true e =
-          let a : 1 ≤ nextAt t u = goesOn-yes t m u e .0 in
-          absurd (omega (arith, next-later s u low high a, next-le s u low high))
-      go false e = ends-here 0 u e
-  ends-from (suc f) u low high enough = go (goesOn t m u) refl (ends-from f (nextAt t u))
-    where
-      go : (b : Bool) → goesOn t m u ≡ b
-          → (1 ≤ nextAt t u → nextAt t u ≤ nodeCount t → nodeCount t ≤ f + nextAt t u
-          → Ends t m (nextAt t u) (runLastFrom f t m (nextAt t u)))
-          → Ends t m u (runLastFrom (suc f) t m u)
-      go true e ih =
-          let on = goesOn-yes t m u e in
-          let later : u < nextAt t u = next-later s u low high (on .0) in
-          let r = ih (on .0) (next-le s u low high) (omega arith) in
-          rw (runLastFrom-on f t m u e) (record { goes = step (on .0) (on .1) (r .goes); stops = r .stops })
-      go false e ih = ends-here (suc f) u e
+  ends-from zero u low high enough =
+      ⊎-elim
+      (λ e.
+      let a : 1 ≤ nextAt t u = goesOn-yes t m u e .0 in
+      absurd (omega (arith, next-later s u low high a, next-le s u low high)))
+      (ends-here 0 u) (bool-cases (goesOn t m u))
+  ends-from (suc f) u low high enough =
+      ⊎-elim
+      (λ e.
+      let on = goesOn-yes t m u e in
+      let later : u < nextAt t u = next-later s u low high (on .0) in
+      let r = ends-from f (nextAt t u) (on .0) (next-le s u low high) (omega arith) in
+      rw (runLastFrom-on f t m u e) (record { goes = step (on .0) (on .1) (r .goes); stops = r .stops }))
+      (ends-here (suc f) u) (bool-cases (goesOn t m u))
 
   -- runLast is the last of the run
   pub runLast-ends : (u : ℕ) → 1 ≤ u → u ≤ nodeCount t → Ends t m u (runLast t m u)

@@ -214,8 +214,7 @@ module _ {t : List ℕ} (s : SoundFacts t) (m : List ℕ) (good : badMark t m �
         (omega (
           arith,
           weight-first (c .0) (planRun t m (c .0)) refl (c .1 .passed),
-          ap (pageWeight t m)
-              (c .1 .rank),
+          ap (pageWeight t m) (c .1 .rank),
         ))),
     λ e. all-every (λ r. leb (runWeight t (runsOf t m) r) (limitOf t)) (runsOf t m)
         (λ r h.

@@ -19,7 +19,7 @@ use Rattle.model.specs.Plan.{prevAt, begins, continues, stays, markAt, hasMark,
 use Rattle.model.specs.Runs.{Run, runWith, runsOf}
 use Rattle.model.specs.declared.Place.{Place}
 use Rattle.model.specs.declared.Place.the-variants.{At, Nowhere}
-use Rattle.theory.specs.Bools.{either-true}
+use Rattle.theory.specs.Bools.{bool-cases, either-true}
 use Rattle.theory.specs.Ranges.{pick-true, pick-false, atPlace-at, atPlace-nowhere, listTo-cong}
 use Rattle.theory.specs.Ranges.{length-listTo}
 use Rattle.theory.specs.Ranges.{getD-listTo}
@@ -128,13 +128,10 @@ module _ {t : List ℕ} (s : SoundFacts t) (rs : List Run) (h : HoldFacts t rs) 
       (markOfRuns-other t rs v (r .first) (runWith-at s rs h v r n (inside-member s v r f i)) other)
 
   member-inRun : (r : Run) (v : ℕ) → Mem r rs → Inside t v r → inRun (marksOf t rs) v ≡ true
-  member-inRun r v n i = go (eqb (r .first) v) refl
-    where
-      go : (b : Bool) → eqb (r .first) v ≡ b → inRun (marksOf t rs) v ≡ true
-      go true q =
-          ap (inRun (marksOf t rs)) (sym (eqb-true (r .first) v q))
-          ∙ inRun-begins (marksOf t rs) (r .first) (first-begins r n)
-      go false q = inRun-continues (marksOf t rs) v (other-continues r v n i (eqb-false (r .first) v q))
+  member-inRun r v n i =
+      ⊎-elim (λ q. rw (← eqb-true (r .first) v q) (inRun-begins (marksOf t rs) (r .first) (first-begins r n)))
+      (λ q. inRun-continues (marksOf t rs) v (other-continues r v n i (eqb-false (r .first) v q)))
+      (bool-cases (eqb (r .first) v))
 
   -- a member that is not the first comes just after a member
   record PrevInRun (r : Run) (v : ℕ) : Type 0 where
