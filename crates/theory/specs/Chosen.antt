@@ -14,8 +14,7 @@ use borrow.Author.Tests.{leb-true, leb-false}
 use Rattle.model.specs.Basics.{pick, countTo, listTo}
 use Rattle.theory.specs.Bools.{bool-cases}
 use Rattle.theory.specs.Ranges.{Upto, pick-true, pick-false, order-cases, upto-suc, countTo-zero, countTo-suc}
-use Rattle.theory.specs.Ranges.{countTo-yes}
-use Rattle.theory.specs.Ranges.{countTo-no, listTo-zero, listTo-suc}
+use Rattle.theory.specs.Ranges.{countTo-yes, countTo-no, listTo-zero, listTo-suc}
 
 module _ (p : ℕ → Bool) where
   pub countTo-mono : (m n : ℕ) → m ≤ n → countTo m p ≤ countTo n p

@@ -12,8 +12,8 @@ use borrow.Author.Tests.{eq-eqb, ne-eqb}
 use Rattle.model.specs.Basics.{pick, sumTo, countTo}
 use Rattle.model.specs.Table.{nodeCount, weightAt, firstAt}
 use Rattle.model.specs.Plan.{prevAt, parentAt, hasMark, begins, continues, pageFrom, pageOf}
-use Rattle.theory.specs.Ranges.{steps-enough, pick-true, pick-false, pick-both, sumTo-zero}
-use Rattle.theory.specs.Ranges.{sumTo-suc, countTo-zero, countTo-le}
+use Rattle.theory.specs.Ranges.{steps-enough, pick-true, pick-false, pick-both, sumTo-zero, sumTo-suc}
+use Rattle.theory.specs.Ranges.{countTo-zero, countTo-le}
 use Rattle.theory.specs.TableFacts.{SoundFacts}
 use Rattle.theory.specs.TableLinks.{first-step, prevAt-none, prevAt-less, parentAt-none, parentAt-one}
 use Rattle.theory.specs.TableLinks.{parentAt-less, parentAt-later, parent-low, parent-first}

@@ -17,8 +17,7 @@ use Rattle.model.specs.declared.Place.{Place}
 use Rattle.model.specs.declared.Place.the-variants.{At, Nowhere}
 use Rattle.theory.specs.Bools.{both-true}
 use Rattle.theory.specs.Ranges.{Upto, by-earlier, steps-enough, pick-true, pick-false, at-nowhere, at-same}
-use Rattle.theory.specs.Ranges.{atPlace-at, atPlace-nowhere}
-use Rattle.theory.specs.Ranges.{countTo-all, countTo-full}
+use Rattle.theory.specs.Ranges.{atPlace-at, atPlace-nowhere, countTo-all, countTo-full}
 use Rattle.theory.specs.TableFacts.{SoundFacts}
 use Rattle.theory.specs.TableLinks.{parentAt-none, parentAt-less, parent-low}
 use Rattle.theory.specs.SiblingChains.{After, here, reach-le, comesAfter-after, after-comesAfter}

@@ -1,8 +1,8 @@
 -- The run that goes from a node by the marks: the node, and the siblings after it that continue the run. It stops at
 -- runLast, its members are the nodes that it goes to, no two nodes that begin a run go to the same one, and each node
 -- in a run has a first node.
--- Defines Goes, Ends, planRun, Headed. Proves length-runsOf, runLast-ends, goes-member, member-goes, goes-one, headed.
--- Assumes nothing.
+-- Defines Goes, Ends, planRun, FirstInRun. Proves length-runsOf, runLast-ends, goes-member, member-goes, goes-one,
+-- first-in-run. Assumes nothing.
 use Prim.Native.Nat.{ℕ, zero, suc, _+_, _≤_, _<_}
 use native.Mathlib.Omega.{arith}
 use mathlib.Core.Bool.{Bool, true, false, not, _&&_, or-true, true≢false, false≢true}
@@ -170,33 +170,33 @@ module _ {t : List ℕ} (s : SoundFacts t) (m : List ℕ) where
 -- ---- The run of a node
 
 -- the first node of the run that v is in
-pub record Headed (t m : List ℕ) (v : ℕ) : Type 0 where
-  pub head : ℕ
-  pub low : 1 ≤ head
-  pub high : head ≤ v
-  pub mark : hasMark m begins head ≡ true
-  pub goes : Goes t m head v
+pub record FirstInRun (t m : List ℕ) (v : ℕ) : Type 0 where
+  pub first : ℕ
+  pub low : 1 ≤ first
+  pub high : first ≤ v
+  pub mark : hasMark m begins first ≡ true
+  pub goes : Goes t m first v
 
 module _ {t : List ℕ} (s : SoundFacts t) (m : List ℕ) (good : badMark t m ≡ Nowhere) where
-  abbrev HeadedAt : ℕ → Type 0
-  HeadedAt v = 1 ≤ v → v ≤ nodeCount t → inRun m v ≡ true → Headed t m v
+  abbrev FirstInRunAt : ℕ → Type 0
+  FirstInRunAt v = 1 ≤ v → v ≤ nodeCount t → inRun m v ≡ true → FirstInRun t m v
 
-  pub headed : (v : ℕ) → 1 ≤ v → v ≤ nodeCount t → inRun m v ≡ true → Headed t m v
-  headed =
-      by-earlier HeadedAt (λ v earlier low high e. go v earlier low high e (hasMark m begins v) refl
+  pub first-in-run : (v : ℕ) → 1 ≤ v → v ≤ nodeCount t → inRun m v ≡ true → FirstInRun t m v
+  first-in-run =
+      by-earlier FirstInRunAt (λ v earlier low high e. go v earlier low high e (hasMark m begins v) refl
       (hasMark m continues v) refl)
     where
-      go : (v : ℕ) → ((u : ℕ) → u < v → HeadedAt u) → 1 ≤ v → v ≤ nodeCount t → inRun m v ≡ true
-          → (b : Bool) → hasMark m begins v ≡ b → (c : Bool) → hasMark m continues v ≡ c → Headed t m v
-      go v earlier low high e true q c q′ = record { head = v; low = low; high = omega arith; mark = q; goes = here }
+      go : (v : ℕ) → ((u : ℕ) → u < v → FirstInRunAt u) → 1 ≤ v → v ≤ nodeCount t → inRun m v ≡ true
+          → (b : Bool) → hasMark m begins v ≡ b → (c : Bool) → hasMark m continues v ≡ c → FirstInRun t m v
+      go v earlier low high e true q c q′ = record { first = v; low = low; high = omega arith; mark = q; goes = here }
       go v earlier low high e false q true q′ =
           let less : prevAt t v < v = prevAt-less t v low in
           let fine = good-node s m good v low high in
           let one : 1 ≤ prevAt t v = good-continues t m v low fine q′ in
-          let p : Headed t m (prevAt t v) =
+          let p : FirstInRun t m (prevAt t v) =
           earlier (prevAt t v) less one (omega arith) (good-after t m v low fine q′) in
           record {
-            head = p .head;
+            first = p .first;
             low = p .low;
             high = omega (arith, p .high);
             mark = p .mark;

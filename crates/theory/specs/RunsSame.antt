@@ -23,8 +23,8 @@ use Rattle.theory.specs.Bools.{both-true, same-true}
 use Rattle.theory.specs.Ranges.{Upto, sumTo-cong, sumTo-add, sumTo-none}
 use Rattle.theory.specs.Sums.{sumTo-only}
 use Rattle.theory.specs.TableFacts.{SoundFacts}
-use Rattle.theory.specs.Lists.{Mem, every-all, all-every, countOf-nil, countOf-some, countOf-cons}
-use Rattle.theory.specs.Lists.{countOf-find, countOf-le}
+use Rattle.theory.specs.Lists.{Mem, every-all, all-every, countOf-nil, countOf-some, countOf-cons, countOf-find}
+use Rattle.theory.specs.Lists.{countOf-le}
 use Rattle.theory.specs.RunsFacts.{RunFacts, FoundRun, HoldFacts, first-member, runWith-found, runWith-none}
 use Rattle.theory.specs.RunsFacts.{none-runWith, runWith-at}
 
