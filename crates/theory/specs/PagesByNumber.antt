@@ -22,7 +22,7 @@ use Rattle.theory.specs.TableFacts.{SoundFacts}
 use Rattle.theory.specs.TableLinks.{next-le, next-prev}
 use Rattle.theory.specs.SiblingChains.{here, step, reach-le, reach-stop}
 use Rattle.theory.specs.PlanPages.{pageOf-begins, pageOf-continues}
-use Rattle.theory.specs.RunsMarked.{Goes, Ends, planRun, runLast-ends, goes-inRun, Headed, headed}
+use Rattle.theory.specs.RunsMarked.{Goes, Ends, planRun, runLast-ends, goes-inRun, FirstInRun, first-in-run}
 
 -- the last of the nodes 1 to n that is on page p and passes the test, or 0
 unfoldable pub lastOnPage : List ℕ → List ℕ → (ℕ → Bool) → ℕ → ℕ → ℕ
@@ -111,10 +111,10 @@ module _ {t : List ℕ} (s : SoundFacts t) (m : List ℕ) where
     -- the nodes of page p's run come up to its last
     run-upto : (v : ℕ) → 1 ≤ v → v ≤ nodeCount t → pageOf t m v ≡ p → inRun m v ≡ true → v ≤ runLast t m (first)
     run-upto v l h q e =
-        let f : Headed t m v = headed s m good v l h e in
-        let top : f .head ≤ nodeCount t = omega (arith, f .high) in
-        let same : f .head ≡ first =
-        begins-one (f .head) (f .low) (f .mark) top (sym (goes-page (f .goes) (f .low) top) ∙ q) in
+        let f : FirstInRun t m v = first-in-run s m good v l h e in
+        let top : f .first ≤ nodeCount t = omega (arith, f .high) in
+        let same : f .first ≡ first =
+        begins-one (f .first) (f .low) (f .mark) top (sym (goes-page (f .goes) (f .low) top) ∙ q) in
         reach-le s (reach-stop (rw same at (f .goes)) (ends .goes) (ends .stops)) l h .0
 
     pub last-found : lastOnPage t m (inRun m) (nodeCount t) p ≡ pageRun t m p .last
