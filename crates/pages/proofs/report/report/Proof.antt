@@ -1,14 +1,13 @@
 -- `pages::report::report` meets its contract. Assumes nothing.
 use mathlib.Core.Path.{sym}
 use native.Mathlib.Omega.{arith}
-use Rattle.archive.proofs.Parts.{fresh-part}
-use Rattle.pages.proofs.Lent.{report-whole}
+use Rattle.pages.proofs.Lent.{take-long, report-whole}
 use borrow.Author.Needs.{needs}
 use Rattle.pages.proofs.report.report.Statement.{statement}
 use Rattle.pages.proofs.report.report.Tie as tie
 
 slice-aggregate-report-plan : tie.Need-slice-aggregate-report-plan
-slice-aggregate-report-plan c = sym (fresh-part 65535 (c .before .node-count .result) (omega arith))
+slice-aggregate-report-plan c = sym (take-long 65535 (c .before .node-count .result) (omega arith))
 
 returns : tie.Need-returns
 returns c =
