@@ -32,7 +32,8 @@ use Rattle.theory.specs.SiblingsByParent.{first-by-parent, next-by-paren
 use Rattle.theory.specs.PlanFeasible.{Judged, feasible-judged}
 use Rattle.theory.specs.RunsByMarks.{GoodMarks, good-marks, InRunOf, in-run-of, runLast-marks}
 use Rattle.theory.specs.TableEncoded.{word-small}
-use Rattle.theory.specs.ArchiveWords.{length-recordsTo, getD-recordsTo, words-tell, Words, words-bytes, words-cons}
+use Rattle.theory.specs.Put.{length-recordsTo, getD-recordsTo}
+use Rattle.theory.specs.ArchiveWords.{words-tell, Words, words-bytes, words-cons}
 use Rattle.theory.specs.ArchiveWords.{words-nil, words-listTo, Page, page-first, page-run, Described, archive-nodes}
 use Rattle.theory.specs.ArchiveWords.{archive-limit, archive-pages, archive-begin, archive-end, archive-node, archive-parent}
 
