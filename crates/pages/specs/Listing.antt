@@ -4,7 +4,7 @@ use Prim.Native.Nat.{ℕ, suc, _+_, _-_, _≤_}
 use native.Mathlib.Omega.{arith}
 use native.Mathlib.Numerals.{add-one}
 use mathlib.Core.Path.{_≡_, sym, _∙_, ap, ap₂}
-use mathlib.Core.List.{List, _++_, append-assoc}
+use mathlib.Core.List.{List, _++_, append-assoc, append-nil}
 use lib.Dec.{eqb}
 use borrow.Author.Tests.{eq-eqb, ne-eqb}
 use Rattle.model.specs.Basics.{listTo}
@@ -15,7 +15,7 @@ use Rattle.model.specs.Archive.{archiveOf, pagesIn, pageFieldIn}
 use Rattle.model.specs.Refusals.{Planned as Left, planned}
 use Rattle.model.specs.Demand.{PlanPromise}
 use Rattle.model.specs.declared.Answer.{Answer}
-use Rattle.theory.specs.Ranges.{Upto, pick-true, pick-false, listTo-zero, listTo-suc, listTo-cong, append-nil}
+use Rattle.theory.specs.Ranges.{Upto, pick-true, pick-false, listTo-zero, listTo-suc, listTo-cong}
 use Rattle.theory.specs.PlanPages.{pages-low}
 use Rattle.theory.specs.PromisePlanner.{passes-lent, plan-passes}
 use Rattle.theory.specs.ArchiveWords.{Page, page-first, getD-runsOf, archive-pages, archive-limit, archive-page}

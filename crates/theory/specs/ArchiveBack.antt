@@ -31,10 +31,10 @@ use Rattle.theory.specs.Chosen.{countTo-mono, countTo-pass, countTo-some
 use Rattle.theory.specs.SiblingsByParent.{first-by-parent, next-by-parent}
 use Rattle.theory.specs.PlanFeasible.{Judged, feasible-judged}
 use Rattle.theory.specs.RunsByMarks.{GoodMarks, good-marks, InRunOf, in-run-of, runLast-marks}
-use Rattle.theory.specs.TableEncoded.{word-small}
+use Rattle.theory.specs.Words.{Words, word-small, bytesOf-words, words-bytes, words-cons, words-nil, words-listTo}
+use Rattle.theory.specs.PagesByNumber.{Page, page-first, page-run}
 use Rattle.theory.specs.Put.{length-recordsTo, getD-recordsTo}
-use Rattle.theory.specs.ArchiveWords.{words-tell, Words, words-bytes, words-cons}
-use Rattle.theory.specs.ArchiveWords.{words-nil, words-listTo, Page, page-first, page-run, Described, archive-nodes}
+use Rattle.theory.specs.ArchiveWords.{Described, archive-nodes}
 use Rattle.theory.specs.ArchiveWords.{archive-limit, archive-pages, archive-begin, archive-end, archive-node, archive-parent}
 
 -- a feasible plan's pages are within the limit
@@ -66,7 +66,7 @@ pub table-words : (t : List ℕ) → Bytes t → length t ≡ tableBytes (nodeCo
 unfolding fieldAt
 table-words t b long =
     sym
-    (words-tell t (nodeCount t ∷ limitOf t ∷ listTo (nodeCount t) (tableRow t)) b
+    (bytesOf-words t (nodeCount t ∷ limitOf t ∷ listTo (nodeCount t) (tableRow t)) b
     (omega (arith, length-recordsTo (tableRow t) 4 (four-row t) (nodeCount t)))
     word)
   where
@@ -213,7 +213,7 @@ module _ {e : Edition} (d : Described e) {t m : List ℕ} (p : Judged t m) where
         (and-true _ _ (lt-ltb (pageFieldIn e a q 0) v (omega (arith, i .less)))
         (le-leb v (pageFieldIn e a q 1) (omega (arith, i .reached))))
         (eq-eqb _ _
-        (archive-parent d t m v low high ∙ sym (i .brother)
+        (archive-parent d t m v low high ∙ sym (i .sibling)
         ∙ sym (ap (parentIn e a) first ∙ archive-parent d t m b (x .low) (x .high))))
 
     continues-yes : markAt m v ≡ 2 → 1 ≤ countTo (pagesIn e a) (continuesIn e a v)

@@ -1,7 +1,8 @@
 -- The words of an archive of an edition: its length, its head, and the fields of its page and node records, read back as they were
 -- written. They hold of any table and marks. What the laws take of an edition is said once, in Described, and first-described says it of
 -- the first.
--- Defines Words, Page, Described. Assumes nothing.
+-- Defines Described. Proves first-described; length-archive and archive-nodes to archive-parent.
+-- Assumes nothing.
 use Prim.Native.Nat.{ℕ, zero, suc, _+_, _-_, _*_, _≤_, _<_}
 use native.Mathlib.Omega.{arith}
 use native.Mathlib.Nat.{mul-le-mul-left}
@@ -18,76 +19,9 @@ use Rattle.model.specs.Archive.{firstEdition, headWords, pageRecord, nextOnPage
 use Rattle.model.specs.Archive.{nodesIn, limitIn, pagesIn, pageFieldIn, nodeFieldIn, parentIn}
 use Rattle.model.specs.Refusals.{acceptedTree}
 use Rattle.model.specs.declared.Edition.{Edition}
-use Rattle.theory.specs.Ranges.{listTo-zero, listTo-suc}
-use Rattle.theory.specs.Chosen.{Ranked, ranked, getD-chosen}
 use Rattle.theory.specs.TableFacts.{accepted-facts}
-use Rattle.theory.specs.RunsMarked.{runAt}
+use Rattle.theory.specs.Words.{length-bytesOf, wordAt-bytesOf}
 use Rattle.theory.specs.Put.{length-recordsTo, getD-recordsTo}
-use Rattle.theory.specs.TableEncoded.{Holds, length-bytesOf, wordAt-bytesOf, holds-all}
-
--- ---- A string of bytes is told by its words
-
-holds-from : (t : List ℕ) (i : ℕ) (ws : List ℕ) → ((j : ℕ) → j < length ws → wordAt t (i + j) ≡ getD ws j 0) → Holds t i ws
-unfolding Holds
-holds-from t i [] h = tt
-holds-from t i (w ∷ ws) h = (
-  ap (wordAt t) (omega arith) ∙ h 0 (omega arith),
-  holds-from t (suc i) ws (λ j less. ap (wordAt t) (omega arith) ∙ h (suc j) (omega arith)),
-)
-
-pub words-tell : (t ws : List ℕ) → Bytes t → length t ≡ 2 * length ws
-    → ((j : ℕ) → j < length ws → wordAt t j ≡ getD ws j 0) → t ≡ bytesOf ws
-words-tell t ws b long h = holds-all t ws b (holds-from t 0 ws (λ j less. ap (wordAt t) (omega arith) ∙ h j less)) long
-
--- words below 65,536 make bytes
-abbrev pub Words : List ℕ → Type 0
-Words ws = (i : ℕ) → getD ws i 0 < 65536
-
-pub words-bytes : (ws : List ℕ) → Words ws → Bytes (bytesOf ws)
-unfolding bytesOf
-words-bytes [] h = λ i. omega arith
-words-bytes (w ∷ ws) h =
-    λ i. elim i [
-      | zero ↦ omega (arith, h 0)
-      | suc j ↦ elim j [ zero ↦ omega arith | suc k ↦ words-bytes ws (λ n. h (suc n)) k ]
-    ]
-
-pub words-cons : (w : ℕ) (ws : List ℕ) → w < 65536 → Words ws → Words (w ∷ ws)
-words-cons w ws h k = λ i. elim i [ zero ↦ h | suc j ↦ k j ]
-
-pub words-nil : Words []
-words-nil i = omega arith
-
-pub words-append : (xs ys : List ℕ) → Words xs → Words ys → Words (xs ++ ys)
-words-append [] ys h k = k
-words-append (x ∷ xs) ys h k = words-cons x (xs ++ ys) (h 0) (words-append xs ys (λ n. h (suc n)) k)
-
-pub words-listTo : (n : ℕ) (rec : ℕ → List ℕ) → ((v : ℕ) → 1 ≤ v → v ≤ n → Words (rec v)) → Words (listTo n rec)
-words-listTo zero rec h = rw (listTo-zero rec) words-nil
-words-listTo (suc n) rec h =
-    rw (listTo-suc n rec)
-    (words-append (listTo n rec) (rec (suc n)) (words-listTo n rec (λ v a b. h v a (omega arith)))
-    (h (suc n) (omega arith) (omega arith)))
-
--- ---- Pages
-
-module _ (t m : List ℕ) where
-  -- page q's first node
-  abbrev pub Page : ℕ → ℕ → Type 0
-  Page q b = Ranked (hasMark m begins) (nodeCount t) q b
-
-  pub page-first : (q : ℕ) → 1 ≤ q → q ≤ pageCount t m → (b : ℕ) × Page q b
-  unfolding pageCount
-  page-first q low high = ranked (hasMark m begins) (nodeCount t) q low high
-
-  -- page q's run
-  pub page-run : (q b : ℕ) → 1 ≤ q → Page q b → pageRun t m q ≡ runAt t m b
-  unfolding pageRun runsOf
-  page-run q b low r =
-      let back : q ≡ suc (q - 1) = omega arith in
-      let rank : Page (suc (q - 1)) b =
-      record { low = r .low; high = r .high; passed = r .passed; rank = r .rank ∙ back } in
-      getD-chosen (hasMark m begins) (runAt t m) (nodeCount t) b (q - 1) rootRun rank
 
 -- ---- What the laws take of an edition
 

@@ -1,4 +1,4 @@
--- Laws of one, two and three Bools, each said once; of a negation they are the kit's not-true and not-false. Assumes nothing.
+-- Laws of one, two and three Bools, each said once. Of a negation the kit has not-true and not-false. Assumes nothing.
 use mathlib.Core.Bool.{Bool, true, false, _&&_, _||_, true≢false, and-eq-true-iff}
 use mathlib.Core.Path.{_≡_, refl, sym}
 use mathlib.Core.Logic.{_⊎_, inl, inr}

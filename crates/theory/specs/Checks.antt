@@ -1,12 +1,14 @@
--- Lists of checks, one after the other: where all pass, which of them answers, and which numbers they never give. A list is told by its
--- parts, so that a check put into one of them is met here and in the facts that the part stands for, and nowhere else.
--- Defines Pass, Never, andThen. Proves passes-append, pass-all; firstOf-pass, firstOf-stop, firstOf-all, firstOf-cons; never-append, never-first,
--- accepted-pass, refused-fails; that no check gives 0, and that of the weights alone 7 (head-never to read-never); firstOf-then. Assumes nothing.
+-- Lists of checks, one after the other: where all pass, which of them answers, and which numbers they never give. A
+-- list is told by its parts, so that a check put into one of them is met here and in the facts that the part stands
+-- for, and nowhere else.
+-- Defines Pass, Never, andThen. Proves passes-append, pass-all; firstOf-pass, firstOf-stop, firstOf-all,
+-- firstOf-cons; never-append, never-first, accepted-pass, refused-fails; that no check gives 0, and that of the
+-- weights alone 7 (head-never to read-never); firstOf-then. Assumes nothing.
 use Prim.Native.Nat.{ℕ}
 use mathlib.Core.Path.{_≡_, refl, sym, ap, ap₂, _∙_}
 use mathlib.Core.Bool.{Bool, true, false, not, _&&_, false≢true, true≢false}
 use mathlib.Core.Logic.{_↔_}
-use mathlib.Core.List.{List, [], _∷_, _++_}
+use mathlib.Core.List.{List, [], _∷_, _++_, append-nil}
 use lib.Dec.{eqb}
 use borrow.Author.Tests.{eqb-true, eqb-false, eq-eqb, ne-eqb}
 use Rattle.model.specs.Basics.{pick, atPlace, every}
@@ -19,7 +21,7 @@ use Rattle.model.specs.declared.Place.{Place}
 use Rattle.model.specs.declared.Place.the-variants.{At, Nowhere}
 use Rattle.model.specs.declared.Answer.{Answer}
 use Rattle.model.specs.declared.Edition.{Edition}
-use Rattle.theory.specs.Ranges.{at-nowhere, pick-true, pick-false, append-nil}
+use Rattle.theory.specs.Ranges.{at-nowhere, pick-true, pick-false}
 use Rattle.theory.specs.Bools.{both-true, and-true}
 
 -- ---- Checks that pass
@@ -86,7 +88,8 @@ unfolding firstOf
 firstOf-all cs a e = ap (λ (ds : List Check). firstOf ds a) (sym (append-nil cs)) ∙ firstOf-pass cs [] a e
 
 -- one check before others, as a program puts an answer together
-pub firstOf-cons : (c : Check) (cs : List Check) (a : Answer) (p : Place) (rest r : Answer) → r ≡ atPlace p (c .answer) rest
+pub firstOf-cons : (c : Check) (cs : List Check) (a : Answer) (p : Place) (rest r : Answer) → r
+    ≡ atPlace p (c .answer) rest
     → p ≡ c .place → rest ≡ firstOf cs a → r ≡ firstOf (c ∷ cs) a
 unfolding firstOf
 firstOf-cons c cs a p rest r e h g = e ∙ ap₂ (λ (o : Place) (x : Answer). atPlace o (c .answer) x) h g
@@ -206,7 +209,8 @@ judge-never t m = never-append 0 (treeChecks t) (markChecks t m) (tree-never t) 
 
 pub write-never : (e : Edition) (t m out : List ℕ) → Never 0 (writeChecks e t m out)
 unfolding writeChecks
-write-never e t m out = never-append 0 (judgeChecks t m) (filmChecks e t m out) (judge-never t m) (film-plain e t m out .0)
+write-never e t m out = never-append 0 (judgeChecks t m) (filmChecks e t m out) (judge-never t m)
+    (film-plain e t m out .0)
 
 pub read-never : (e : Edition) (a t m : List ℕ) → Never 0 (readChecks e a t m)
 unfolding every readChecks backChecks noArchive badOutput badMarks

@@ -1,18 +1,20 @@
--- The numbers of 1 to n that pass a test, by their rank: how many pass up to each, which is the first, second, .., and the list of
--- what is made of each of them.
+-- The numbers of 1 to n that pass a test, by their rank: how many pass up to each, which is the first, second, .., and
+-- the list of what is made of each of them.
 -- Defines Ranked, chosen. Proves ranked, ranked-one, countTo-only, length-chosen, getD-chosen. Assumes nothing.
 use Prim.Native.Nat.{ℕ, zero, suc, _≤_, _<_}
 use native.Mathlib.Omega.{arith}
 use mathlib.Core.Bool.{Bool, true, false, true≢false}
 use mathlib.Core.Path.{_≡_, refl, sym, _∙_, ap}
 use mathlib.Core.Logic.{_⊎_, inl, inr}
-use mathlib.Core.List.{List, [], _∷_, _++_}
+use mathlib.Core.List.{List, [], _∷_, _++_, append-nil}
 use lib.ListN.{length, getD, length-append, List·getD-append}
 use lib.Seq.{getD-append-seam}
 use lib.Dec.{leb}
 use borrow.Author.Tests.{leb-true, leb-false}
 use Rattle.model.specs.Basics.{pick, countTo, listTo}
-use Rattle.theory.specs.Ranges.{Upto, pick-true, pick-false, upto-suc, countTo-zero, countTo-suc, countTo-yes, countTo-no, listTo-zero, listTo-suc, append-nil}
+use Rattle.theory.specs.Ranges.{Upto, pick-true, pick-false, order-cases, upto-suc, countTo-zero, countTo-suc}
+use Rattle.theory.specs.Ranges.{countTo-yes}
+use Rattle.theory.specs.Ranges.{countTo-no, listTo-zero, listTo-suc}
 
 module _ (p : ℕ → Bool) where
   countTo-step : (n : ℕ) → countTo n p ≤ countTo (suc n) p
@@ -60,13 +62,12 @@ module _ (p : ℕ → Bool) where
 
   -- two that pass and count the same are the same
   pub countTo-same : (u v : ℕ) → p u ≡ true → p v ≡ true → countTo u p ≡ countTo v p → u ≡ v
-  countTo-same u v a b e = go (leb u v) refl (leb v u) refl
+  countTo-same u v a b e = go (order-cases u v)
     where
-      go : (x : Bool) → leb u v ≡ x → (y : Bool) → leb v u ≡ y → u ≡ v
-      go true q true q′ = omega (arith, leb-true u v q, leb-true v u q′)
-      go true q false q′ =
-          let h : u < v = leb-false v u q′ in absurd (omega (arith, countTo-pass v (omega arith) b u h))
-      go false q y q′ = let h : v < u = leb-false u v q in absurd (omega (arith, countTo-pass u (omega arith) a v h))
+      go : (u < v) ⊎ ((u ≡ v) ⊎ (v < u)) → u ≡ v
+      go (inl h) = absurd (omega (arith, countTo-pass v (omega arith) b u h))
+      go (inr (inl q)) = q
+      go (inr (inr h)) = absurd (omega (arith, countTo-pass u (omega arith) a v h))
 
   -- there is one of each rank
   pub ranked-one : {n q u v : ℕ} → Ranked n q u → Ranked n q v → u ≡ v
@@ -83,7 +84,8 @@ module _ (p : ℕ → Bool) where
           let a = ranked n 1 (omega arith) (omega arith) in
           let b = ranked n 2 (omega arith) (omega arith) in
           let same : a .0 ≡ b .0 =
-          only (a .0) (a .1 .low) (a .1 .high) (a .1 .passed) ∙ sym (only (b .0) (b .1 .low) (b .1 .high) (b .1 .passed)) in
+          only (a .0) (a .1 .low) (a .1 .high) (a .1 .passed)
+          ∙ sym (only (b .0) (b .1 .low) (b .1 .high) (b .1 .passed)) in
           absurd (omega (arith, a .1 .rank, b .1 .rank, ap (λ u. countTo u p) same))
 
 -- ---- The list of what is made of each that passes
@@ -128,7 +130,8 @@ module _ {ℓ} {X : Type ℓ} (p : ℕ → Bool) (f : ℕ → X) where
       by-last : (b : Bool) → p (suc n) ≡ b → (v ≤ n) ⊎ (v ≡ suc n) → (Ranked p n (suc i) v → getD (chosen n) i d ≡ f v)
           → getD (chosen (suc n)) i d ≡ f v
       by-last true e (inl h) ih =
-          ap (λ l. getD l i d) (chosen-yes n e) ∙ List·getD-append (chosen n) (f (suc n) ∷ []) d i (within h) ∙ ih (earlier h)
+          ap (λ l. getD l i d) (chosen-yes n e) ∙ List·getD-append (chosen n) (f (suc n) ∷ []) d i (within h)
+          ∙ ih (earlier h)
       by-last true e (inr q) ih =
           let here : i ≡ length (chosen n) =
           omega (arith, length-chosen n, r .rank, countTo-yes n p e, ap (λ u. countTo u p) q) in

@@ -1,10 +1,12 @@
 -- Laws about the definitions of document 01, by group, each file after those that it rests on.
--- Bools, numbers 1 to n, and lists
+-- Bools, numbers 1 to n, lists, words
 pub mod Bools
 pub mod Ranges
+pub mod Search
 pub mod Sums
 pub mod Chosen
 pub mod Lists
+pub mod Words
 -- Lists of checks
 pub mod Checks
 -- Tables of sound form: facts, numbering, links, siblings, bytes, and words put into bytes

@@ -1,7 +1,7 @@
--- Marks by number and by shape say the same: for a table of sound form and as many marks as nodes, no mark is bad just where node 1
--- has mark 1 and the marks of the tree are allowed.
--- Defines afterRun. Proves marks-from, weighed-from, allowed-from (the marks of a node with its children and the siblings after it) and
--- marks-bridge. Assumes nothing.
+-- Marks by number and by shape say the same: for a table of sound form and as many marks as nodes, no mark is bad just
+-- where node 1 has mark 1 and the marks of the tree are allowed.
+-- Proves weighed-from, allowed-from (the marks of a node with its children and the siblings after it) and marks-bridge.
+-- Assumes nothing.
 use Prim.Native.Nat.{ℕ, zero, suc, _+_, _-_, _≤_, _<_}
 use native.Mathlib.Omega.{arith}
 use mathlib.Core.Bool.{Bool, true, false, not, _&&_, _||_, false≢true}
@@ -20,19 +20,21 @@ use Rattle.theory.specs.Bools.{three-true}
 use Rattle.theory.specs.Ranges.{Upto}
 use Rattle.theory.specs.TableFacts.{SoundFacts}
 use Rattle.theory.specs.PlanShape.{size, runs, allowedMark, allowed, joined, weighed}
-use Rattle.theory.specs.TableNumbered.{Numbered, none, some, numbered-size, numbered-le, Between, between-join, Rooted, sound-root}
+use Rattle.theory.specs.TableNumbered.{Numbered, none, some, numbered-size, numbered-le, Between, between-join}
+use Rattle.theory.specs.TableNumbered.{Rooted, sound-root}
 use Rattle.theory.specs.TableLinks.{next-prev, first-prev}
 use Rattle.theory.specs.PlanPages.{bad-none, good-first, good-later}
 
 -- ---- The marks of a chain, taken from the marks of the table
 
 -- the marks from node v on
-pub marks-from : (m : List ℕ) (v : ℕ) → v < length m → drop v m ≡ markAt m (suc v) ∷ drop (suc v) m
+marks-from : (m : List ℕ) (v : ℕ) → v < length m → drop v m ≡ markAt m (suc v) ∷ drop (suc v) m
 unfolding markAt
 marks-from m v h = let same : suc v - 1 ≡ v = omega arith in rw same (drop-cons m v 0 h)
 
 -- the mark of node v + 1, those of its children up to some number, and those after them
-module _ (m : List ℕ) (v w l : ℕ) (kids next : Chain) (last : ℕ) (ends : last ≡ suc v + size kids) (inside : v < length m) where
+module _ (m : List ℕ) (v w l : ℕ) (kids next : Chain) (last : ℕ) (ends : last ≡ suc v + size kids)
+    (inside : v < length m) where
   pub weighed-from : weighed (node w l kids next) (drop v m)
       ≡ joined (markAt m (suc v)) w (weighed kids (drop (suc v) m)) (weighed next (drop last m))
   unfolding weighed
@@ -47,7 +49,7 @@ module _ (m : List ℕ) (v w l : ℕ) (kids next : Chain) (last : ℕ) (ends : l
 -- ---- Good marks are allowed marks
 
 -- the sibling just before a node is there, and in a run
-unfoldable pub afterRun : List ℕ → List ℕ → ℕ → Bool
+unfoldable afterRun : List ℕ → List ℕ → ℕ → Bool
 afterRun t m v = not (eqb (prevAt t v) 0) && inRun m (prevAt t v)
 
 mark-allowed : (after : Bool) (k : ℕ) → pick (eqb k 2) after (eqb k 0 || eqb k 1) ≡ allowedMark after k
@@ -64,7 +66,8 @@ mark-allowed after (suc (suc (suc k))) =
 
 good-allowed : (t m : List ℕ) (v : ℕ) → 2 ≤ v → goodMark t m v ≡ allowedMark (afterRun t m v) (markAt m v)
 unfolding afterRun
-good-allowed t m v low = good-later t m v low ∙ mark-allowed (not (eqb (prevAt t v) 0) && inRun m (prevAt t v)) (markAt m v)
+good-allowed t m v low =
+    good-later t m v low ∙ mark-allowed (not (eqb (prevAt t v) 0) && inRun m (prevAt t v)) (markAt m v)
 
 -- an allowed mark that puts its node in a run is 1 or 2
 allowed-runs : (after : Bool) (k : ℕ) → allowedMark after k ≡ true → (eqb k 1 || eqb k 2) ≡ runs k
@@ -78,7 +81,8 @@ afterRun-first : (t m : List ℕ) (v : ℕ) → prevAt t v ≡ 0 → afterRun t 
 unfolding afterRun
 afterRun-first t m v z = rw (eq-eqb (prevAt t v) 0 z)
 
-afterRun-later : (t m : List ℕ) (u v : ℕ) → 1 ≤ u → prevAt t v ≡ u → afterRun t m v ≡ (eqb (markAt m u) 1 || eqb (markAt m u) 2)
+afterRun-later : (t m : List ℕ) (u v : ℕ) → 1 ≤ u → prevAt t v ≡ u
+    → afterRun t m v ≡ (eqb (markAt m u) 1 || eqb (markAt m u) 2)
 unfolding afterRun inRun
 afterRun-later t m u v low q = rw (q, ne-eqb u 0 (λ z. omega arith))
 
@@ -90,7 +94,8 @@ module _ {t : List ℕ} (s : SoundFacts t) (m : List ℕ) (long : length m ≡ n
   next-after : (v : ℕ) (after : Bool) → 1 ≤ v → v ≤ nodeCount t → allowedMark after (markAt m v) ≡ true → 1 ≤ nextAt t v
       → afterRun t m (nextAt t v) ≡ runs (markAt m v)
   next-after v after low high ok one =
-      afterRun-later t m v (nextAt t v) low (next-prev s v (nextAt t v) low high one refl) ∙ allowed-runs after (markAt m v) ok
+      afterRun-later t m v (nextAt t v) low (next-prev s v (nextAt t v) low high one refl)
+      ∙ allowed-runs after (markAt m v) ok
 
   good-chain : {v e u : ℕ} {c : Chain} → Numbered t v u c e → (after : Bool) → 1 ≤ v → e ≤ nodeCount t
       → (1 ≤ u → afterRun t m u ≡ after) → Between v e (λ x. goodMark t m x ≡ true) → allowed after c (drop v m) ≡ true
@@ -107,7 +112,8 @@ module _ {t : List ℕ} (s : SoundFacts t) (m : List ℕ) (long : length m ≡ n
       good-chain k false (omega arith) (omega arith) (first-after (suc v) (omega arith) (omega arith))
       (λ x a b. good x (omega arith) (omega arith)) in
       let beside : allowed (runs (markAt m (suc v))) next (drop e₁ m) ≡ true =
-      good-chain r (runs (markAt m (suc v))) (omega arith) high (next-after (suc v) after (omega arith) (omega arith) here)
+      good-chain r (runs (markAt m (suc v))) (omega arith) high
+      (next-after (suc v) after (omega arith) (omega arith) here)
       (λ x a b. good x (omega arith) b) in
       allowed-from m v (weightAt t (suc v)) (labelAt t (suc v)) kids next e₁ (numbered-size k) (omega arith) after
       ∙ rw (here, below, beside)
@@ -120,11 +126,14 @@ module _ {t : List ℕ} (s : SoundFacts t) (m : List ℕ) (long : length m ≡ n
       let le′ : e₁ ≤ e₂ = numbered-le r in
       let parts = three-true (allowedMark after (markAt m (suc v))) (allowed false kids (drop (suc v) m))
       (allowed (runs (markAt m (suc v))) next (drop e₁ m))
-      (sym (allowed-from m v (weightAt t (suc v)) (labelAt t (suc v)) kids next e₁ (numbered-size k) (omega arith) after) ∙ ok) in
+      (sym (allowed-from m v (weightAt t (suc v)) (labelAt t (suc v)) kids next e₁ (numbered-size k)
+      (omega arith) after) ∙ ok) in
       between-join (λ x. goodMark t m x ≡ true) v e₁ e₂
-      (good-allowed t m (suc v) (omega arith) ∙ ap (λ b. allowedMark b (markAt m (suc v))) (before (omega arith)) ∙ parts .0)
+      (good-allowed t m (suc v) (omega arith) ∙ ap (λ b. allowedMark b (markAt m (suc v))) (before (omega arith))
+      ∙ parts .0)
       (chain-good k false (omega arith) (omega arith) (first-after (suc v) (omega arith) (omega arith)) (parts .1))
-      (chain-good r (runs (markAt m (suc v))) (omega arith) high (next-after (suc v) after (omega arith) (omega arith) (parts .0)) (parts .2))
+      (chain-good r (runs (markAt m (suc v))) (omega arith) high
+      (next-after (suc v) after (omega arith) (omega arith) (parts .0)) (parts .2))
 
   -- no mark is bad: node 1 has mark 1, and the marks of the tree are allowed
   pub marks-bridge : (badMark t m ≡ Nowhere) ↔ ((markAt m 1 ≡ 1) × (allowed false (treeOf t) m ≡ true))
@@ -132,17 +141,20 @@ module _ {t : List ℕ} (s : SoundFacts t) (m : List ℕ) (long : length m ≡ n
   marks-bridge = (
     λ e.
         let good : Upto (nodeCount t) (λ v. goodMark t m v ≡ true) = bad-none t m .0 e in
-        let one : markAt m 1 ≡ 1 = eqb-true (markAt m 1) 1 (sym (good-first t m) ∙ good 1 (omega arith) (s .count-low)) in
+        let one : markAt m 1 ≡ 1 =
+        eqb-true (markAt m 1) 1 (sym (good-first t m) ∙ good 1 (omega arith) (s .count-low)) in
         let below : allowed false kids (drop 1 m) ≡ true =
         good-chain (root .below) false (omega arith) (omega arith) (first-after 1 (omega arith) (s .count-low))
         (λ x a b. good x (omega arith) b) in
         (one, tree ∙ rw (one, below)),
     λ h.
-        let parts = three-true (allowedMark false (markAt m 1)) (allowed false kids (drop 1 m)) true (sym tree ∙ h .1) in
+        let parts =
+        three-true (allowedMark false (markAt m 1)) (allowed false kids (drop 1 m)) true (sym tree ∙ h .1) in
         bad-none t m .1
         (λ v low high.
         all v low high
-        (chain-good (root .below) false (omega arith) (omega arith) (first-after 1 (omega arith) (s .count-low)) (parts .1))
+        (chain-good (root .below) false (omega arith) (omega arith) (first-after 1 (omega arith) (s .count-low))
+        (parts .1))
         (h .0)),
   )
     where

@@ -5,12 +5,12 @@ use native.Mathlib.Nat.{mul-le-mul-left}
 use native.Mathlib.Numerals.{add-one}
 use mathlib.Core.Path.{_≡_, refl, sym, _∙_, ap}
 use mathlib.Core.Logic.{_⊎_, inl, inr}
-use mathlib.Core.List.{List, [], _∷_, _++_, append-assoc}
+use mathlib.Core.List.{List, [], _∷_, _++_, append-assoc, append-nil}
 use lib.ListN.{length, getD, take, set, length-append, length-set, List·getD-append}
 use lib.Seq.{take-suc-set, take-all, getD-append-add}
 use Rattle.model.specs.Basics.{listTo}
 use Rattle.model.specs.Table.{bytesOf}
-use Rattle.theory.specs.Ranges.{upto-suc, listTo-zero, listTo-suc, append-nil}
+use Rattle.theory.specs.Ranges.{upto-suc, listTo-zero, listTo-suc}
 
 -- word i of the string becomes w
 unfoldable pub putWord : List ℕ → ℕ → ℕ → List ℕ

@@ -1,5 +1,6 @@
--- Two sequences with the same runs, in whatever order, tell the same: a sequence that holds the tree and one with the same runs have
--- the same homes, page weights and verdict on the limit, and, where the other holds the tree too, the same length and each run as often.
+-- Two sequences with the same runs, in whatever order, say the same: a sequence that holds the tree and one with the
+-- same runs have the same homes, page weights and verdict on the limit, and, where the other holds the tree too, the
+-- same length and each run as often.
 -- Defines SameRuns, sameRun. Assumes nothing.
 use Prim.Native.Nat.{ℕ, zero, suc, _+_, _≤_}
 use native.Mathlib.Omega.{arith}
@@ -12,15 +13,18 @@ use borrow.Author.Tests.{eqb-true, eq-eqb, leb-true, leb-false}
 use Rattle.model.specs.Basics.{pick, atPlace, sumTo, every}
 use Rattle.model.specs.Table.{nodeCount, limitOf, weightAt}
 use Rattle.model.specs.Plan.{parentAt}
-use Rattle.model.specs.Runs.{Run, isMember, rootRun, countOf, runWith, homeFrom, homeOf, runWeight, withinLimit, rootWeight}
+use Rattle.model.specs.Runs.{Run, isMember, rootRun, countOf, runWith, homeFrom, homeOf, runWeight, withinLimit}
+use Rattle.model.specs.Runs.{rootWeight}
 use Rattle.model.specs.declared.Place.{Place}
 use Rattle.model.specs.declared.Place.the-variants.{At, Nowhere}
 use Rattle.theory.specs.Bools.{both-true, same-true}
 use Rattle.theory.specs.Ranges.{Upto, pick-true, pick-false, sumTo-cong, sumTo-add, sumTo-none}
 use Rattle.theory.specs.Sums.{sumTo-only}
 use Rattle.theory.specs.TableFacts.{SoundFacts}
-use Rattle.theory.specs.Lists.{Mem, every-all, all-every, countOf-nil, countOf-yes, countOf-no, countOf-some, countOf-find, countOf-le}
-use Rattle.theory.specs.RunsFacts.{RunFacts, FoundRun, HoldFacts, first-member, runWith-found, runWith-none, none-runWith, runWith-at}
+use Rattle.theory.specs.Lists.{Mem, every-all, all-every, countOf-nil, countOf-yes, countOf-no, countOf-some}
+use Rattle.theory.specs.Lists.{countOf-find, countOf-le}
+use Rattle.theory.specs.RunsFacts.{RunFacts, FoundRun, HoldFacts, first-member, runWith-found, runWith-none}
+use Rattle.theory.specs.RunsFacts.{none-runWith, runWith-at}
 
 pub record SameRuns (rs rs′ : List Run) : Type 0 where
   pub there : (r : Run) → Mem r rs → Mem r rs′
@@ -31,7 +35,8 @@ sameRun r r′ = eqb (r .first) (r′ .first) && eqb (r .last) (r′ .last)
 
 same-first : (r r′ : Run) → sameRun r r′ ≡ true → r .first ≡ r′ .first
 unfolding sameRun
-same-first r r′ e = eqb-true (r .first) (r′ .first) (both-true (eqb (r .first) (r′ .first)) (eqb (r .last) (r′ .last)) e .0)
+same-first r r′ e =
+    eqb-true (r .first) (r′ .first) (both-true (eqb (r .first) (r′ .first)) (eqb (r .last) (r′ .last)) e .0)
 
 -- ---- Homes and weights
 
@@ -69,7 +74,8 @@ module _ {t : List ℕ} (s : SoundFacts t) (rs rs′ : List Run) (h : HoldFacts 
   pub same-limit : withinLimit t rs ≡ withinLimit t rs′
   unfolding withinLimit
   same-limit =
-      same-true (every (λ r. leb (runWeight t rs r) (limitOf t)) rs) (every (λ r. leb (runWeight t rs′ r) (limitOf t)) rs′)
+      same-true (every (λ r. leb (runWeight t rs r) (limitOf t)) rs)
+      (every (λ r. leb (runWeight t rs′ r) (limitOf t)) rs′)
       (λ e. all-every (λ r. leb (runWeight t rs′ r) (limitOf t)) rs′
       (λ r m. ap (λ w. leb w (limitOf t)) (sym (same-weight r))
       ∙ every-all (λ r. leb (runWeight t rs r) (limitOf t)) rs e r (same .back r m)))
@@ -86,7 +92,8 @@ starts-cons : (v : ℕ) (r : Run) (rs : List Run)
     → countOf (startsAt v) (r ∷ rs) ≡ pick (eqb (r .first) v) 1 0 + countOf (startsAt v) rs
 starts-cons v r rs = go (eqb (r .first) v) refl
   where
-    go : (b : Bool) → eqb (r .first) v ≡ b → countOf (startsAt v) (r ∷ rs) ≡ pick (eqb (r .first) v) 1 0 + countOf (startsAt v) rs
+    go : (b : Bool) → eqb (r .first) v ≡ b
+        → countOf (startsAt v) (r ∷ rs) ≡ pick (eqb (r .first) v) 1 0 + countOf (startsAt v) rs
     go true e = omega (arith, countOf-yes (startsAt v) r rs e, pick-true {X = ℕ} (eqb (r .first) v) 1 0 e)
     go false e = omega (arith, countOf-no (startsAt v) r rs e, pick-false {X = ℕ} (eqb (r .first) v) 1 0 e)
 
@@ -106,7 +113,8 @@ length-starts n (r ∷ rs) h =
     )
 
 -- a test that one run at most of a sequence passes, counted in another with the same runs
-same-count : (p : Run → Bool) (rs rs′ : List Run) → countOf p rs ≤ 1 → countOf p rs′ ≤ 1 → SameRuns rs rs′ → countOf p rs ≡ countOf p rs′
+same-count : (p : Run → Bool) (rs rs′ : List Run) → countOf p rs ≤ 1 → countOf p rs′ ≤ 1 → SameRuns rs rs′
+    → countOf p rs ≡ countOf p rs′
 same-count p rs rs′ one one′ same = go (leb 1 (countOf p rs)) refl (leb 1 (countOf p rs′)) refl
   where
     go : (b : Bool) → leb 1 (countOf p rs) ≡ b → (c : Bool) → leb 1 (countOf p rs′) ≡ c → countOf p rs ≡ countOf p rs′
@@ -114,7 +122,12 @@ same-count p rs rs′ one one′ same = go (leb 1 (countOf p rs)) refl (leb 1 (c
     go false e false e′ = omega (arith, leb-false 1 (countOf p rs) e, leb-false 1 (countOf p rs′) e′)
     go true e false e′ =
         let f = countOf-find p rs (leb-true 1 (countOf p rs) e) in
-        absurd (omega (arith, countOf-some p rs′ (f .0) (same .there (f .0) (f .1)) (f .2), leb-false 1 (countOf p rs′) e′))
+        absurd (omega (
+          arith,
+          countOf-some p rs′ (f .0) (same .there (f .0) (f .1)) (f .2),
+          leb-false 1
+              (countOf p rs′) e′,
+        ))
     go false e true e′ =
         let f = countOf-find p rs′ (leb-true 1 (countOf p rs′) e′) in
         absurd (omega (arith, countOf-some p rs (f .0) (same .back (f .0) (f .1)) (f .2), leb-false 1 (countOf p rs) e))
@@ -136,7 +149,8 @@ module _ {t : List ℕ} (s : SoundFacts t) where
           let run : RunFacts t (f .0) = h .each (f .0) (f .1) in
           let at : r .first ≡ (f .0) .first = same-first r (f .0) (f .2) in
           let less : countOf (sameRun r) rs ≤ countOf (startsAt (r .first)) rs =
-          countOf-le (sameRun r) (startsAt (r .first)) rs (λ x m q. eq-eqb (x .first) (r .first) (sym (same-first r x q))) in
+          countOf-le (sameRun r) (startsAt (r .first)) rs
+          (λ x m q. eq-eqb (x .first) (r .first) (sym (same-first r x q))) in
           omega (arith, starts-once rs h (r .first) (omega (arith, run .low)) (omega (arith, run .high)))
       go false e = omega (arith, leb-false 1 (countOf (sameRun r) rs) e)
 
@@ -145,7 +159,8 @@ module _ {t : List ℕ} (s : SoundFacts t) where
     same-length =
         length-starts (nodeCount t) rs (λ r m. (h .each r m .low, h .each r m .high))
         ∙ sumTo-cong (nodeCount t) (λ v. countOf (startsAt v) rs) (λ v. countOf (startsAt v) rs′)
-        (λ v low high. same-count (startsAt v) rs rs′ (starts-once rs h v low high) (starts-once rs′ h′ v low high) same)
+        (λ v low high. same-count (startsAt v) rs rs′ (starts-once rs h v low high)
+        (starts-once rs′ h′ v low high) same)
         ∙ sym (length-starts (nodeCount t) rs′ (λ r m. (h′ .each r m .low, h′ .each r m .high)))
 
     -- each run as often in one as in the other
