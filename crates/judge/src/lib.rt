@@ -1,4 +1,5 @@
-// The judge of plans: bad marks, page weights, and the verdict, with the layout that they are told from. Refusals 1 to 8, 10 and 11.
+// The judge of plans: bad marks, page weights, and the verdict, with the layout that they are told from. Refusals 1 to 8,
+// 10 and 11.
 pub mod marks;
 pub mod pages;
 
@@ -81,7 +82,7 @@ pub struct Judgement {
 }
 
 // A refusal before any plan is laid.
-fn no_judgement(answer: Answer) -> Judgement
+pub fn without_layout(answer: Answer) -> Judgement
     ensures { λ r. ⌜ r .answer ≡ answer ⌝ }
 {
     Judgement {
@@ -106,14 +107,15 @@ fn judge_marks(table: &[u8], marks: &[u8]) -> Judgement
 pub fn judge_pages(tree: Answer, table: &[u8], marks: &[u8]) -> Judgement
     requires { ⌜ (tree .number ≡ 0 → AcceptedFacts (now table)) ⌝ }
     ensures { λ r. ⌜ r .answer ≡ andThen tree (marksAnswer (now (table .entry)) (now (marks .entry))) ⌝ }
-    ensures { λ r. ⌜ (r .answer .number ≡ 0 → IsLayout (now (table .entry)) (now (marks .entry)) (r .layout)) ⌝ }
+    ensures { λ r. ⌜ (r .answer .number ≡ 0
+        → IsLayout (now (table .entry)) (now (marks .entry)) (r .layout)) ⌝ }
 {
     if tree.number != 0 {
-        return no_judgement(tree);
+        return without_layout(tree);
     }
     let nodes = node_count(table);
     if marks.len() != nodes as usize {
-        return no_judgement(refuse(8, nodes as u32));
+        return without_layout(refuse(8, nodes as u32));
     }
     judge_marks(table, marks)
 }

@@ -1,5 +1,5 @@
-// What a plan makes of a tree: the parent and the page of each node, the weight and the run of each page, and the first mark that is
-// not allowed.
+// What a plan makes of a tree: the parent and the page of each node, the weight and the run of each page, and the first
+// mark that is not allowed.
 use crate::marks::is_good;
 use crate::marks::mark_at;
 use model::Place;
@@ -17,8 +17,8 @@ ghost use Rattle.model.specs.Table.{slots};
 ghost use Rattle.theory.specs.TableFacts.{AcceptedFacts};
 ghost use Rattle.judge.specs.Rows.{IsLayout};
 
-// What the pass finds: by node its parent and its page; by page its first node, the last sibling of its run, and its weight; the number
-// of pages, and the first bad mark.
+// What the pass finds: by node its parent and its page; by page its first node, the last sibling of its run, and its
+// weight; the number of pages, and the first bad mark.
 pub struct Layout {
     pub parents: [u16; SLOTS],
     pub page: [u16; SLOTS],
@@ -58,9 +58,9 @@ pub fn no_layout() -> Layout {
     }
 }
 
-// One pass in node order. A node with no sibling before it comes just after its parent. A 1 opens the next page and is its first node,
-// a 2 joins the page of the sibling before it, and a 0 its parent's; the node's weight is added to that page. Siblings come in rising
-// order, so the last 1 or 2 on a page is the last sibling of its run.
+// One pass in node order. A node with no sibling before it comes just after its parent. A 1 opens the next page and is its
+// first node, a 2 joins the page of the sibling before it, and a 0 its parent's; the node's weight is added to that page.
+// Siblings come in rising order, so the last 1 or 2 on a page is the last sibling of its run.
 pub fn lay_pages(table: &[u8], marks: &[u8]) -> Layout
     requires { ⌜ AcceptedFacts (now table) ⌝ }
     ensures { λ r. ⌜ IsLayout (now (table .entry)) (now (marks .entry)) r ⌝ }

@@ -1,5 +1,5 @@
--- What all planners share: the refusals 1 to 9, what holds where there is none, and the last step from marks that are laid to the
--- whole outcome and its promises. Assumes nothing.
+-- What all planners share: the refusals 1 to 9, what holds where there is none, and the last step from marks that are laid
+-- to the whole outcome and its promises. Assumes nothing.
 use Prim.Native.Nat.{ℕ, _+_, _*_, _≤_}
 use native.Mathlib.Omega.{arith}
 use native.Mathlib.Nat.{mul-le-mul}
@@ -8,27 +8,32 @@ use mathlib.Core.Bool.{true, false}
 use mathlib.Core.List.{List}
 use lib.ListN.{length, replicate}
 use Rattle.model.specs.Table.{maxNodes, maxLimit, Chain, limitOf, treeOf}
-use Rattle.model.specs.Refusals.{scratchWords, treeChecks, planChecks, passes, acceptedTree, accepted, firstOf, readTree, judgePlan, Planned, planned, planBest}
+use Rattle.model.specs.Refusals.{scratchWords, treeChecks, lentChecks, planChecks, passes, acceptedTree, accepted}
+use Rattle.model.specs.Refusals.{firstOf, readTree, judgePlan, Planned, planned, planBest}
 use Rattle.model.specs.Demand.{PlanPromise, BestPromise}
 use Rattle.model.specs.declared.Answer.{Answer}
 use Rattle.theory.specs.TableFacts.{AcceptedFacts, accepted-facts}
-use Rattle.theory.specs.Checks.{lentChecks, plan-never, accepted-pass, refused-fails, firstOf-pass, firstOf-stop}
-use Rattle.theory.specs.PlanFeasible.{Judged}
-use Rattle.theory.specs.JudgeAnswers.{tree-accepted}
+use Rattle.theory.specs.Checks.{plan-never, accepted-pass, refused-fails, firstOf-pass, firstOf-stop, firstOf-all, andThen}
+use Rattle.theory.specs.PlanFeasible.{Judged, feasible-judged, judge-feasible}
+use Rattle.theory.specs.JudgeAnswers.{tree-accepted, marksAnswer, judge-then}
 use Rattle.theory.specs.PromisePlanner.{passes-lent, planned-done, planned-refused, plan-promise, best-promise}
-use Rattle.planner.specs.Outcome.{outcome, PlanReady}
+use Rattle.judge.specs.Rows.{IsLayout}
+use Rattle.judge.specs.declared.pages.Layout.{Layout}
+use Rattle.planner.specs.Outcome.{outcome, PlanReady, PlanLaid}
 
 -- ---- The refusals
 
 module _ (t m s : List ℕ) where
   -- a refusal of the tree stands
   pub tree-refuses : (readTree t .number ≡ 0 → ⊥) → readTree t ≡ firstOf (planChecks t m s) accepted
-  unfolding readTree planChecks lentChecks
-  tree-refuses h = sym (firstOf-stop (treeChecks t) (lentChecks t m s) accepted accepted (refused-fails (treeChecks t) accepted refl h))
+  unfolding readTree planChecks
+  tree-refuses h =
+      sym
+      (firstOf-stop (treeChecks t) (lentChecks t m s) accepted accepted (refused-fails (treeChecks t) accepted refl h))
 
   -- else what is lent is checked
   pub tree-goes-on : readTree t .number ≡ 0 → firstOf (lentChecks t m s) accepted ≡ firstOf (planChecks t m s) accepted
-  unfolding planChecks lentChecks acceptedTree
+  unfolding planChecks acceptedTree
   tree-goes-on e = sym (firstOf-pass (treeChecks t) (lentChecks t m s) accepted (tree-accepted t e))
 
 -- the number of words fits
@@ -59,16 +64,34 @@ module _ (t m s : List ℕ) (r : Answer) (is : r ≡ firstOf (planChecks t m s) 
     plan-refused h = ap (λ (a : Answer). outcome a m s) is ∙ sym (planned-refused steps t m s (checks-fail h))
 
     -- marks that are laid, a scratch that is cleared, and the judge's answer
-    pub plan-made : r .number ≡ 0 → (a : Answer) (m′ s′ : List ℕ) → m′ ≡ steps (limitOf t) (treeOf t) → s′ ≡ replicate (length s) 0
-        → a ≡ judgePlan t m′ → outcome a m′ s′ ≡ planned steps t m s
+    pub plan-made : r .number ≡ 0 → (a : Answer) (m′ s′ : List ℕ) → m′ ≡ steps (limitOf t) (treeOf t)
+        → s′ ≡ replicate (length s) 0 → a ≡ judgePlan t m′ → outcome a m′ s′ ≡ planned steps t m s
     plan-made e a m′ s′ p q j = rw (j, p, q) (sym (planned-done steps t m s (checks-pass e)))
+
+  -- the judge goes on from acceptance, as from the tree's own answer
+  pub judge-goes-on : r .number ≡ 0 → (m′ : List ℕ) (ok a : Answer) → ok ≡ accepted → a ≡ andThen ok (marksAnswer t m′)
+      → a ≡ judgePlan t m′
+  unfolding readTree acceptedTree
+  judge-goes-on e m′ ok a h j =
+      let tree = passes-lent t m s (checks-pass e) .tree in
+      j ∙ ap (λ (x : Answer). andThen x (marksAnswer t m′)) (h ∙ sym (firstOf-all (treeChecks t) accepted tree))
+      ∙ sym (judge-then t m′)
+
+-- what the judge accepts is feasible
+pub judged-laid : (t m : List ℕ) (a : Answer) (l : Layout) → a ≡ judgePlan t m → (a .number ≡ 0 → IsLayout t m l)
+    → a .number ≡ 0 → PlanLaid t m l
+judged-laid t m a l e laid z =
+    let zero = sym (ap (λ (x : Answer). x .number) e) ∙ z in
+    record { judged = feasible-judged t m (judge-feasible t m zero); layout = laid z }
 
 -- ---- The promises, of what is left
 
-pub plan-promised : {t m s m′ s′ : List ℕ} {r : Answer} (steps : ℕ → Chain → List ℕ) → (AcceptedFacts t → Judged t (steps (limitOf t) (treeOf t)))
-    → outcome r m′ s′ ≡ planned steps t m s → PlanPromise t m s r m′ s′
+pub plan-promised : {t m s m′ s′ : List ℕ} {r : Answer} (steps : ℕ → Chain → List ℕ)
+    → (AcceptedFacts t → Judged t (steps (limitOf t) (treeOf t))) → outcome r m′ s′ ≡ planned steps t m s
+    → PlanPromise t m s r m′ s′
 plan-promised {t} {m} {s} steps good e =
-    rw (ap (λ (p : Planned). p .answer) e, ap (λ (p : Planned). p .marks) e, ap (λ (p : Planned). p .scratch) e) (plan-promise steps t m s good)
+    rw (ap (λ (p : Planned). p .answer) e, ap (λ (p : Planned). p .marks) e, ap (λ (p : Planned). p .scratch) e)
+    (plan-promise steps t m s good)
 
 -- demand 3, of what the best planner leaves
 pub best-promised : {t m s m′ s′ : List ℕ} {r : Answer} → outcome r m′ s′ ≡ planBest t m s → BestPromise t m s r m′

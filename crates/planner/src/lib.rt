@@ -6,15 +6,18 @@ mod single;
 use best::lay_best;
 use common::check_plan;
 use common::clear;
-use judge::judge_plan;
+use judge::Judgement;
+use judge::judge_pages;
+use judge::without_layout;
 use model::Answer;
 use pair::lay_pair;
 use single::lay_single;
+use table::accept;
 ghost use mathlib.Core.Path.{_≡_};
 ghost use Rattle.model.specs.Table.{limitOf, treeOf};
 ghost use Rattle.model.specs.Refusals.{planned, planBest, planLevel, planSingle, planPair};
 ghost use Rattle.model.specs.Demand.{PlanPromise, BestPromise};
-ghost use Rattle.planner.specs.Outcome.{outcome, stepsOf, PlanReady};
+ghost use Rattle.planner.specs.Outcome.{outcome, stepsOf, PlanReady, PlanLaid};
 
 // Whose steps make the plan.
 enum Planner {
@@ -25,9 +28,10 @@ enum Planner {
 }
 
 // The marks of an accepted tree.
-fn lay_plan(planner: Planner, table: &[u8], marks: &mut [u8], scratch: &mut [u32])
+fn lay_steps(planner: Planner, table: &[u8], marks: &mut [u8], scratch: &mut [u32])
     requires { ⌜ PlanReady (now table) (now marks) (now scratch) ⌝ }
-    ensures { λ r. ⌜ now (marks .exit) ≡ stepsOf planner (limitOf (now (table .entry))) (treeOf (now (table .entry))) ⌝ }
+    ensures { λ r. ⌜ now (marks .exit)
+        ≡ stepsOf planner (limitOf (now (table .entry))) (treeOf (now (table .entry))) ⌝ }
 {
     match planner {
         Planner::Best => lay_best(table, true, marks, scratch),
@@ -37,49 +41,80 @@ fn lay_plan(planner: Planner, table: &[u8], marks: &mut [u8], scratch: &mut [u32
     }
 }
 
-// What every entry does: it refuses, or lays the plan, clears the scratch and answers with the judge.
-fn make_plan(planner: Planner, table: &[u8], marks: &mut [u8], scratch: &mut [u32]) -> Answer
-    ensures { λ r. ⌜ outcome r (now (marks .exit)) (now (scratch .exit)) ≡ planned (stepsOf planner) (now (table .entry)) (now (marks .entry)) (now (scratch .entry)) ⌝ }
-    ensures { λ r. ⌜ PlanPromise (now (table .entry)) (now (marks .entry)) (now (scratch .entry)) r (now (marks .exit)) (now (scratch .exit)) ⌝ }
+// What every planner does: it refuses, or lays the plan, clears the scratch and goes on with the judge.
+fn plan_pages(planner: Planner, table: &[u8], marks: &mut [u8], scratch: &mut [u32]) -> Judgement
+    ensures { λ r. ⌜ outcome (r .answer) (now (marks .exit)) (now (scratch .exit))
+        ≡ planned (stepsOf planner) (now (table .entry)) (now (marks .entry)) (now (scratch .entry)) ⌝ }
+    ensures { λ r. ⌜ (r .answer .number ≡ 0
+        → PlanLaid (now (table .entry)) (now (marks .exit)) (r .layout)) ⌝ }
 {
     let checked = check_plan(table, marks, scratch);
     if checked.number != 0 {
-        return checked;
+        return without_layout(checked);
     }
-    lay_plan(planner, table, marks, scratch);
+    lay_steps(planner, table, marks, scratch);
     clear(scratch);
-    judge_plan(table, marks)
+    judge_pages(accept(), table, marks)
+}
+
+// The best planner with the layout of its plan.
+pub fn plan_best_pages(table: &[u8], marks: &mut [u8], scratch: &mut [u32]) -> Judgement
+    ensures { λ r. ⌜ outcome (r .answer) (now (marks .exit)) (now (scratch .exit)) ≡ planBest
+        (now (table .entry)) (now (marks .entry)) (now (scratch .entry)) ⌝ }
+    ensures { λ r. ⌜ (r .answer .number ≡ 0
+        → PlanLaid (now (table .entry)) (now (marks .exit)) (r .layout)) ⌝ }
+{
+    plan_pages(Planner::Best, table, marks, scratch)
+}
+
+// What every entry does.
+fn make_plan(planner: Planner, table: &[u8], marks: &mut [u8], scratch: &mut [u32]) -> Answer
+    ensures { λ r. ⌜ outcome r (now (marks .exit)) (now (scratch .exit))
+        ≡ planned (stepsOf planner) (now (table .entry)) (now (marks .entry)) (now (scratch .entry)) ⌝ }
+    ensures { λ r. ⌜ PlanPromise (now (table .entry)) (now (marks .entry)) (now (scratch .entry))
+        r (now (marks .exit)) (now (scratch .exit)) ⌝ }
+{
+    plan_pages(planner, table, marks, scratch).answer
 }
 
 // Entry: the best planner. Its plan is the lowest there is, and 7 means that there is none.
 pub fn plan_best(table: &[u8], marks: &mut [u8], scratch: &mut [u32]) -> Answer
-    ensures { λ r. ⌜ outcome r (now (marks .exit)) (now (scratch .exit)) ≡ planBest (now (table .entry)) (now (marks .entry)) (now (scratch .entry)) ⌝ }
-    ensures { λ r. ⌜ PlanPromise (now (table .entry)) (now (marks .entry)) (now (scratch .entry)) r (now (marks .exit)) (now (scratch .exit)) ⌝ }
-    ensures { λ r. ⌜ BestPromise (now (table .entry)) (now (marks .entry)) (now (scratch .entry)) r (now (marks .exit)) ⌝ }
+    ensures { λ r. ⌜ outcome r (now (marks .exit)) (now (scratch .exit))
+        ≡ planBest (now (table .entry)) (now (marks .entry)) (now (scratch .entry)) ⌝ }
+    ensures { λ r. ⌜ PlanPromise (now (table .entry)) (now (marks .entry)) (now (scratch .entry))
+        r (now (marks .exit)) (now (scratch .exit)) ⌝ }
+    ensures { λ r. ⌜ BestPromise (now (table .entry)) (now (marks .entry)) (now (scratch .entry))
+        r (now (marks .exit)) ⌝ }
 {
     make_plan(Planner::Best, table, marks, scratch)
 }
 
 // Entry: the level planner.
 pub fn plan_level(table: &[u8], marks: &mut [u8], scratch: &mut [u32]) -> Answer
-    ensures { λ r. ⌜ outcome r (now (marks .exit)) (now (scratch .exit)) ≡ planLevel (now (table .entry)) (now (marks .entry)) (now (scratch .entry)) ⌝ }
-    ensures { λ r. ⌜ PlanPromise (now (table .entry)) (now (marks .entry)) (now (scratch .entry)) r (now (marks .exit)) (now (scratch .exit)) ⌝ }
+    ensures { λ r. ⌜ outcome r (now (marks .exit)) (now (scratch .exit))
+        ≡ planLevel (now (table .entry)) (now (marks .entry)) (now (scratch .entry)) ⌝ }
+    ensures { λ r. ⌜ PlanPromise (now (table .entry)) (now (marks .entry)) (now (scratch .entry))
+        r (now (marks .exit)) (now (scratch .exit)) ⌝ }
 {
     make_plan(Planner::Level, table, marks, scratch)
 }
 
 // Entry: the single planner.
 pub fn plan_single(table: &[u8], marks: &mut [u8], scratch: &mut [u32]) -> Answer
-    ensures { λ r. ⌜ outcome r (now (marks .exit)) (now (scratch .exit)) ≡ planSingle (now (table .entry)) (now (marks .entry)) (now (scratch .entry)) ⌝ }
-    ensures { λ r. ⌜ PlanPromise (now (table .entry)) (now (marks .entry)) (now (scratch .entry)) r (now (marks .exit)) (now (scratch .exit)) ⌝ }
+    ensures { λ r. ⌜ outcome r (now (marks .exit)) (now (scratch .exit))
+        ≡ planSingle (now (table .entry)) (now (marks .entry)) (now (scratch .entry)) ⌝ }
+    ensures { λ r. ⌜ PlanPromise (now (table .entry)) (now (marks .entry)) (now (scratch .entry))
+        r (now (marks .exit)) (now (scratch .exit)) ⌝ }
 {
     make_plan(Planner::Single, table, marks, scratch)
 }
 
 // Entry: the pair planner.
 pub fn plan_pair(table: &[u8], marks: &mut [u8], scratch: &mut [u32]) -> Answer
-    ensures { λ r. ⌜ outcome r (now (marks .exit)) (now (scratch .exit)) ≡ planPair (now (table .entry)) (now (marks .entry)) (now (scratch .entry)) ⌝ }
-    ensures { λ r. ⌜ PlanPromise (now (table .entry)) (now (marks .entry)) (now (scratch .entry)) r (now (marks .exit)) (now (scratch .exit)) ⌝ }
+    ensures { λ r. ⌜ outcome r (now (marks .exit)) (now (scratch .exit))
+        ≡ planPair (now (table .entry)) (now (marks .entry)) (now (scratch .entry)) ⌝ }
+    ensures { λ r. ⌜ PlanPromise (now (table .entry)) (now (marks .entry)) (now (scratch .entry))
+        r (now (marks .exit)) (now (scratch .exit)) ⌝ }
 {
     make_plan(Planner::Pair, table, marks, scratch)
 }

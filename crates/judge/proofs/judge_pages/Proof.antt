@@ -11,7 +11,7 @@ use Rattle.judge.proofs.judge_pages.Tie as tie
 
 returns : tie.Need-returns
 returns c =
-    let r = c .no-judgement .ensures in
+    let r = c .without-layout .ensures in
     let other = c .before .if1 .taken in (
       r ∙ sym (then-stands _ _ other),
       λ z. absurd (other (sym (ap (λ (x : Answer). x .number) r) ∙ z)),
@@ -20,7 +20,7 @@ returns c =
 returns-2 : tie.Need-returns-2
 returns-2 c =
     let n = c .before .before .before in
-    let r = c .no-judgement2 .ensures ∙ c .before .refuse .ensures ∙ ap (refused 8) (n .node-count .ensures) in (
+    let r = c .without-layout2 .ensures ∙ c .before .refuse .ensures ∙ ap (refused 8) (n .node-count .ensures) in (
       r
           ∙ marks-length _ _ (λ z. omega (arith, c .before .before .if2, n .node-count .ensures))
           ∙ sym (then-next _ _ (n .before .if1 .left)),

@@ -8,9 +8,9 @@ use lib.Dec.{eqb, ltb}
 use denote.Ref.{now}
 use Rattle.model.specs.Basics.{when}
 use Rattle.model.specs.Table.{maxNodes, maxLimit, nodeCount, limitOf}
-use Rattle.model.specs.Refusals.{badMarks, shortScratch, scratchWords, readTree}
+use Rattle.model.specs.Refusals.{badMarks, shortScratch, scratchWords, lentChecks, readTree}
 use Rattle.model.specs.declared.Answer.{Answer}
-use Rattle.theory.specs.Checks.{lentChecks, firstOf-cons, firstOf-none}
+use Rattle.theory.specs.Checks.{firstOf-cons, firstOf-none}
 use Rattle.theory.specs.JudgeAnswers.{tree-facts}
 use Rattle.planner.proofs.Planning.{tree-refuses, tree-goes-on, words-fit}
 use borrow.Author.Needs.{needs}

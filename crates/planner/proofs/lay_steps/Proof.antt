@@ -1,4 +1,4 @@
--- `planner::lay_plan` meets its contract. Assumes nothing.
+-- `planner::lay_steps` meets its contract. Assumes nothing.
 use mathlib.Core.Path.{_≡_, sym, ap, _∙_}
 use mathlib.Core.List.{List}
 use Prim.Native.Nat.{ℕ}
@@ -8,8 +8,8 @@ use Rattle.model.specs.Steps.{bestMarks, levelMarks}
 use Rattle.planner.specs.declared.Planner.{Planner}
 use Rattle.planner.specs.Outcome.{stepsOf}
 use borrow.Author.Needs.{needs}
-use Rattle.planner.proofs.lay_plan.Statement.{statement}
-use Rattle.planner.proofs.lay_plan.Tie as tie
+use Rattle.planner.proofs.lay_steps.Statement.{statement}
+use Rattle.planner.proofs.lay_steps.Tie as tie
 
 -- the steps of the planner that was told
 by-steps : (t : List ℕ) {m : List ℕ} {p q : Planner} → p ≡ q → m ≡ stepsOf q (limitOf t) (treeOf t) → m ≡ stepsOf p (limitOf t) (treeOf t)
@@ -44,8 +44,8 @@ returns-4 c =
     let e = l .before .before .before in
     by-steps (now (e .before .before .before .before .before .args .table)) (e .enum-told4 .given .1) (l .lay-pair .ensures)
 
-pub lay-plan-spec : {M : Type 1} → statement M
-lay-plan-spec =
+pub lay-steps-spec : {M : Type 1} → statement M
+lay-steps-spec =
     tie.close
     (tie.spec enum-told (λ c κs. search needs) (λ c. search needs) (λ c κs. search needs) (λ c. search needs)
     (λ c κs. search needs) (λ c. search needs) (λ c κs. search needs) (λ c. search needs) (λ c. search needs) returns
