@@ -33,7 +33,8 @@ use Rattle.theory.specs.PlanFeasible.{Judged, feasible-judged}
 use Rattle.theory.specs.RunsByMarks.{GoodMarks, good-marks, InRunOf, in-run-of, runLast-marks}
 use Rattle.theory.specs.Words.{Words, word-small, bytesOf-words, words-bytes, words-cons, words-nil, words-listTo}
 use Rattle.theory.specs.PagesByNumber.{Page, page-first, page-run}
-use Rattle.theory.specs.ArchiveWords.{length-recordsTo, getD-recordsTo, Described, archive-nodes}
+use Rattle.theory.specs.Put.{length-recordsTo, getD-recordsTo}
+use Rattle.theory.specs.ArchiveWords.{Described, archive-nodes}
 use Rattle.theory.specs.ArchiveWords.{archive-limit, archive-pages, archive-begin, archive-end, archive-node, archive-parent}
 
 -- a feasible plan's pages are within the limit

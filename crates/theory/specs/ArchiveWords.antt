@@ -1,14 +1,13 @@
 -- The words of an archive of an edition: its length, its head, and the fields of its page and node records, read back as they were
 -- written. They hold of any table and marks. What the laws take of an edition is said once, in Described, and first-described says it of
 -- the first.
--- Defines Described. Proves length-recordsTo, getD-recordsTo; first-described; length-archive and archive-nodes to archive-parent.
+-- Defines Described. Proves first-described; length-archive and archive-nodes to archive-parent.
 -- Assumes nothing.
 use Prim.Native.Nat.{ℕ, zero, suc, _+_, _-_, _*_, _≤_, _<_}
 use native.Mathlib.Omega.{arith}
 use native.Mathlib.Nat.{mul-le-mul-left}
 use mathlib.Core.Bool.{true}
 use mathlib.Core.Path.{_≡_, refl, sym, _∙_, ap}
-use mathlib.Core.Logic.{_⊎_, inl, inr}
 use mathlib.Core.List.{List, [], _∷_, _++_}
 use lib.ListN.{length, getD, length-append, List·getD-append}
 use lib.Seq.{getD-append-add}
@@ -20,45 +19,9 @@ use Rattle.model.specs.Archive.{firstEdition, headWords, pageRecord, nextOnPage
 use Rattle.model.specs.Archive.{nodesIn, limitIn, pagesIn, pageFieldIn, nodeFieldIn, parentIn}
 use Rattle.model.specs.Refusals.{acceptedTree}
 use Rattle.model.specs.declared.Edition.{Edition}
-use Rattle.theory.specs.Ranges.{upto-suc, listTo-zero, listTo-suc}
 use Rattle.theory.specs.TableFacts.{accepted-facts}
 use Rattle.theory.specs.Words.{length-bytesOf, wordAt-bytesOf}
-
--- ---- Records of one width
-
-module _ (rec : ℕ → List ℕ) (width : ℕ) (wide : (v : ℕ) → length (rec v) ≡ width) where
-  pub length-recordsTo : (n : ℕ) → length (listTo n rec) ≡ width * n
-  length-recordsTo zero = ap length (listTo-zero rec) ∙ omega arith
-  length-recordsTo (suc n) =
-      ap length (listTo-suc n rec)
-      ∙ length-append (listTo n rec) (rec (suc n))
-      ∙ omega (arith, length-recordsTo n, wide (suc n))
-
-  -- word f of record v
-  pub getD-recordsTo : (n v f : ℕ) → 1 ≤ v → v ≤ n → f < width
-      → getD (listTo n rec) (width * (v - 1) + f) 0 ≡ getD (rec v) f 0
-  getD-recordsTo zero v f low high less = absurd (omega arith)
-  getD-recordsTo (suc n) zero f low high less = absurd (omega arith)
-  getD-recordsTo (suc n) (suc k) f low high less = go (upto-suc n (suc k) high) (getD-recordsTo n (suc k) f low)
-    where
-      place : width * (suc k - 1) + f ≡ width * k + f
-      place = ap (λ j. width * j + f) (omega arith)
-
-      go : (suc k ≤ n) ⊎ (suc k ≡ suc n)
-          → (suc k ≤ n → f < width → getD (listTo n rec) (width * (suc k - 1) + f) 0 ≡ getD (rec (suc k)) f 0)
-          → getD (listTo (suc n) rec) (width * (suc k - 1) + f) 0 ≡ getD (rec (suc k)) f 0
-      go (inl h) ih =
-          ap (λ l. getD l (width * (suc k - 1) + f) 0) (listTo-suc n rec)
-          ∙ List·getD-append (listTo n rec) (rec (suc n)) 0 (width * (suc k - 1) + f)
-          (omega (arith, place, length-recordsTo n, mul-le-mul-left width h))
-          ∙ ih h less
-      go (inr e) ih =
-          let same : k ≡ n = omega arith in
-          ap (λ l. getD l (width * (suc k - 1) + f) 0) (listTo-suc n rec)
-          ∙ ap (λ i. getD (listTo n rec ++ rec (suc n)) i 0)
-          (place ∙ ap (λ j. width * j + f) same ∙ ap (λ j. j + f) (sym (length-recordsTo n)))
-          ∙ getD-append-add (listTo n rec) (rec (suc n)) f 0
-          ∙ ap (λ u. getD (rec u) f 0) (sym e)
+use Rattle.theory.specs.Put.{length-recordsTo, getD-recordsTo}
 
 -- ---- What the laws take of an edition
 

@@ -1,14 +1,16 @@
 -- Words put into a string of bytes, one after the other and in records. Defines putWord, putRecord, Starts, RecordsPut. Assumes nothing.
-use Prim.Native.Nat.{ℕ, suc, _+_, _*_, _/_, _%_, _≤_}
+use Prim.Native.Nat.{ℕ, zero, suc, _+_, _-_, _*_, _/_, _%_, _≤_, _<_}
 use native.Mathlib.Omega.{arith}
+use native.Mathlib.Nat.{mul-le-mul-left}
 use native.Mathlib.Numerals.{add-one}
 use mathlib.Core.Path.{_≡_, refl, sym, _∙_, ap}
+use mathlib.Core.Logic.{_⊎_, inl, inr}
 use mathlib.Core.List.{List, [], _∷_, _++_, append-assoc, append-nil}
-use lib.ListN.{length, take, set, length-append, length-set}
-use lib.Seq.{take-suc-set, take-all}
+use lib.ListN.{length, getD, take, set, length-append, length-set, List·getD-append}
+use lib.Seq.{take-suc-set, take-all, getD-append-add}
 use Rattle.model.specs.Basics.{listTo}
 use Rattle.model.specs.Table.{bytesOf}
-use Rattle.theory.specs.Ranges.{listTo-zero, listTo-suc}
+use Rattle.theory.specs.Ranges.{upto-suc, listTo-zero, listTo-suc}
 
 -- word i of the string becomes w
 unfoldable pub putWord : List ℕ → ℕ → ℕ → List ℕ
@@ -78,20 +80,65 @@ pub starts-all : (o ws : List ℕ) → Starts o ws → length o ≡ 2 * length w
 unfolding Starts
 starts-all o ws h long = sym (take-all (2 * length ws) o (omega arith)) ∙ h
 
--- ---- Records, one after the other
+-- ---- Records of one width
 
--- the words ws, where they stood, and after them the records 1 to n
-abbrev pub RecordsPut : (ℕ → List ℕ) → ℕ → List ℕ → List ℕ → List ℕ → Type 0
-RecordsPut rec n ws start out = Starts start ws → Starts out (ws ++ listTo n rec)
+-- after any k words that stood at the start, the records 1 to n stand
+abbrev pub RecordsPut : (ℕ → List ℕ) → ℕ → ℕ → List ℕ → List ℕ → Type 0
+RecordsPut rec k n start out = (ws : List ℕ) → length ws ≡ k → Starts start ws → Starts out (ws ++ listTo n rec)
 
-module _ (rec : ℕ → List ℕ) (ws : List ℕ) where
-  pub records-none : (out : List ℕ) → RecordsPut rec 0 ws out out
-  records-none out h = rw (listTo-zero rec, append-nil ws) h
+module _ (rec : ℕ → List ℕ) (width : ℕ) (wide : (v : ℕ) → length (rec v) ≡ width) where
+  pub length-recordsTo : (n : ℕ) → length (listTo n rec) ≡ width * n
+  length-recordsTo zero = ap length (listTo-zero rec) ∙ omega arith
+  length-recordsTo (suc n) =
+      ap length (listTo-suc n rec)
+      ∙ length-append (listTo n rec) (rec (suc n))
+      ∙ omega (arith, length-recordsTo n, wide (suc n))
 
-  -- a record is put after those before it: the words that stand go on by it
-  pub records-one : (n : ℕ) (start out out′ : List ℕ) → RecordsPut rec n ws start out
-      → (Starts out (ws ++ listTo n rec) → Starts out′ (ws ++ listTo n rec ++ rec (n + 1)))
-      → RecordsPut rec (n + 1) ws start out′
-  records-one n start out out′ h put begun =
+  -- word f of record v
+  pub getD-recordsTo : (n v f : ℕ) → 1 ≤ v → v ≤ n → f < width
+      → getD (listTo n rec) (width * (v - 1) + f) 0 ≡ getD (rec v) f 0
+  getD-recordsTo zero v f low high less = absurd (omega arith)
+  getD-recordsTo (suc n) zero f low high less = absurd (omega arith)
+  getD-recordsTo (suc n) (suc k) f low high less = go (upto-suc n (suc k) high) (getD-recordsTo n (suc k) f low)
+    where
+      place : width * (suc k - 1) + f ≡ width * k + f
+      place = ap (λ j. width * j + f) (omega arith)
+
+      go : (suc k ≤ n) ⊎ (suc k ≡ suc n)
+          → (suc k ≤ n → f < width → getD (listTo n rec) (width * (suc k - 1) + f) 0 ≡ getD (rec (suc k)) f 0)
+          → getD (listTo (suc n) rec) (width * (suc k - 1) + f) 0 ≡ getD (rec (suc k)) f 0
+      go (inl h) ih =
+          ap (λ l. getD l (width * (suc k - 1) + f) 0) (listTo-suc n rec)
+          ∙ List·getD-append (listTo n rec) (rec (suc n)) 0 (width * (suc k - 1) + f)
+          (omega (arith, place, length-recordsTo n, mul-le-mul-left width h))
+          ∙ ih h less
+      go (inr e) ih =
+          let same : k ≡ n = omega arith in
+          ap (λ l. getD l (width * (suc k - 1) + f) 0) (listTo-suc n rec)
+          ∙ ap (λ i. getD (listTo n rec ++ rec (suc n)) i 0)
+          (place ∙ ap (λ j. width * j + f) same ∙ ap (λ j. j + f) (sym (length-recordsTo n)))
+          ∙ getD-append-add (listTo n rec) (rec (suc n)) f 0
+          ∙ ap (λ u. getD (rec u) f 0) (sym e)
+
+  -- ---- Put one after the other
+
+  pub records-none : (k : ℕ) (out : List ℕ) → RecordsPut rec k 0 out out
+  records-none k out ws long h = rw (listTo-zero rec, append-nil ws) h
+
+  -- one more: what puts record n + 1 after all words that stand
+  pub records-turn : (k n : ℕ) (start out out′ : List ℕ) → RecordsPut rec k n start out
+      → ((xs : List ℕ) → length xs ≡ k + width * n → Starts out xs → Starts out′ (xs ++ rec (n + 1)))
+      → RecordsPut rec k (n + 1) start out′
+  records-turn k n start out out′ h put ws long begun =
       let more : listTo (n + 1) rec ≡ listTo n rec ++ rec (n + 1) = rw (add-one n) (listTo-suc n rec) in
-      rw (more, ← append-assoc ws (listTo n rec) (rec (n + 1))) (put (h begun))
+      let all : length (ws ++ listTo n rec) ≡ k + width * n =
+      omega (arith, length-append ws (listTo n rec), length-recordsTo n) in
+      rw (more, ← append-assoc ws (listTo n rec) (rec (n + 1))) (put (ws ++ listTo n rec) all (h ws long begun))
+
+  -- records of four words
+  pub records-four : (k n : ℕ) (start out out′ : List ℕ) (i a b c d : ℕ) → RecordsPut rec k n start out
+      → i ≡ k + width * n → 2 * i + 8 ≤ length out → out′ ≡ putRecord out i a b c d
+      → rec (n + 1) ≡ a ∷ b ∷ c ∷ d ∷ [] → RecordsPut rec k (n + 1) start out′
+  records-four k n start out out′ i a b c d h at room e four =
+      records-turn k n start out out′ h
+      (λ xs long begun. rw (e, four) (starts-record out xs i a b c d begun (at ∙ sym long) room))
