@@ -1,6 +1,8 @@
--- The runs that end at a child, each by one member longer than the one before. Defines lastOf (a run's members), Stretch (what holds while
--- the runs are tried) and Taking (while second plans are taken). Proves the turns of both loops and the ways out: stretch-start, stretch-joins,
--- stretch-again, stretch-end, taking-start, taking-down, taking-more, over-end, stops-end; and what the calls ask for. Assumes nothing.
+-- The runs that end at a child, each by one member longer than the one before. Defines lastChildrenIn (a run's
+-- members), Stretch (what holds while the runs are tried; Joins and Tries say what is left to do) and Taking (while
+-- second plans are taken). Proves the turns of both loops and the ways out: stretch-start, stretch-joins,
+-- stretch-again, stretch-end, taking-start, taking-down, taking-more, over-end, stops-end; and what the calls ask
+-- for. Assumes nothing.
 use Prim.Native.Nat.{ℕ, zero, suc, _+_, _-_, _*_, _≤_, _<_}
 use mathlib.Core.Path.{_≡_, refl, sym, _∙_, ap}
 use mathlib.Core.Bool.{Bool, true, false}
@@ -8,115 +10,91 @@ use mathlib.Core.List.{List, [], _∷_}
 use native.Mathlib.Omega.{arith}
 use native.Mathlib.Numerals.{add-one}
 use lib.ListN.{length, getD, set, length-set, replicate, length-replicate}
-use lib.Dec.{eqb, leb}
-use borrow.Author.Tests.{eqb-true, eqb-false, leb-true, le-leb, lt-leb}
+use lib.Dec.{leb}
+use borrow.Author.Tests.{leb-true, le-leb, lt-leb}
 use Rattle.model.specs.Basics.{pick}
 use Rattle.model.specs.Table.{maxNodes, maxLimit}
 use Rattle.model.specs.Steps.{Child, runOf}
 use Rattle.theory.specs.ReduceCount.{figuresOf}
-use Rattle.best.specs.Cells.{Cell, page, noWord, lower, tryRun, stayCell, cellAt, onward}
-use Rattle.best.specs.CellsFront.{childIn, frontOf, front-none, front-cons, front-good, front-length, cellIn, Swept}
-use Rattle.best.specs.CellsRun.{
-  Kept,
-  kept-none,
-  kept-count,
-  kept-gained,
-  kept-total,
-  kept-more,
-  choosing,
-  choosing-down,
-  choosing-take,
-  choosing-room,
-  choosing-none,
-  countsOf,
-  run-figures,
-  run-stops,
-  run-taken-le,
-  run-fits,
-  run-over,
-  over-stops,
-  joins,
-  onward-stops,
-  onward-goes,
-  back,
-  blockAt,
-  back-le,
-  block-apart,
-  ColumnWords,
-  wordEnd,
-  word-small,
-  Fillable,
-}
+use Rattle.best.specs.Cells.{Cell, pageWord, noWord, lower, tryRun, stayCell, cellAt, longerRuns}
+use Rattle.best.specs.CellsArrays.{childIn, childrenIn, children-none, children-cons, children-good}
+use Rattle.best.specs.CellsArrays.{children-length, cellIn, Swept}
+use Rattle.best.specs.CellsRun.{RunSums, sums-none, sums-count, sums-gained, sums-total, sums-more, sums-joins}
+use Rattle.best.specs.CellsRun.{choosing, choosing-down, choosing-take, choosing-room, choosing-none, countsOf}
+use Rattle.best.specs.CellsRun.{run-figures, run-stops, run-taken-le, run-fits, run-over, over-stops, joins}
+use Rattle.best.specs.CellsRun.{longer-stops, longer-goes, nthPrev, nthPrev-shift, blockAt, nthPrev-le}
+use Rattle.best.specs.CellsRun.{block-apart, ColumnWords, wordEnd, cell-word-small, Fillable}
 use Rattle.best.specs.declared.run.Sums.{Sums}
-use Rattle.best.specs.Run.{gainSlots, joined}
+use Rattle.best.specs.CellsSums.{gainSlots, joinedSums}
 
 -- the last n of the children up to node c, the earliest first
-unfoldable pub lastOf : List ℕ → List ℕ → List ℕ → ℕ → ℕ → List Child
-lastOf rests gains prevs zero c = []
-lastOf rests gains prevs (suc n) c = childIn rests gains (back prevs n c) ∷ lastOf rests gains prevs n c
+unfoldable pub lastChildrenIn : List ℕ → List ℕ → List ℕ → ℕ → ℕ → List Child
+lastChildrenIn rests gains prevs zero c = []
+lastChildrenIn rests gains prevs (suc n) c =
+    childIn rests gains (nthPrev prevs n c) ∷ lastChildrenIn rests gains prevs n c
 
--- The run of so many children up to c, where `next` is the child before it: its sums, and words that differ from those at entry in the
--- block of c only, where each cell leads to the one that is sought.
-pub record Stretch (K start c : ℕ) (rests gains prevs xs : List ℕ) (leads : List Child → ℕ → List Child → ℕ → Cell → Cell) (ys counts : List ℕ) (sums : Sums) (next : ℕ) : Type 0 where
-  pub next-is : next ≡ back prevs (sums .len) c
+-- The run of so many children up to c, where `next` is the child before it: its sums, and words that differ from
+-- those at entry in the block of c only, where each cell leads to the one that is sought.
+pub record Stretch (K start c : ℕ) (rests gains prevs xs : List ℕ)
+    (leads : List Child → ℕ → List Child → ℕ → Cell → Cell) (ys counts : List ℕ) (sums : Sums) (next : ℕ) : Type 0 where
+  pub next-is : next ≡ nthPrev prevs (sums .len) c
   pub short : sums .len + next ≤ c
-  pub kept : Kept K (lastOf rests gains prevs (sums .len) c) (sums .len) (sums .total) (sums .gained) (sums .top) counts
+  pub kept : RunSums K (lastChildrenIn rests gains prevs (sums .len) c) (sums .len) (sums .total) (sums .gained)
+      (sums .top) counts
   pub wide : length counts ≡ gainSlots
   pub long : length ys ≡ length xs
   pub below : (i : ℕ) → i < blockAt K c → getD ys i 0 ≡ getD xs i 0
   pub above : (i : ℕ) → blockAt K c + 2 * (K + 1) ≤ i → getD ys i 0 ≡ getD xs i 0
   pub cells : (s : ℕ) → start ≤ s → s ≤ K
-      → leads (lastOf rests gains prevs (sums .len) c) (sums .len) (frontOf rests gains prevs next) s (cellIn ys K (blockAt K c) s)
-      ≡ cellAt K (frontOf rests gains prevs c) s
+      → leads (lastChildrenIn rests gains prevs (sums .len) c) (sums .len) (childrenIn rests gains prevs next) s
+      (cellIn ys K (blockAt K c) s)
+      ≡ cellAt K (childrenIn rests gains prevs c) s
 
 -- the child before the run is to join it; the run is to be tried; it was tried
 abbrev pub Joins : ℕ → List Child → ℕ → List Child → ℕ → Cell → Cell
 Joins K run len ks s cell = joins K s run len ks cell
 
 abbrev pub Tries : ℕ → List Child → ℕ → List Child → ℕ → Cell → Cell
-Tries K run len ks s cell = onward K s run len ks (tryRun K (runOf K run) len (cellAt K ks s .word) cell)
+Tries K run len ks s cell = longerRuns K s run len ks (tryRun K (runOf K run) len (cellAt K ks s .word) cell)
 
 abbrev Tried : ℕ → List Child → ℕ → List Child → ℕ → Cell → Cell
-Tried K run len ks s cell = onward K s run len ks cell
+Tried K run len ks s cell = longerRuns K s run len ks cell
 
 -- second plans are being taken: the choices left lead to the run's figures
 pub record Taking (K c : ℕ) (rests gains prevs counts : List ℕ) (sums : Sums) (sum taken gain left : ℕ) : Type 0 where
-  pub figures : figuresOf (runOf K (lastOf rests gains prevs (sums .len) c)) ≡ choosing gain left (countsOf counts) K (record { sum = sum; count = taken })
+  pub figures : figuresOf (runOf K (lastChildrenIn rests gains prevs (sums .len) c))
+      ≡ choosing gain left (countsOf counts) K (record { sum = sum; count = taken })
   pub gain-high : gain ≤ K
   pub taken-high : taken + sum ≤ sums .total
 
 module _ {K start c : ℕ} {rests gains prevs xs : List ℕ} (f : Fillable K start c rests gains prevs xs) where
-  abbrev front : ℕ → List Child
-  front u = frontOf rests gains prevs u
+  abbrev children : ℕ → List Child
+  children u = childrenIn rests gains prevs u
 
   abbrev run : ℕ → List Child
-  run n = lastOf rests gains prevs n c
+  run n = lastChildrenIn rests gains prevs n c
 
   -- the words at entry that a child that stays asks for
-  stays : (s : ℕ) → start ≤ s
+  stay-words : (s : ℕ) → start ≤ s
       → stayCell K s (getD rests c 0) (getD xs (blockAt K (getD prevs c 0) + (s + getD rests c 0)) 0)
-      ≡ stayCell K s (getD rests c 0) (cellAt K (front (getD prevs c 0)) (s + getD rests c 0) .word)
-  unfolding stayCell pick back
-  stays s p = ap (λ w. record { word = w; run = 0 }) (go (leb (s + getD rests c 0) K) refl)
+      ≡ stayCell K s (getD rests c 0) (cellAt K (children (getD prevs c 0)) (s + getD rests c 0) .word)
+  unfolding stayCell pick nthPrev
+  stay-words s p = ap (λ w. record { word = w; run = 0 }) (go (leb (s + getD rests c 0) K) refl)
     where
       go : (b : Bool) → leb (s + getD rests c 0) K ≡ b
           → pick b (getD xs (blockAt K (getD prevs c 0) + (s + getD rests c 0)) 0) noWord
-          ≡ pick b (cellAt K (front (getD prevs c 0)) (s + getD rests c 0) .word) noWord
+          ≡ pick b (cellAt K (children (getD prevs c 0)) (s + getD rests c 0) .word) noWord
       go true e = f .columns 0 (s + getD rests c 0) (omega arith) (leb-true (s + getD rests c 0) K e)
       go false e = refl
 
-  back-less : (n : ℕ) → back prevs (suc n) c < c
-  unfolding back
-  back-less n = go (eqb (back prevs n c) 0) refl (back-le prevs (f .earlier) (f .none) n c)
-    where
-      go : (b : Bool) → eqb (back prevs n c) 0 ≡ b → back prevs n c ≤ c → getD prevs (back prevs n c) 0 < c
-      go true e h = let z : back prevs n c ≡ 0 = eqb-true _ _ e in rw (z, f .none) (f .node-low)
-      go false e h =
-          let d : back prevs n c ≡ 0 → ⊥ = eqb-false _ _ e in
-          omega (arith, f .earlier (back prevs n c) (omega arith))
+  nthPrev-below : (n : ℕ) → nthPrev prevs (suc n) c < c
+  nthPrev-below n =
+      let le = nthPrev-le prevs (f .earlier) (f .none) n (getD prevs c 0) in
+      omega (arith, nthPrev-shift prevs n c, le, f .earlier c (f .node-low))
 
   pub stay-ready : (here first : ℕ) → here ≡ blockAt K c → first ≡ blockAt K (getD prevs c 0) → start ≤ K
-      → (K ≤ maxLimit) × (getD rests c 0 ≤ maxLimit) × (start ≤ maxLimit) × (first + 2 * (K + 1) ≤ here) × (here + 2 * (K + 1) ≤ length xs)
+      → (K ≤ maxLimit) × (getD rests c 0 ≤ maxLimit) × (start ≤ maxLimit) × (first + 2 * (K + 1) ≤ here)
+      × (here + 2 * (K + 1) ≤ length xs)
   stay-ready here first e d h = (
     f .limit-high,
     omega (arith, f .good c .light, f .limit-high),
@@ -140,25 +118,32 @@ module _ {K start c : ℕ} {rests gains prevs xs : List ℕ} (f : Fillable K sta
             earlier = f .earlier;
             none = f .none;
             good = f .good;
-            columns = λ n s p q. w .below (blockAt K (back prevs (suc n) c) + s) (omega (arith, block-apart K (back prevs (suc n) c) c (back-less n))) ∙ f .columns n s p q;
+            columns = λ n s p q.
+                w .below (blockAt K (nthPrev prevs (suc n) c) + s)
+                (omega (arith, block-apart K (nthPrev prevs (suc n) c) c (nthPrev-below n)))
+                ∙ f .columns n s p q;
           }
 
-      pub stretch-start : Stretch K start c rests gains prevs ys (Joins K) ys (replicate gainSlots 0) (record { len = 0; total = 0; gained = 0; top = 0 }) c
-      unfolding lastOf back joins cellAt
+      pub stretch-start : Stretch K start c rests gains prevs ys (Joins K) ys (replicate gainSlots 0)
+          (record { len = 0; total = 0; gained = 0; top = 0 }) c
+      unfolding lastChildrenIn nthPrev joins cellAt
       stretch-start =
           let w = rw (e, d) at swept in
           record {
             next-is = refl;
             short = omega arith;
-            kept = kept-none K gainSlots;
+            kept = sums-none K gainSlots;
             wide = length-replicate {A = ℕ} gainSlots 0;
             long = refl;
             below = λ i p. refl;
             above = λ i p. refl;
-            cells = λ s p q. rw (w .cells s p q, stays s p, front-cons rests gains prevs (f .earlier) c (f .node-low)) refl;
+            cells = λ s p q.
+                let shape = children-cons rests gains prevs (f .earlier) c (f .node-low) in
+                rw (w .cells s p q, stay-words s p, shape) refl;
           }
 
-      pub stay-then : {zs : List ℕ} {g : ℕ → Cell} → Swept K start (blockAt K c) g ys zs → Swept K start (blockAt K c) g xs zs
+      pub stay-then : {zs : List ℕ} {g : ℕ → Cell} → Swept K start (blockAt K c) g ys zs
+          → Swept K start (blockAt K c) g xs zs
       stay-then z =
           let w = rw (e, d) at swept in
           record {
@@ -169,38 +154,33 @@ module _ {K start c : ℕ} {rests gains prevs xs : List ℕ} (f : Fillable K sta
           }
 
   -- the next child joins the run
-  module _ {ys counts : List ℕ} {sums : Sums} {next : ℕ} (t : Stretch K start c rests gains prevs xs (Joins K) ys counts sums next) where
-    pub stretch-end : next ≡ 0 → Swept K start (blockAt K c) (λ s. cellAt K (front c) s) xs ys
+  module _ {ys counts : List ℕ} {sums : Sums} {next : ℕ}
+      (t : Stretch K start c rests gains prevs xs (Joins K) ys counts sums next) where
+    pub stretch-end : next ≡ 0 → Swept K start (blockAt K c) (λ s. cellAt K (children c) s) xs ys
     unfolding joins
     stretch-end e =
         record {
           long = t .long;
-          cells = λ s p q. rw (← t .cells s p q, e, front-none rests gains prevs (f .earlier)) refl;
+          cells = λ s p q. rw (← t .cells s p q, e, children-none rests gains prevs (f .earlier)) refl;
           below = t .below;
           above = t .above;
         }
 
     module _ (low : 1 ≤ next) where
-      pub joins-fits : (getD gains next 0 ≤ maxLimit) × (getD counts (getD gains next 0) 0 < 65535) × (sums .len < 4294967295)
+      pub joins-fits : (getD gains next 0 ≤ maxLimit) × (getD counts (getD gains next 0) 0 < 65535)
+          × (sums .len < 4294967295)
           × (sums .total + getD rests next 0 < 4294967296) × (sums .gained + getD gains next 0 < 4294967296)
       joins-fits =
-          let good = f .good next in
-          let total = kept-total (t .kept) (f .limit-high) in
-          let small : sums .len ≤ maxNodes = omega (arith, t .short, f .node-high) in (
-            omega (arith, good .light, good .fits, f .limit-high),
-            omega (arith, kept-count (t .kept) (getD gains next 0)),
-            omega arith,
-            omega (arith, total, good .light, f .limit-high),
-            omega (arith, total, kept-gained (t .kept), good .light, good .fits, f .limit-high),
-          )
+          sums-joins (t .kept) (f .limit-high) (omega (arith, t .short, f .node-high)) (childIn rests gains next)
+          (f .good next)
 
-      pub stretch-joins : (r : Sums) (ds : List ℕ) → r ≡ joined sums (getD rests next 0) (getD gains next 0)
+      pub stretch-joins : (r : Sums) (ds : List ℕ) → r ≡ joinedSums sums (getD rests next 0) (getD gains next 0)
           → ds ≡ set counts (getD gains next 0) (getD counts (getD gains next 0) 0 + 1)
           → Stretch K start c rests gains prevs xs (Tries K) ys ds r (getD prevs next 0) × (1 ≤ r .len)
-      unfolding lastOf back joins
+      unfolding lastChildrenIn nthPrev joins
       stretch-joins r ds e d =
           let fits : getD gains next 0 < length counts = omega (arith, joins-fits .0, t .wide) in
-          let more = kept-more (t .kept) (childIn rests gains next) (f .good next) fits in
+          let more = sums-more (t .kept) (childIn rests gains next) (f .good next) fits in
           rw (e, d) (
             record {
               next-is = rw (add-one (sums .len)) (ap (λ u. getD prevs u 0) (t .next-is));
@@ -212,49 +192,55 @@ module _ {K start c : ℕ} {rests gains prevs xs : List ℕ} (f : Fillable K sta
               above = t .above;
               cells =
                   λ s p q. rw (add-one (sums .len), ← t .next-is)
-                  (ap (λ ks. joins K s (run (sums .len)) (sums .len) ks (cellIn ys K (blockAt K c) s)) (sym (front-cons rests gains prevs (f .earlier) next low))
+                  (ap (λ ks. joins K s (run (sums .len)) (sums .len) ks (cellIn ys K (blockAt K c) s))
+                  (sym (children-cons rests gains prevs (f .earlier) next low))
                   ∙ t .cells s p q);
             },
             omega arith,
           )
 
-  columns-at : (n : ℕ) → 1 ≤ n → ColumnWords K start xs (blockAt K (back prevs n c)) (front (back prevs n c))
+  columns-at : (n : ℕ) → 1 ≤ n → ColumnWords K start xs (blockAt K (nthPrev prevs n c)) (children (nthPrev prevs n c))
   columns-at zero p = absurd (omega arith)
   columns-at (suc n) p = f .columns n
 
   -- the run is tried
-  module _ {ys counts : List ℕ} {sums : Sums} {next : ℕ} (t : Stretch K start c rests gains prevs xs (Tries K) ys counts sums next) where
-    pub count-small : (h : ℕ) → getD counts h 0 ≤ maxNodes
-    count-small h = omega (arith, kept-count (t .kept) h, t .short, f .node-high)
+  module _ {ys counts : List ℕ} {sums : Sums} {next : ℕ}
+      (t : Stretch K start c rests gains prevs xs (Tries K) ys counts sums next) where
+    pub counts-small : (h : ℕ) → getD counts h 0 ≤ maxNodes
+    counts-small h = omega (arith, sums-count (t .kept) h, t .short, f .node-high)
 
     pub total-small : (sums .gained ≤ sums .total) × (sums .total ≤ maxNodes * maxLimit)
     total-small =
         let small : sums .len ≤ maxNodes = omega (arith, t .short, f .node-high) in
-        (kept-gained (t .kept), omega (arith, kept-total (t .kept) (f .limit-high)))
+        (sums-gained (t .kept), omega (arith, sums-total (t .kept) (f .limit-high)))
 
     pub taking-start : Taking K c rests gains prevs counts sums (sums .total) 0 (sums .top) (getD counts (sums .top) 0)
     taking-start = record { figures = run-figures (t .kept); gain-high = t .kept .top-high; taken-high = omega arith }
 
     module _ {sum taken gain left : ℕ} (w : Taking K c rests gains prevs counts sums sum taken gain left) where
-      pub taking-down : (gain ≡ 0 → ⊥) → left ≡ 0 → Taking K c rests gains prevs counts sums sum taken (gain - 1) (getD counts (gain - 1) 0)
+      pub taking-down : (gain ≡ 0 → ⊥) → left ≡ 0
+          → Taking K c rests gains prevs counts sums sum taken (gain - 1) (getD counts (gain - 1) 0)
       taking-down n e =
           let figures = rw e at (w .figures) in
           record {
-            figures = figures ∙ choosing-down gain (countsOf counts) K (record { sum = sum; count = taken }) (omega arith);
+            figures = figures ∙ choosing-down gain (countsOf counts) K (record { sum = sum; count = taken })
+                (omega arith);
             gain-high = omega (arith, w .gain-high);
             taken-high = w .taken-high;
           }
 
-      pub taking-more : (gain ≡ 0 → ⊥) → (left ≡ 0 → ⊥) → K < sum → Taking K c rests gains prevs counts sums (sum - gain) (taken + 1) gain (left - 1)
+      pub taking-more : (gain ≡ 0 → ⊥) → (left ≡ 0 → ⊥) → K < sum
+          → Taking K c rests gains prevs counts sums (sum - gain) (taken + 1) gain (left - 1)
       taking-more n m over =
           record {
-            figures = w .figures ∙ choosing-take gain left (countsOf counts) K sum taken (omega arith) (omega arith) over;
+            figures = w .figures ∙ choosing-take gain left (countsOf counts) K sum taken (omega arith)
+                (omega arith) over;
             gain-high = w .gain-high;
             taken-high = omega (arith, w .taken-high, w .gain-high);
           }
 
       -- no gain is left
-      pub over-end : gain ≡ 0 → K < sum → Swept K start (blockAt K c) (λ s. cellAt K (front c) s) xs ys
+      pub over-end : gain ≡ 0 → K < sum → Swept K start (blockAt K c) (λ s. cellAt K (children c) s) xs ys
       over-end e over =
           let figures = rw e at (w .figures) in
           let last = figures ∙ choosing-none left (countsOf counts) K (record { sum = sum; count = taken }) in
@@ -262,15 +248,17 @@ module _ {K start c : ℕ} {rests gains prevs xs : List ℕ} (f : Fillable K sta
           record {
             long = t .long;
             cells =
-                λ s p q. sym (run-over (t .kept) sum taken last over (sums .len) (cellAt K (front next) s .word) (cellIn ys K (blockAt K c) s))
-                ∙ sym (onward-stops K s (run (sums .len)) (sums .len) (front next) _ stops) ∙ t .cells s p q;
+                λ s p q. sym (run-over (t .kept) sum taken last over (sums .len) (cellAt K (children next) s .word)
+                (cellIn ys K (blockAt K c) s))
+                ∙ sym (longer-stops K s (run (sums .len)) (sums .len) (children next) _ stops) ∙ t .cells s p q;
             below = t .below;
             above = t .above;
           }
 
       module _ (high : sum ≤ K) (low : 1 ≤ sums .len) where
         last-figures : figuresOf (runOf K (run (sums .len))) ≡ record { sum = sum; count = taken }
-        last-figures = w .figures ∙ choosing-room gain left (countsOf counts) K (record { sum = sum; count = taken }) high
+        last-figures = w .figures ∙ choosing-room gain left (countsOf counts) K
+            (record { sum = sum; count = taken }) high
 
         pub taken-small : taken ≤ maxNodes
         taken-small = omega (arith, run-taken-le (t .kept) sum taken last-figures, t .short, f .node-high)
@@ -278,14 +266,15 @@ module _ {K start c : ℕ} {rests gains prevs xs : List ℕ} (f : Fillable K sta
         apart : blockAt K next + 2 * (K + 1) ≤ blockAt K c
         apart = block-apart K next c (omega (arith, t .short))
 
-        word-is : (s : ℕ) → start ≤ s → s ≤ K → getD ys (blockAt K next + s) 0 ≡ cellAt K (front next) s .word
+        word-is : (s : ℕ) → start ≤ s → s ≤ K → getD ys (blockAt K next + s) 0 ≡ cellAt K (children next) s .word
         word-is s p q =
             let words = rw (← t .next-is) at (columns-at (sums .len) low) in
             t .below (blockAt K next + s) (omega (arith, apart)) ∙ words s p q
 
         module _ (here before : ℕ) (e : here ≡ blockAt K c) (d : before ≡ blockAt K next) where
-          pub relax-ready : start ≤ K → (K ≤ maxLimit) × (start ≤ maxLimit) × (before + 2 * (K + 1) ≤ here) × (here + 2 * (K + 1) ≤ length ys)
-              × ((s : ℕ) → start ≤ s → s ≤ K → getD ys (before + s) 0 + (1 + taken) * page < 4294967296)
+          pub relax-ready : start ≤ K → (K ≤ maxLimit) × (start ≤ maxLimit) × (before + 2 * (K + 1) ≤ here)
+              × (here + 2 * (K + 1) ≤ length ys)
+              × ((s : ℕ) → start ≤ s → s ≤ K → getD ys (before + s) 0 + (1 + taken) * pageWord < 4294967296)
           relax-ready h = (
             f .limit-high,
             omega (arith, f .limit-high),
@@ -294,13 +283,15 @@ module _ {K start c : ℕ} {rests gains prevs xs : List ℕ} (f : Fillable K sta
             λ s p q. rw d (omega (arith, word-is s p q, taken-small, small s q)),
           )
             where
-              small : (s : ℕ) → s ≤ K → cellAt K (front next) s .word < wordEnd
+              small : (s : ℕ) → s ≤ K → cellAt K (children next) s .word < wordEnd
               small s q =
-                  word-small K (f .limit-high) (front next) s q (front-good K rests gains prevs (f .good) next)
-                  (omega (arith, front-length rests gains prevs (f .earlier) next, t .short, f .node-high))
+                  cell-word-small K (f .limit-high) (children next) s q
+                  (children-good K rests gains prevs (f .good) next)
+                  (omega (arith, children-length rests gains prevs (f .earlier) next, t .short, f .node-high))
 
           module _ (zs : List ℕ)
-              (swept : Swept K start here (λ s. lower (getD ys (before + s) 0 + (1 + taken) * page) (sums .len) (cellIn ys K here s)) ys zs)
+              (swept : Swept K start here (λ s. lower (getD ys (before + s) 0 + (1 + taken) * pageWord) (sums .len)
+              (cellIn ys K here s)) ys zs)
             where
               tried : Stretch K start c rests gains prevs xs (Tried K) zs counts sums next
               tried =
@@ -314,23 +305,29 @@ module _ {K start c : ℕ} {rests gains prevs xs : List ℕ} (f : Fillable K sta
                     below = λ i p. z .below i p ∙ t .below i p;
                     above = λ i p. z .above i p ∙ t .above i p;
                     cells =
-                        λ s p q. ap (λ cell. onward K s (run (sums .len)) (sums .len) (front next) cell)
-                        (z .cells s p q ∙ ap (λ x. lower (x + (1 + taken) * page) (sums .len) (cellIn ys K (blockAt K c) s)) (word-is s p q)
-                        ∙ sym (run-fits (t .kept) sum taken last-figures high (sums .len) (cellAt K (front next) s .word) (cellIn ys K (blockAt K c) s)))
+                        λ s p q. ap (λ cell. longerRuns K s (run (sums .len)) (sums .len) (children next) cell)
+                        (z .cells s p q
+                        ∙ ap (λ x. lower (x + (1 + taken) * pageWord) (sums .len) (cellIn ys K (blockAt K c) s))
+                        (word-is s p q)
+                        ∙ sym (run-fits (t .kept) sum taken last-figures high (sums .len)
+                        (cellAt K (children next) s .word) (cellIn ys K (blockAt K c) s)))
                         ∙ t .cells s p q;
                   }
 
-              pub stops-end : K ≤ sums .total - sums .gained → Swept K start (blockAt K c) (λ s. cellAt K (front c) s) xs zs
+              pub stops-end : K ≤ sums .total - sums .gained
+                  → Swept K start (blockAt K c) (λ s. cellAt K (children c) s) xs zs
               stops-end h =
                   let stops = run-stops (t .kept) ∙ le-leb K (sums .total - sums .gained) h in
                   record {
                     long = tried .long;
-                    cells = λ s p q. sym (onward-stops K s (run (sums .len)) (sums .len) (front next) _ stops) ∙ tried .cells s p q;
+                    cells = λ s p q. sym (longer-stops K s (run (sums .len)) (sums .len) (children next) _ stops)
+                        ∙ tried .cells s p q;
                     below = tried .below;
                     above = tried .above;
                   }
 
-              pub stretch-again : sums .total - sums .gained < K → Stretch K start c rests gains prevs xs (Joins K) zs counts sums next
+              pub stretch-again : sums .total - sums .gained < K
+                  → Stretch K start c rests gains prevs xs (Joins K) zs counts sums next
               stretch-again h =
                   let goes = run-stops (t .kept) ∙ lt-leb K (sums .total - sums .gained) h in
                   record {
@@ -341,5 +338,6 @@ module _ {K start c : ℕ} {rests gains prevs xs : List ℕ} (f : Fillable K sta
                     long = tried .long;
                     below = tried .below;
                     above = tried .above;
-                    cells = λ s p q. sym (onward-goes K s (run (sums .len)) (sums .len) (front next) _ goes) ∙ tried .cells s p q;
+                    cells = λ s p q. sym (longer-goes K s (run (sums .len)) (sums .len) (children next) _ goes)
+                        ∙ tried .cells s p q;
                   }

@@ -1,65 +1,30 @@
--- A run's marks, from its last member back, one a turn. Defines Marking, Levelled. Proves count-less, run-sums, counts-small, level-small,
--- marking-start, marking-high, marking-low, marking-takes, marking-turn and marking-end.
+-- A run's marks, from its last member back, one a turn. Defines Marking, Levelled. Proves count-less, sum-ready,
+-- counts-small, level-small, marking-start, marking-high, marking-low, marking-takes, marking-turn and marking-end.
 -- Assumes nothing.
-use Prim.Native.Nat.{ℕ, zero, suc, _+_, _-_, _≤_, _<_}
+use Prim.Native.Nat.{ℕ, suc, _+_, _-_, _≤_, _<_}
 use mathlib.Core.Path.{_≡_, refl, sym, _∙_, ap, ap₂}
 use mathlib.Core.Bool.{Bool, true, false, _&&_, _||_, false≢true}
 use mathlib.Core.Logic.{_⊎_, inl, inr}
 use mathlib.Core.List.{List, [], _∷_, _++_, reverse, append-assoc, append-nil}
 use native.Mathlib.Omega.{arith}
 use lib.ListN.{length, getD, set, length-set}
-use lib.Dec.{eqb, ltb, leb}
+use lib.Dec.{eqb, ltb}
 use borrow.Author.Tests.{eqb-true, eqb-false, eq-eqb, ne-eqb, ltb-true}
 use Rattle.model.specs.Basics.{pick}
 use Rattle.model.specs.Table.{maxNodes, maxLimit, slots}
 use Rattle.model.specs.Plan.{begins}
-use Rattle.model.specs.Steps.{Choice, runChoices}
+use Rattle.model.specs.Steps.{Child, Choice, runChoices}
 use Rattle.theory.specs.ReduceCount.{countGain}
-use Rattle.best.specs.ReduceLevel.{Level, levelHere, levelFrom, cutAt}
-use Rattle.best.specs.Cells.{pulled}
-use Rattle.best.specs.CellsFront.{frontOf, childIn, front-cons, front-length}
-use Rattle.best.specs.CellsRun.{members, Kept, countsOf, kept-count, back, back-le}
-use Rattle.best.specs.CellsLay.{takes, lastMark, backRun, back-run, run-level, count-back}
-use Rattle.best.specs.CellsChosen.{LaidRun}
-use Rattle.best.specs.Lay.{runBack, Gainful, SumReady, RunReady, RunDone}
-use Rattle.best.proofs.LayRuns.{front-low, front-real, laid-none, laid-one, laid-then, gainful-set}
+use Rattle.best.specs.CellsLevel.{levelFrom, levelFrom-bound, takeDownTo}
+use Rattle.best.specs.Cells.{lastChildren}
+use Rattle.best.specs.CellsArrays.{childrenIn, childIn, children-cons, children-length}
+use Rattle.best.specs.CellsRun.{asMembers, RunSums, countsOf, sums-count, nthPrev, nthPrev-le}
+use Rattle.best.specs.LayChoices.{takes, lastMark, choicesByLevel, choicesByLevel-run, run-level, count-back}
+use Rattle.best.specs.LayChosen.{LaidRun}
+use Rattle.best.specs.LayContracts.{runChoicesBack, SecondsGain, SumReady, RunReady, RunDone}
+use Rattle.best.proofs.LayRuns.{children-low, children-nodes, laid-none, laid-one, laid-then, seconds-gain-set}
 
 -- ---- A member that is taken has a gain
-
--- at the gain 0 none is taken
-abbrev NoneAtZero : Level → Type 0
-NoneAtZero l = l .gain ≡ 0 → l .times ≡ 0
-
-level-here-none : (n t g room sum : ℕ) (next : ℕ → Level) → ((s : ℕ) → NoneAtZero (next s)) → NoneAtZero (levelHere n t (suc g) room sum next)
-unfolding levelHere pick
-level-here-none zero t g room sum next h = h sum
-level-here-none (suc n) t g room sum next h = go (leb sum room) (level-here-none n (suc t) g room (sum - suc g) next h)
-  where
-    go : (b : Bool) → NoneAtZero (levelHere n (suc t) (suc g) room (sum - suc g) next)
-        → NoneAtZero (pick b (record { gain = suc g; times = t }) (levelHere n (suc t) (suc g) room (sum - suc g) next))
-    go true ih = λ e. absurd (omega arith)
-    go false ih = ih
-
-level-none : (g : ℕ) (c : ℕ → ℕ) (room sum : ℕ) → NoneAtZero (levelFrom g c room sum)
-unfolding levelFrom
-level-none zero c room sum = λ e. refl
-level-none (suc g) c room sum = level-here-none (c (suc g)) 0 g room sum (λ s. levelFrom g c room s) (λ s. level-none g c room s)
-
-here-le : (n t g m room sum : ℕ) (next : ℕ → Level) → g ≤ m → ((s : ℕ) → next s .gain ≤ m) → levelHere n t g room sum next .gain ≤ m
-unfolding levelHere pick
-here-le zero t g m room sum next l h = h sum
-here-le (suc n) t g m room sum next l h = go (leb sum room) (here-le n (suc t) g m room (sum - g) next l h)
-  where
-    go : (b : Bool) → levelHere n (suc t) g room (sum - g) next .gain ≤ m
-        → pick b (record { gain = g; times = t }) (levelHere n (suc t) g room (sum - g) next) .gain ≤ m
-    go true ih = l
-    go false ih = ih
-
-level-le : (g : ℕ) (c : ℕ → ℕ) (room sum : ℕ) → levelFrom g c room sum .gain ≤ g
-unfolding levelFrom
-level-le zero c room sum = omega arith
-level-le (suc g) c room sum =
-    here-le (c (suc g)) 0 (suc g) (suc g) room sum (λ s. levelFrom g c room s) (omega arith) (λ s. omega (arith, level-le g c room s))
 
 takes-gain : (g t n gain : ℕ) → (g ≡ 0 → t ≡ 0) → takes g t n gain ≡ true → 1 ≤ gain
 takes-gain g t n gain h = go (ltb g gain) (eqb gain g) (ltb n t) refl refl refl
@@ -93,15 +58,17 @@ choice-is : (mark second m : ℕ) (b : Bool) → mark ≡ m → second ≡ pick 
 choice-is mark second m b p q = ap₂ (λ x y. record { mark = x; second = y }) p (ap (λ x. eqb x 1) q ∙ second-is b)
 
 -- one less where the member is at the level
-pub count-less : (gain g before before′ : ℕ) → ((gain ≡ g) × (before′ ≡ before - 1)) ⊎ ((gain ≡ g → ⊥) × (before′ ≡ before))
+pub count-less : (gain g before before′ : ℕ)
+    → ((gain ≡ g) × (before′ ≡ before - 1)) ⊎ ((gain ≡ g → ⊥) × (before′ ≡ before))
     → before′ ≡ before - pick (eqb gain g) 1 0
 unfolding pick
 count-less gain g before before′ (inl w) = rw (eq-eqb gain g (w .0)) (w .1)
 count-less gain g before before′ (inr w) = rw (ne-eqb gain g (w .0)) (omega (arith, w .1))
 
 -- what the sums of a run ask for
-pub run-sums : {K c n : ℕ} {rests gains prevs marks seconds : List ℕ} → RunReady K c n rests gains prevs marks seconds → SumReady c n rests gains prevs
-run-sums r =
+pub sum-ready : {K c n : ℕ} {rests gains prevs marks seconds : List ℕ}
+    → RunReady K c n rests gains prevs marks seconds → SumReady c n rests gains prevs
+sum-ready r =
     record {
       high = omega (arith, r .high, r .short);
       earlier = r .earlier;
@@ -113,17 +80,19 @@ run-sums r =
 -- ---- One member a turn
 
 -- `left` members are left, of which `before` have the level's gain g; the level takes the earliest t of those
-pub record Marking (rests gains prevs : List ℕ) (c n g t : ℕ) (marks seconds marks′ seconds′ : List ℕ) (before left next : ℕ) : Type 0 where
+pub record Marking (rests gains prevs : List ℕ) (c n g t : ℕ) (marks seconds marks′ seconds′ : List ℕ)
+    (before left next : ℕ) : Type 0 where
   pub done : ℕ
   pub choices : List Choice
   pub sum : done + left ≡ n
-  pub at : next ≡ back prevs done c
-  pub within : left ≤ length (frontOf rests gains prevs next)
-  pub count : before ≡ countGain g (members (pulled left [] (frontOf rests gains prevs next)))
+  pub at : next ≡ nthPrev prevs done c
+  pub within : left ≤ length (childrenIn rests gains prevs next)
+  pub count : before ≡ countGain g (asMembers (lastChildren left [] (childrenIn rests gains prevs next)))
   pub laid : LaidRun prevs done c choices marks seconds marks′ seconds′
-  pub rest : choices ++ backRun g t before left (frontOf rests gains prevs next)
-      ≡ backRun g t (countGain g (members (pulled n [] (frontOf rests gains prevs c)))) n (frontOf rests gains prevs c)
-  pub gainful : Gainful gains seconds′
+  pub rest : choices ++ choicesByLevel g t before left (childrenIn rests gains prevs next)
+      ≡ choicesByLevel g t (countGain g (asMembers (lastChildren n [] (childrenIn rests gains prevs c)))) n
+      (childrenIn rests gains prevs c)
+  pub seconds-gain : SecondsGain gains seconds′
   pub wide : length seconds′ ≡ slots
 
 -- the gain g of the run's level, of which the earliest t are taken, from how many members have each gain
@@ -131,36 +100,47 @@ pub record Levelled (K c n : ℕ) (rests gains prevs counts : List ℕ) (g t : �
   pub total : ℕ
   pub gained : ℕ
   pub top : ℕ
-  pub kept : Kept K (pulled n [] (frontOf rests gains prevs c)) n total gained top counts
+  pub kept : RunSums K (lastChildren n [] (childrenIn rests gains prevs c)) n total gained top counts
   pub gain-is : g ≡ levelFrom top (countsOf counts) K total .gain
   pub times-is : t ≡ levelFrom top (countsOf counts) K total .times
 
-module _ {K c n : ℕ} {rests gains prevs marks seconds : List ℕ} (ready : RunReady K c n rests gains prevs marks seconds) where
-  pub counts-small : {total gained top : ℕ} {counts : List ℕ} → Kept K (pulled n [] (frontOf rests gains prevs c)) n total gained top counts
+module _ {K c n : ℕ} {rests gains prevs marks seconds : List ℕ}
+    (ready : RunReady K c n rests gains prevs marks seconds) where
+  abbrev children : ℕ → List Child
+  children u = childrenIn rests gains prevs u
+
+  -- the run
+  abbrev run : List Child
+  run = lastChildren n [] (children c)
+
+  pub counts-small : {total gained top : ℕ} {counts : List ℕ} → RunSums K run n total gained top counts
       → (h : ℕ) → getD counts h 0 ≤ maxNodes
   counts-small kept h =
-      let few : n ≤ maxNodes = omega (arith, ready .within, front-length rests gains prevs (ready .earlier) c, ready .high, ready .short) in
-      omega (arith, kept-count kept h)
+      let few : n ≤ maxNodes =
+      omega (arith, ready .within, children-length rests gains prevs (ready .earlier) c, ready .high, ready .short) in
+      omega (arith, sums-count kept h)
 
   -- the member that is next
-  module _ {g t : ℕ} {marks′ seconds′ : List ℕ} {before left next : ℕ} (m : Marking rests gains prevs c n g t marks seconds marks′ seconds′ before left next) where
+  module _ {g t : ℕ} {marks′ seconds′ : List ℕ} {before left next : ℕ}
+      (m : Marking rests gains prevs c n g t marks seconds marks′ seconds′ before left next) where
     pub marking-high : next ≤ length marks
-    marking-high = omega (arith, m .at, back-le prevs (ready .earlier) (ready .none) (m .done) c, ready .high)
+    marking-high = omega (arith, m .at, nthPrev-le prevs (ready .earlier) (ready .none) (m .done) c, ready .high)
 
     module _ (some : left ≡ 0 → ⊥) where
       pub marking-low : 1 ≤ next
-      marking-low = front-low rests gains prevs (ready .earlier) next (omega (arith, m .within))
+      marking-low = children-low rests gains prevs (ready .earlier) next (omega (arith, m .within))
 
-      shape : frontOf rests gains prevs next ≡ childIn rests gains next ∷ frontOf rests gains prevs (getD prevs next 0)
-      shape = front-cons rests gains prevs (ready .earlier) next marking-low
+      shape : children next ≡ childIn rests gains next ∷ children (getD prevs next 0)
+      shape = children-cons rests gains prevs (ready .earlier) next marking-low
 
       -- how many at the level come before it
-      counted : before ≡ countGain g (members (pulled (left - 1) [] (frontOf rests gains prevs (getD prevs next 0)))) + pick (eqb (getD gains next 0) g) 1 0
+      counted : before ≡ countGain g (asMembers (lastChildren (left - 1) [] (children (getD prevs next 0))))
+          + pick (eqb (getD gains next 0) g) 1 0
       counted =
           let e : left ≡ suc (left - 1) = omega arith in
           m .count
-          ∙ ap₂ (λ k ks. countGain g (members (pulled k [] ks))) e shape
-          ∙ count-back g (left - 1) (childIn rests gains next) (frontOf rests gains prevs (getD prevs next 0))
+          ∙ ap₂ (λ k ks. countGain g (asMembers (lastChildren k [] ks))) e shape
+          ∙ count-back g (left - 1) (childIn rests gains next) (children (getD prevs next 0))
 
       pub marking-takes : getD gains next 0 ≡ g → 1 ≤ before
       unfolding pick
@@ -170,12 +150,14 @@ module _ {K c n : ℕ} {rests gains prevs marks seconds : List ℕ} (ready : Run
 
   module _ {g t : ℕ} {counts : List ℕ} (v : Levelled K c n rests gains prevs counts g t) where
     pub level-small : g ≤ maxLimit
-    level-small = omega (arith, v .gain-is, level-le (v .top) (countsOf counts) K (v .total), v .kept .top-high, ready .limit-high)
+    level-small =
+        let most = levelFrom-bound (v .top) (countsOf counts) K (v .total) .most in
+        omega (arith, v .gain-is, most, v .kept .top-high, ready .limit-high)
 
     pub marking-start : Marking rests gains prevs c n g t marks seconds marks seconds (getD counts g 0) n c
-    unfolding back
+    unfolding nthPrev
     marking-start =
-        let same : getD counts g 0 ≡ countGain g (members (pulled n [] (frontOf rests gains prevs c))) = sym (v .kept .counts-are g) in
+        let same : getD counts g 0 ≡ countGain g (asMembers run) = sym (v .kept .counts-are g) in
         record {
           done = 0;
           choices = [];
@@ -184,16 +166,19 @@ module _ {K c n : ℕ} {rests gains prevs marks seconds : List ℕ} (ready : Run
           within = ready .within;
           count = same;
           laid = laid-none prevs c marks seconds;
-          rest = ap (λ k. backRun g t k n (frontOf rests gains prevs c)) same;
-          gainful = ready .gainful;
+          rest = ap (λ k. choicesByLevel g t k n (children c)) same;
+          seconds-gain = ready .seconds-gain;
           wide = ready .wide;
         }
 
-    module _ {marks′ seconds′ : List ℕ} {before left next : ℕ} (m : Marking rests gains prevs c n g t marks seconds marks′ seconds′ before left next) where
-      pub marking-turn : (left ≡ 0 → ⊥) → (before′ mark second : ℕ) → before′ ≡ before - pick (eqb (getD gains next 0) g) 1 0 → mark ≡ lastMark (left - 1)
+    module _ {marks′ seconds′ : List ℕ} {before left next : ℕ}
+        (m : Marking rests gains prevs c n g t marks seconds marks′ seconds′ before left next) where
+      pub marking-turn : (left ≡ 0 → ⊥) → (before′ mark second : ℕ)
+          → before′ ≡ before - pick (eqb (getD gains next 0) g) 1 0 → mark ≡ lastMark (left - 1)
           → second ≡ pick (takes g t before′ (getD gains next 0)) 1 0
-          → Marking rests gains prevs c n g t marks seconds (set marks′ (next - 1) mark) (set seconds′ next second) before′ (left - 1) (getD prevs next 0)
-      unfolding back backRun
+          → Marking rests gains prevs c n g t marks seconds (set marks′ (next - 1) mark)
+          (set seconds′ next second) before′ (left - 1) (getD prevs next 0)
+      unfolding nthPrev choicesByLevel
       marking-turn some before′ mark second b a s =
           let gain : ℕ = getD gains next 0 in
           let low = marking-low m some in
@@ -202,45 +187,54 @@ module _ {K c n : ℕ} {rests gains prevs marks seconds : List ℕ} (ready : Run
           let laid-ch : Choice = record { mark = mark; second = eqb second 1 } in
           let short : next < length seconds′ = omega (arith, m .wide, high, ready .short) in
           let same : laid-ch ≡ ch = choice-is mark second (lastMark (left - 1)) (takes g t before′ gain) a s in
-          let alone : LaidRun prevs 1 next (laid-ch ∷ []) marks′ seconds′ (set marks′ (next - 1) mark) (set seconds′ next second) =
+          let alone : LaidRun prevs 1 next (laid-ch ∷ []) marks′ seconds′ (set marks′ (next - 1) mark)
+          (set seconds′ next second) =
           laid-one prevs next marks′ seconds′ mark second low (omega (arith, m .laid .long, high)) short in
-          let one : LaidRun prevs 1 next (ch ∷ []) marks′ seconds′ (set marks′ (next - 1) mark) (set seconds′ next second) = rw same at alone in
+          let one : LaidRun prevs 1 next (ch ∷ []) marks′ seconds′ (set marks′ (next - 1) mark)
+          (set seconds′ next second) = rw same at alone in
           let more : m .done + 1 ≡ suc (m .done) = omega arith in
           let less : left ≡ suc (left - 1) = omega arith in
-          let step : ch ∷ backRun g t before′ (left - 1) (frontOf rests gains prevs (getD prevs next 0)) ≡ backRun g t before left (frontOf rests gains prevs next) =
+          let step : ch ∷ choicesByLevel g t before′ (left - 1) (children (getD prevs next 0))
+          ≡ choicesByLevel g t before left (children next) =
           sym
-          (ap₂ (backRun g t before) less (shape m some)
-          ∙ ap (λ k. record { mark = lastMark (left - 1); second = takes g t k gain } ∷ backRun g t k (left - 1) (frontOf rests gains prevs (getD prevs next 0))) (sym b)) in
-          let none : g ≡ 0 → t ≡ 0 = λ z. v .times-is ∙ level-none (v .top) (countsOf counts) K (v .total) (sym (v .gain-is) ∙ z) in
+          (ap₂ (choicesByLevel g t before) less (shape m some)
+          ∙ ap (λ k. record { mark = lastMark (left - 1); second = takes g t k gain }
+          ∷ choicesByLevel g t k (left - 1) (children (getD prevs next 0))) (sym b)) in
+          let none : g ≡ 0 → t ≡ 0 =
+          λ z. v .times-is ∙ levelFrom-bound (v .top) (countsOf counts) K (v .total) .none (sym (v .gain-is) ∙ z) in
           record {
             done = m .done + 1;
             choices = m .choices ++ (ch ∷ []);
             sum = omega (arith, m .sum);
-            at = ap (λ u. getD prevs u 0) (m .at) ∙ sym (ap (λ k. back prevs k c) more);
+            at = ap (λ u. getD prevs u 0) (m .at) ∙ sym (ap (λ k. nthPrev prevs k c) more);
             within = omega (arith, m .within, ap length (shape m some));
             count = omega (arith, counted m some);
-            laid = laid-then (ready .earlier) (λ j l. front-real rests gains prevs (ready .earlier) j c (omega (arith, m .sum, ready .within))) (m .at) (m .laid) one;
-            rest = append-assoc (m .choices) (ch ∷ []) (backRun g t before′ (left - 1) (frontOf rests gains prevs (getD prevs next 0)))
+            laid = laid-then (ready .earlier)
+                (λ j l. children-nodes rests gains prevs (ready .earlier) j c (omega (arith, m .sum, ready .within)))
+                (m .at) (m .laid) one;
+            rest = append-assoc (m .choices) (ch ∷ [])
+                (choicesByLevel g t before′ (left - 1) (children (getD prevs next 0)))
                 ∙ ap (λ l. m .choices ++ l) step
                 ∙ m .rest;
-            gainful = gainful-set gains seconds′ next second short (m .gainful) (λ e. takes-gain g t before′ gain none (second-taken (takes g t before′ gain) (sym s ∙ e)));
+            seconds-gain = seconds-gain-set gains seconds′ next second short (m .seconds-gain)
+                (λ e. takes-gain g t before′ gain none (second-taken (takes g t before′ gain) (sym s ∙ e)));
             wide = simp length-set (m .wide);
           }
 
       pub marking-end : left ≡ 0 → RunDone K c n rests gains prevs marks seconds marks′ seconds′ next
-      unfolding backRun
+      unfolding choicesByLevel
       marking-end z =
           let all : m .done ≡ n = omega (arith, m .sum) in
-          let whole : m .choices ≡ runBack K n (frontOf rests gains prevs c) =
+          let whole : m .choices ≡ runChoicesBack K n (children c) =
           sym (append-nil (m .choices))
-          ∙ ap (λ k. m .choices ++ backRun g t before k (frontOf rests gains prevs next)) (sym z)
+          ∙ ap (λ k. m .choices ++ choicesByLevel g t before k (children next)) (sym z)
           ∙ m .rest
-          ∙ back-run g t n (frontOf rests gains prevs c) (ready .within)
-          ∙ ap₂ (λ x y. reverse (runChoices begins (cutAt x y (members (pulled n [] (frontOf rests gains prevs c)))))) (v .gain-is) (v .times-is)
+          ∙ choicesByLevel-run g t n (children c) (ready .within)
+          ∙ ap₂ (λ x y. reverse (runChoices begins (takeDownTo x y (asMembers run)))) (v .gain-is) (v .times-is)
           ∙ ap (λ ms. reverse (runChoices begins ms)) (sym (run-level (v .kept))) in
           record {
             laid = rw (all, whole) at (m .laid);
             wide = m .wide;
-            gainful = m .gainful;
+            seconds-gain = m .seconds-gain;
             next = rw all at (m .at);
           }

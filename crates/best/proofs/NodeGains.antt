@@ -1,5 +1,5 @@
--- What is read of a node from the block of its last child. Proves gain-none and gain-found (the gain by its tests), last-high, block-fits and
--- rest-fits (the reads are within bounds), gain-fits and node-planned (one node more). Assumes nothing.
+-- What is read of a node from the block of its last child. Proves gain-none and gain-found (the gain by its tests),
+-- block-fits and rest-fits (the reads are within bounds), gain-fits and node-planned (one node more). Assumes nothing.
 use Prim.Native.Nat.{ℕ, _+_, _-_, _*_, _%_, _≤_}
 use mathlib.Core.Path.{_≡_, refl, _∙_, ap}
 use mathlib.Core.Bool.{Bool, true, false, not, _||_, true≢false}
@@ -11,10 +11,10 @@ use borrow.Author.Tests.{ltb-true, ltb-false, le-leb, lt-leb}
 use Rattle.model.specs.Basics.{pick}
 use Rattle.model.specs.Table.{slots, nodeCount, limitOf, weightAt}
 use Rattle.model.specs.Steps.{secondStart}
-use Rattle.best.specs.Cells.{page, GoodChild}
+use Rattle.best.specs.Cells.{pageWord, GoodChild}
 use Rattle.best.specs.CellsRun.{blockAt, block-apart}
-use Rattle.best.specs.CellsNode.{kin-high, Filled, figureAt, figure-good}
-use Rattle.best.specs.CellsPlan.{Planned, gainFrom, node-figures, planned-step}
+use Rattle.best.specs.CellsNode.{child-high, ColumnsFilled, figureAt, figure-good}
+use Rattle.best.specs.CellsPlan.{NodesPlanned, gainFrom, node-figures, planned-step}
 
 -- there is no second plan
 pub gain-none : (g : Bool) (K w W x : ℕ) → (not g || ltb K (w + (K - W) + 1)) ≡ true → 0 ≡ gainFrom g K w W x
@@ -23,26 +23,25 @@ gain-none false K w W x e = refl
 gain-none true K w W x e = rw (lt-leb (w + (K - W) + 1) K (ltb-true K (w + (K - W) + 1) e))
 
 -- there is one
-pub gain-found : (g : Bool) (K w W x : ℕ) → (not g || ltb K (w + (K - W) + 1)) ≡ false → W - (x - (K - W + 1)) ≡ gainFrom g K w W x
+pub gain-found : (g : Bool) (K w W x : ℕ) → (not g || ltb K (w + (K - W) + 1)) ≡ false
+    → W - (x - (K - W + 1)) ≡ gainFrom g K w W x
 unfolding pick secondStart
 gain-found false K w W x e = absurd (true≢false e)
 gain-found true K w W x e = rw (le-leb (w + (K - W) + 1) K (ltb-false K (w + (K - W) + 1) e))
 
 module _ {t rests gains prevs lasts xs ys : List ℕ} {g : Bool} {v r : ℕ} (low : 1 ≤ v) (high : v ≤ nodeCount t)
-    (p : Planned t g v rests gains prevs lasts xs) (f : Filled t rests gains prevs v r xs ys)
+    (p : NodesPlanned t g v rests gains prevs lasts xs) (f : ColumnsFilled t rests gains prevs v r xs ys)
   where
-    pub last-high : r ≤ nodeCount t
-    last-high = kin-high t v r (f .kin)
-
     pub block-fits : blockAt (limitOf t) r + 2 * (limitOf t + 1) ≤ length ys
     block-fits =
-        omega (arith, block-apart (limitOf t) r (nodeCount t + 1) (omega (arith, last-high)), p .ready .room, f .long)
+        let apart = block-apart (limitOf t) r (nodeCount t + 1) (omega (arith, child-high t v r (f .last-child))) in
+        omega (arith, apart, p .ready .room, f .long)
 
     module _ (K w here rest : ℕ) (limit : K ≡ limitOf t) (weight : w ≡ weightAt t v) (block : here ≡ blockAt K r)
-        (is : rest ≡ getD ys (here + w) 0 % page)
+        (is : rest ≡ getD ys (here + w) 0 % pageWord)
       where
         abbrev Gain : ℕ → Type 0
-        Gain gain = gain ≡ gainFrom g K w rest (getD ys (here + secondStart K w rest) 0 % page)
+        Gain gain = gain ≡ gainFrom g K w rest (getD ys (here + secondStart K w rest) 0 % pageWord)
 
         figure : (gain : ℕ) → Gain gain → record { rest = rest; gain = gain } ≡ figureAt t g v
         figure gain e =
@@ -59,5 +58,5 @@ module _ {t rests gains prevs lasts xs ys : List ℕ} {g : Bool} {v r : ℕ} (lo
         gain-fits gain e = good gain e .fits
 
         pub node-planned : (gain : ℕ) → Gain gain → length rests ≡ slots → length gains ≡ slots → length lasts ≡ slots
-            → Planned t g (v - 1) (set rests v rest) (set gains v gain) prevs (set lasts v r) ys
+            → NodesPlanned t g (v - 1) (set rests v rest) (set gains v gain) prevs (set lasts v r) ys
         node-planned gain e = planned-step low high p f rest gain (figure gain e)

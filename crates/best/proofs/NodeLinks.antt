@@ -1,5 +1,5 @@
--- The sibling before each node, from the links to the sibling after. Defines Linking. Proves linking-start, linking-turn and linking-end:
--- one store a node. Assumes nothing.
+-- The sibling before each node, from the links to the sibling after. Defines Linking. Proves linking-start,
+-- linking-turn and linking-end: one store a node. Assumes nothing.
 use Prim.Native.Nat.{ℕ, _+_, _≤_, _<_}
 use mathlib.Core.Path.{_≡_, refl, sym, _∙_, ap}
 use mathlib.Core.Bool.{Bool, true, false}
@@ -13,8 +13,8 @@ use Rattle.model.specs.Table.{slots, nodeCount, nextAt}
 use Rattle.model.specs.Plan.{prevAt}
 use Rattle.theory.specs.TableFacts.{AcceptedFacts}
 use Rattle.theory.specs.TableLinks.{prevAt-less, prevAt-next, next-prev, next-later, next-le}
-use Rattle.best.specs.CellsFront.{Earlier}
-use Rattle.best.specs.CellsNode.{Linked}
+use Rattle.best.specs.CellsArrays.{Earlier}
+use Rattle.best.specs.CellsNode.{SiblingsLinked}
 use Rattle.best.specs.CellsRun.{zeros}
 
 -- the links from the nodes 1 to v are kept
@@ -32,8 +32,8 @@ linking-start t =
     }
 
 module _ {t : List ℕ} (a : AcceptedFacts t) where
-  pub next-fits : (v : ℕ) → 1 ≤ v → v ≤ nodeCount t → nextAt t v < slots
-  next-fits v low high = omega (arith, next-le (a .sound) v low high, a .sound .count-high)
+  pub link-fits : (v : ℕ) → 1 ≤ v → v ≤ nodeCount t → nextAt t v < slots
+  link-fits v low high = omega (arith, next-le (a .sound) v low high, a .sound .count-high)
 
   pub linking-turn : (v x : ℕ) (prevs : List ℕ) → v < nodeCount t → x ≡ nextAt t (v + 1) → Linking t v prevs
       → Linking t (v + 1) (set prevs x (v + 1))
@@ -45,7 +45,7 @@ module _ {t : List ℕ} (a : AcceptedFacts t) where
       }
     where
       fits : x < length prevs
-      fits = omega (arith, l .long, next-fits (v + 1) (omega arith) (omega arith))
+      fits = omega (arith, l .long, link-fits (v + 1) (omega arith) (omega arith))
 
       same : (u : ℕ) → u ≡ x → getD (set prevs x (v + 1)) u 0 ≡ v + 1
       same u q = rw q (getD-set-same prevs x (v + 1) 0 fits)
@@ -57,7 +57,8 @@ module _ {t : List ℕ} (a : AcceptedFacts t) where
           same u is ∙ sym (next-prev (a .sound) (v + 1) u (omega arith) (omega arith) low (sym (is ∙ e)))
       seen u low high h false q =
           let other : u ≡ x → ⊥ = eqb-false u x q in
-          let not-this : prevAt t u ≡ v + 1 → ⊥ = λ z. other (sym (prevAt-next t u (omega arith)) ∙ ap (nextAt t) z ∙ sym e) in
+          let not-this : prevAt t u ≡ v + 1 → ⊥ =
+          λ z. other (sym (prevAt-next t u (omega arith)) ∙ ap (nextAt t) z ∙ sym e) in
           getD-set-other prevs x u (v + 1) 0 other ∙ l .seen u low high (omega arith)
 
       early : (u : ℕ) → 1 ≤ u → (b : Bool) → eqb u x ≡ b → getD (set prevs x (v + 1)) u 0 < u
@@ -67,7 +68,8 @@ module _ {t : List ℕ} (a : AcceptedFacts t) where
       early u low false q = omega (arith, getD-set-other prevs x u (v + 1) 0 (eqb-false u x q), l .earlier u low)
 
 -- and 0 has none before it
-pub linking-end : {t : List ℕ} (v : ℕ) (prevs : List ℕ) → nodeCount t ≤ v → Linking t v prevs → Linked t (set prevs 0 0)
+pub linking-end : {t : List ℕ} (v : ℕ) (prevs : List ℕ) → nodeCount t ≤ v → Linking t v prevs
+    → SiblingsLinked t (set prevs 0 0)
 linking-end {t} v prevs high l =
     record {
       before = λ u low up. other u low ∙ l .seen u low up (omega (arith, prevAt-less t u low));

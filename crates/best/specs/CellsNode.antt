@@ -1,6 +1,10 @@
--- The children of a node by number: the figures of each, the children up to one of them, and what is kept of the columns of a node's
--- children. Defines figureAt, frontAt, Kin, Linked, Ready, Filled. Proves front-at-cons, kin-back, front-same (arrays that hold the figures give the
--- children of the table), kids-first, kids-step, kids-end (a walk over the children) and figure-good. Assumes nothing.
+-- The children of a node by number: the figures of each, the children up to one of them, and what is kept of the
+-- columns of a node's children.
+-- Defines figureAt, childrenUpTo; ChildOrNone, SiblingsBefore; NextChild, KidsFrom, afterAt; SiblingsLinked,
+-- ColumnsReady, ColumnsBack, ColumnsFilled.
+-- Proves childrenUpTo-cons, figure-good, child-nthPrev, children-same (arrays that hold the figures give the
+-- children of the table), first-child, next-child, kids-first, kids-step and kids-end (a walk over the children).
+-- Assumes nothing.
 use Prim.Native.Nat.{ℕ, zero, suc, _+_, _-_, _≤_, _<_}
 use mathlib.Core.Path.{_≡_, refl, sym, _∙_, ap}
 use mathlib.Core.Bool.{Bool, true, false}
@@ -15,11 +19,13 @@ use Rattle.model.specs.Table.{nodeCount, limitOf, weightAt, firstAt, nextAt}
 use Rattle.model.specs.Plan.{prevAt, parentAt}
 use Rattle.model.specs.Steps.{Child, entryAt, secondStart, gainOf, childOf, childrenFrom, childrenOf}
 use Rattle.theory.specs.TableFacts.{SoundFacts, AcceptedFacts}
-use Rattle.theory.specs.TableLinks.{prevAt-less, parentAt-later, parentAt-less, first-le, next-le, first-prev, next-prev, first-parent, next-parent}
+use Rattle.theory.specs.TableLinks.{prevAt-less, parentAt-later, parentAt-less, first-le, next-le, first-prev}
+use Rattle.theory.specs.TableLinks.{next-prev, first-parent, next-parent}
 use Rattle.theory.specs.TableChain.{chainAt, chain-none, node-at}
 use Rattle.best.specs.Cells.{cellAt, GoodChild, entry-within}
-use Rattle.best.specs.CellsFront.{listBack, list-none, list-cons, list-same, childIn, frontOf, Earlier, EachGood, cellIn}
-use Rattle.best.specs.CellsRun.{back, blockAt}
+use Rattle.best.specs.CellsArrays.{listBack, list-none, list-cons, list-same, childIn, childrenIn, Earlier}
+use Rattle.best.specs.CellsArrays.{EachGood, cellIn}
+use Rattle.best.specs.CellsRun.{nthPrev, blockAt}
 
 -- ---- Figures and children by number
 
@@ -28,16 +34,17 @@ unfoldable pub figureAt : List ℕ → Bool → ℕ → Child
 figureAt t gains v = childOf gains (limitOf t) (weightAt t v) (childrenOf gains (limitOf t) (chainAt t (firstAt t v)))
 
 -- the children up to node u, the last first
-unfoldable pub frontAt : List ℕ → Bool → ℕ → List Child
-frontAt t gains u = listBack (figureAt t gains) (prevAt t) u
+unfoldable pub childrenUpTo : List ℕ → Bool → ℕ → List Child
+childrenUpTo t gains u = listBack (figureAt t gains) (prevAt t) u
 
-pub front-at-none : (t : List ℕ) (gains : Bool) → frontAt t gains 0 ≡ []
-unfolding frontAt
-front-at-none t gains = list-none (figureAt t gains) (prevAt t)
+pub childrenUpTo-none : (t : List ℕ) (gains : Bool) → childrenUpTo t gains 0 ≡ []
+unfolding childrenUpTo
+childrenUpTo-none t gains = list-none (figureAt t gains) (prevAt t)
 
-pub front-at-cons : (t : List ℕ) (gains : Bool) (u : ℕ) → 1 ≤ u → frontAt t gains u ≡ figureAt t gains u ∷ frontAt t gains (prevAt t u)
-unfolding frontAt
-front-at-cons t gains = list-cons (figureAt t gains) (prevAt t) (prevAt-less t)
+pub childrenUpTo-cons : (t : List ℕ) (gains : Bool) (u : ℕ) → 1 ≤ u
+    → childrenUpTo t gains u ≡ figureAt t gains u ∷ childrenUpTo t gains (prevAt t u)
+unfolding childrenUpTo
+childrenUpTo-cons t gains = list-cons (figureAt t gains) (prevAt t) (prevAt-less t)
 
 -- ---- A node's figures
 
@@ -48,66 +55,68 @@ gain-small true false K W r = omega arith
 gain-small false b K W r = omega arith
 
 -- they are such as its parent may find
-pub figure-good : (t : List ℕ) (gains : Bool) (v : ℕ) → weightAt t v ≤ limitOf t → GoodChild (limitOf t) (figureAt t gains v)
+pub figure-good : (t : List ℕ) (gains : Bool) (v : ℕ) → weightAt t v ≤ limitOf t
+    → GoodChild (limitOf t) (figureAt t gains v)
 unfolding figureAt childOf gainOf
 figure-good t gains v h =
     let ks : List Child = childrenOf gains (limitOf t) (chainAt t (firstAt t v)) in
     let W : ℕ = entryAt (limitOf t) ks (weightAt t v) .rest in
     record {
       light = entry-within (limitOf t) ks (weightAt t v) h .rest-high;
-      fits = gain-small gains (leb (secondStart (limitOf t) (weightAt t v) W) (limitOf t)) (limitOf t) W (entryAt (limitOf t) ks (secondStart (limitOf t) (weightAt t v) W) .rest);
+      fits = gain-small gains (leb (secondStart (limitOf t) (weightAt t v) W) (limitOf t)) (limitOf t) W
+          (entryAt (limitOf t) ks (secondStart (limitOf t) (weightAt t v) W) .rest);
     }
 
 -- ---- Siblings
 
 -- 0, or a child of node v
-abbrev pub Kin : List ℕ → ℕ → ℕ → Type 0
-Kin t v u = (u ≡ 0) ⊎ ((1 ≤ u) × (u ≤ nodeCount t) × (parentAt t u ≡ v))
+abbrev pub ChildOrNone : List ℕ → ℕ → ℕ → Type 0
+ChildOrNone t v u = (u ≡ 0) ⊎ ((1 ≤ u) × (u ≤ nodeCount t) × (parentAt t u ≡ v))
 
-pub prev-kin : (t : List ℕ) (v u : ℕ) → 1 ≤ u → u ≤ nodeCount t → parentAt t u ≡ v → Kin t v (prevAt t u)
-prev-kin t v u low high e = go (eqb (prevAt t u) 0) refl
+pub prev-child : (t : List ℕ) (v u : ℕ) → 1 ≤ u → u ≤ nodeCount t → parentAt t u ≡ v → ChildOrNone t v (prevAt t u)
+prev-child t v u low high e = go (eqb (prevAt t u) 0) refl
   where
-    go : (b : Bool) → eqb (prevAt t u) 0 ≡ b → Kin t v (prevAt t u)
+    go : (b : Bool) → eqb (prevAt t u) 0 ≡ b → ChildOrNone t v (prevAt t u)
     go true q = inl (eqb-true (prevAt t u) 0 q)
     go false q =
         let d : prevAt t u ≡ 0 → ⊥ = eqb-false (prevAt t u) 0 q in
         let one : 1 ≤ prevAt t u = omega arith in
         inr (one, omega (arith, prevAt-less t u low), sym (parentAt-later t u low one) ∙ e)
 
-pub kin-high : (t : List ℕ) (v u : ℕ) → Kin t v u → u ≤ nodeCount t
-kin-high t v u (inl e) = omega arith
-kin-high t v u (inr q) = q .1
+pub child-high : (t : List ℕ) (v u : ℕ) → ChildOrNone t v u → u ≤ nodeCount t
+child-high t v u (inl e) = omega arith
+child-high t v u (inr q) = q .1
 
 -- the sibling before is kept
-abbrev pub Before : List ℕ → List ℕ → Type 0
-Before t prevs = (u : ℕ) → 1 ≤ u → u ≤ nodeCount t → getD prevs u 0 ≡ prevAt t u
+abbrev pub SiblingsBefore : List ℕ → List ℕ → Type 0
+SiblingsBefore t prevs = (u : ℕ) → 1 ≤ u → u ≤ nodeCount t → getD prevs u 0 ≡ prevAt t u
 
-pub kin-back : (t prevs : List ℕ) → Before t prevs → getD prevs 0 0 ≡ 0 → (v n u : ℕ) → Kin t v u → Kin t v (back prevs n u)
-unfolding back
-kin-back t prevs before z v zero u k = k
-kin-back t prevs before z v (suc n) u k = go (kin-back t prevs before z v n u k)
+pub child-nthPrev : (t prevs : List ℕ) → SiblingsBefore t prevs → getD prevs 0 0 ≡ 0 → (v n u : ℕ) → ChildOrNone t v u
+    → ChildOrNone t v (nthPrev prevs n u)
+unfolding nthPrev
+child-nthPrev t prevs before z v zero u k = k
+child-nthPrev t prevs before z v (suc n) u k = go (child-nthPrev t prevs before z v n u k)
   where
-    go : Kin t v (back prevs n u) → Kin t v (getD prevs (back prevs n u) 0)
+    go : ChildOrNone t v (nthPrev prevs n u) → ChildOrNone t v (getD prevs (nthPrev prevs n u) 0)
     go (inl e) = inl (rw e z)
-    go (inr q) = rw (before (back prevs n u) (q .0) (q .1)) (prev-kin t v (back prevs n u) (q .0) (q .1) (q .2))
-
-pub back-shift : (prevs : List ℕ) (n u : ℕ) → back prevs (suc n) u ≡ back prevs n (getD prevs u 0)
-unfolding back
-back-shift prevs zero u = refl
-back-shift prevs (suc n) u = ap (λ w. getD prevs w 0) (back-shift prevs n u)
+    go (inr q) = rw (before (nthPrev prevs n u) (q .0) (q .1)) (prev-child t v (nthPrev prevs n u) (q .0) (q .1) (q .2))
 
 -- arrays with the figures of v's children give the children of the table
-module _ (t rests gains prevs : List ℕ) (g : Bool) (v : ℕ) (before : Before t prevs)
+module _ (t rests gains prevs : List ℕ) (g : Bool) (v : ℕ) (before : SiblingsBefore t prevs)
     (figures : (u : ℕ) → v < u → u ≤ nodeCount t → childIn rests gains u ≡ figureAt t g u)
   where
-    same-step : (u : ℕ) → 1 ≤ u → Kin t v u → (childIn rests gains u ≡ figureAt t g u) × (getD prevs u 0 ≡ prevAt t u) × Kin t v (prevAt t u)
+    same-step : (u : ℕ) → 1 ≤ u → ChildOrNone t v u
+        → (childIn rests gains u ≡ figureAt t g u) × (getD prevs u 0 ≡ prevAt t u) × ChildOrNone t v (prevAt t u)
     same-step u low (inl e) = absurd (omega arith)
-    same-step u low (inr q) =
-        (figures u (omega (arith, parentAt-less t u low, q .2)) (q .1), before u low (q .1), prev-kin t v u low (q .1) (q .2))
+    same-step u low (inr q) = (
+      figures u (omega (arith, parentAt-less t u low, q .2)) (q .1),
+      before u low (q .1),
+      prev-child t v u low (q .1) (q .2),
+    )
 
-    pub front-same : (u : ℕ) → Kin t v u → frontOf rests gains prevs u ≡ frontAt t g u
-    unfolding frontOf frontAt
-    front-same = list-same (Kin t v) same-step
+    pub children-same : (u : ℕ) → ChildOrNone t v u → childrenIn rests gains prevs u ≡ childrenUpTo t g u
+    unfolding childrenIn childrenUpTo
+    children-same = list-same (ChildOrNone t v) same-step
 
 -- ---- A walk over the children of node v
 
@@ -121,12 +130,13 @@ pub record NextChild (t : List ℕ) (v c before : ℕ) : Type 0 where
 -- what the children from c on add to those before
 abbrev pub KidsFrom : List ℕ → ℕ → ℕ → ℕ → Type 0
 KidsFrom t v c before =
-    (g : Bool) → childrenOf g (limitOf t) (chainAt t (firstAt t v)) ≡ childrenFrom g (limitOf t) (chainAt t c) (frontAt t g before)
+    (g : Bool) → childrenOf g (limitOf t) (chainAt t (firstAt t v))
+    ≡ childrenFrom g (limitOf t) (chainAt t c) (childrenUpTo t g before)
 
 module _ {t : List ℕ} (s : SoundFacts t) (v : ℕ) (low : 1 ≤ v) (high : v ≤ nodeCount t) where
   pub kids-first : KidsFrom t v (firstAt t v) 0
   unfolding childrenOf
-  kids-first g = rw (front-at-none t g)
+  kids-first g = rw (childrenUpTo-none t g)
 
   pub first-child : (firstAt t v ≡ 0) ⊎ NextChild t v (firstAt t v) 0
   first-child = go (eqb (firstAt t v) 0) refl
@@ -164,14 +174,14 @@ module _ {t : List ℕ} (s : SoundFacts t) (v : ℕ) (low : 1 ≤ v) (high : v �
   unfolding childrenOf childrenFrom figureAt
   kids-step c before n k g =
       let a = node-at s c (n .low) (n .high) in
-      let f : frontAt t g c ≡ figureAt t g c ∷ frontAt t g before =
-      front-at-cons t g c (n .low) ∙ ap (λ u. figureAt t g c ∷ frontAt t g u) (n .prev) in
-      k g ∙ ap (λ x. childrenFrom g (limitOf t) x (frontAt t g before)) (a .shape) ∙ rw f refl
+      let f : childrenUpTo t g c ≡ figureAt t g c ∷ childrenUpTo t g before =
+      childrenUpTo-cons t g c (n .low) ∙ ap (λ u. figureAt t g c ∷ childrenUpTo t g u) (n .prev) in
+      k g ∙ ap (λ x. childrenFrom g (limitOf t) x (childrenUpTo t g before)) (a .shape) ∙ rw f refl
 
 pub kids-end : (t : List ℕ) (v before : ℕ) → KidsFrom t v 0 before
-    → (g : Bool) → childrenOf g (limitOf t) (chainAt t (firstAt t v)) ≡ frontAt t g before
+    → (g : Bool) → childrenOf g (limitOf t) (chainAt t (firstAt t v)) ≡ childrenUpTo t g before
 unfolding childrenFrom
-kids-end t v before k g = k g ∙ ap (λ x. childrenFrom g (limitOf t) x (frontAt t g before)) (chain-none t)
+kids-end t v before k g = k g ∙ ap (λ x. childrenFrom g (limitOf t) x (childrenUpTo t g before)) (chain-none t)
 
 -- the link after the child u of node v, or to its first child where u is 0
 abbrev pub afterAt : List ℕ → ℕ → ℕ → ℕ
@@ -180,16 +190,16 @@ afterAt t v u = pick (eqb u 0) (firstAt t v) (nextAt t u)
 -- ---- What is kept
 
 -- the sibling before each node is kept, and 0 before none
-pub record Linked (t prevs : List ℕ) : Type 0 where
-  pub before : Before t prevs
+pub record SiblingsLinked (t prevs : List ℕ) : Type 0 where
+  pub before : SiblingsBefore t prevs
   pub earlier : Earlier prevs
   pub none : getD prevs 0 0 ≡ 0
 
 -- the siblings before each node, children that may be weighed, and the column of no child
-pub record Ready (t rests gains prevs xs : List ℕ) : Type 0 where
+pub record ColumnsReady (t rests gains prevs xs : List ℕ) : Type 0 where
   pub accepted : AcceptedFacts t
   pub good : EachGood (limitOf t) rests gains
-  pub before : Before t prevs
+  pub before : SiblingsBefore t prevs
   pub earlier : Earlier prevs
   pub none : getD prevs 0 0 ≡ 0
   pub room : blockAt (limitOf t) (nodeCount t + 1) ≤ length xs
@@ -199,14 +209,14 @@ pub record Ready (t rests gains prevs xs : List ℕ) : Type 0 where
 abbrev pub ColumnsBack : ℕ → ℕ → List ℕ → List ℕ → List ℕ → List ℕ → ℕ → Type 0
 ColumnsBack K start rests gains prevs ys u =
     (n s : ℕ) → start ≤ s → s ≤ K
-    → cellIn ys K (blockAt K (back prevs n u)) s ≡ cellAt K (frontOf rests gains prevs (back prevs n u)) s
+    → cellIn ys K (blockAt K (nthPrev prevs n u)) s ≡ cellAt K (childrenIn rests gains prevs (nthPrev prevs n u)) s
 
 -- the columns of v's children are filled, the last of them is r, and no other block is changed
-pub record Filled (t rests gains prevs : List ℕ) (v r : ℕ) (xs ys : List ℕ) : Type 0 where
+pub record ColumnsFilled (t rests gains prevs : List ℕ) (v r : ℕ) (xs ys : List ℕ) : Type 0 where
   pub long : length ys ≡ length xs
-  pub kin : Kin t v r
+  pub last-child : ChildOrNone t v r
   pub link : afterAt t v r ≡ 0
-  pub kids : (g : Bool) → childrenOf g (limitOf t) (chainAt t (firstAt t v)) ≡ frontAt t g r
+  pub kids : (g : Bool) → childrenOf g (limitOf t) (chainAt t (firstAt t v)) ≡ childrenUpTo t g r
   pub columns : ColumnsBack (limitOf t) (weightAt t v) rests gains prevs ys r
   pub others : (u s : ℕ) → (parentAt t u ≡ v → ⊥) → s ≤ limitOf t
       → cellIn ys (limitOf t) (blockAt (limitOf t) u) s ≡ cellIn xs (limitOf t) (blockAt (limitOf t) u) s

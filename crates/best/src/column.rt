@@ -1,6 +1,6 @@
-// The column of a child: at each start the best of the candidates, in the listed order. A word has a count and a rest, and a smaller
-// word is a smaller count, or the same count and a smaller rest. Beside each word stands the length of the run that won, 0 where the
-// child stays.
+// The column of a child: at each start the best of the candidates, in the listed order. A word has a count and a
+// rest, and a smaller word is a smaller count, or the same count and a smaller rest. Beside each word stands the
+// length of the run that won, 0 where the child stays.
 use crate::run::GAINS;
 use crate::run::Sums;
 use crate::run::join;
@@ -10,11 +10,11 @@ ghost use Prim.Native.Nat.{ℕ, _+_, _*_, _≤_, _<_};
 ghost use lib.ListN.{length, getD};
 ghost use Rattle.model.specs.Table.{maxNodes, maxLimit};
 ghost use Rattle.best.specs.Cells.{cellAt, lower, stayCell};
-ghost use Rattle.best.specs.CellsFront.{cellIn, frontOf, Swept};
+ghost use Rattle.best.specs.CellsArrays.{cellIn, childrenIn, Swept};
 ghost use Rattle.best.specs.CellsRun.{blockAt, Fillable};
 
 // What one page counts in a word.
-pub const PAGE: u32 = 65536;
+pub const PAGE_WORD: u32 = 65536;
 
 // Above every word.
 const NO_WORD: u32 = 4294967295;
@@ -29,8 +29,11 @@ pub fn block_at(limit: usize, v: usize) -> usize
 
 // The child stays, where start and rest are at most the limit: `before` is the block of the children before it.
 fn stay(words: &mut [u32], here: usize, before: usize, start: usize, limit: usize, rest: usize)
-    requires { ⌜ (limit ≤ maxLimit) × (rest ≤ maxLimit) × (start ≤ maxLimit) × (before + 2 * (limit + 1) ≤ here) × (here + 2 * (limit + 1) ≤ length (now words)) ⌝ }
-    ensures { λ r. ⌜ Swept limit start here (λ s. stayCell limit s rest (getD (now (words .entry)) (before + (s + rest)) 0)) (now (words .entry)) (now (words .exit)) ⌝ }
+    requires { ⌜ (limit ≤ maxLimit) × (rest ≤ maxLimit) × (start ≤ maxLimit) × (before + 2 * (limit + 1) ≤ here)
+        × (here + 2 * (limit + 1) ≤ length (now words)) ⌝ }
+    ensures { λ r. ⌜ Swept limit start here
+        (λ s. stayCell limit s rest (getD (now (words .entry)) (before + (s + rest)) 0))
+        (now (words .entry)) (now (words .exit)) ⌝ }
 {
     let mut s = start;
     while s <= limit {
@@ -55,9 +58,12 @@ fn relax(
     added: u32,
     len: u32,
 )
-    requires { ⌜ (limit ≤ maxLimit) × (start ≤ maxLimit) × (before + 2 * (limit + 1) ≤ here) × (here + 2 * (limit + 1) ≤ length (now words))
+    requires { ⌜ (limit ≤ maxLimit) × (start ≤ maxLimit) × (before + 2 * (limit + 1) ≤ here)
+        × (here + 2 * (limit + 1) ≤ length (now words))
         × ((s : ℕ) → start ≤ s → s ≤ limit → getD (now words) (before + s) 0 + added < 4294967296) ⌝ }
-    ensures { λ r. ⌜ Swept limit start here (λ s. lower (getD (now (words .entry)) (before + s) 0 + added) len (cellIn (now (words .entry)) limit here s)) (now (words .entry)) (now (words .exit)) ⌝ }
+    ensures { λ r. ⌜ Swept limit start here
+        (λ s. lower (getD (now (words .entry)) (before + s) 0 + added) len (cellIn (now (words .entry)) limit here s))
+        (now (words .entry)) (now (words .exit)) ⌝ }
 {
     let mut s = start;
     while s <= limit {
@@ -81,7 +87,9 @@ pub fn fill_column(
     limit: usize,
 )
     requires { ⌜ (start ≤ limit) × Fillable limit start child (now rests) (now gains) (now prevs) (now words) ⌝ }
-    ensures { λ r. ⌜ Swept limit start (blockAt limit child) (λ s. cellAt limit (frontOf (now (rests .entry)) (now (gains .entry)) (now (prevs .entry)) child) s) (now (words .entry)) (now (words .exit)) ⌝ }
+    ensures { λ r. ⌜ Swept limit start (blockAt limit child)
+        (λ s. cellAt limit (childrenIn (now (rests .entry)) (now (gains .entry)) (now (prevs .entry)) child) s)
+        (now (words .entry)) (now (words .exit)) ⌝ }
 {
     let here = block_at(limit, child);
     let first = block_at(limit, prevs[child] as usize);
@@ -122,7 +130,7 @@ pub fn fill_column(
             before,
             start,
             limit,
-            (1 + taken) * PAGE,
+            (1 + taken) * PAGE_WORD,
             sums.len,
         );
         // the lightest total reaches the limit

@@ -16,25 +16,26 @@ ghost use lib.ListN.{length, getD, replicate};
 ghost use Rattle.model.specs.Basics.{pick};
 ghost use Rattle.model.specs.Table.{maxNodes, maxLimit, nodeCount, limitOf, weightAt, treeOf};
 ghost use Rattle.model.specs.Steps.{layMarks, rootChoice};
-ghost use Rattle.best.specs.Cells.{pulled};
-ghost use Rattle.best.specs.CellsFront.{frontOf, EachGood};
-ghost use Rattle.best.specs.CellsLay.{takes, lastMark};
-ghost use Rattle.best.specs.CellsPlan.{Planned};
-ghost use Rattle.best.specs.CellsRun.{countsOf, Kept};
-ghost use Rattle.best.specs.ReduceLevel.{levelFrom};
-ghost use Rattle.best.specs.Run.{gainSlots};
-ghost use Rattle.best.specs.Lay.{SumReady, RunReady, RunDone, startOf, NodeReady, NodeDone};
+ghost use Rattle.best.specs.Cells.{lastChildren};
+ghost use Rattle.best.specs.CellsArrays.{childrenIn, EachGood};
+ghost use Rattle.best.specs.LayChoices.{takes, lastMark};
+ghost use Rattle.best.specs.CellsPlan.{NodesPlanned};
+ghost use Rattle.best.specs.CellsRun.{countsOf, RunSums};
+ghost use Rattle.best.specs.CellsLevel.{levelFrom};
+ghost use Rattle.best.specs.CellsSums.{gainSlots};
+ghost use Rattle.best.specs.LayContracts.{SumReady, RunReady, RunDone, startOf, NodeReady, NodeDone};
 
 // Of a run's gains those above `gain` are taken, and of those at `gain` the earliest `times`.
-struct Level {
+struct GainLevel {
     gain: u16,
     times: u16,
 }
 
 // The level at which the sum of a run has room, from how many members have each gain.
-fn find_level(counts: &[u16; GAINS], top: u16, total: u32, limit: u32) -> Level
+fn find_level(counts: &[u16; GAINS], top: u16, total: u32, limit: u32) -> GainLevel
     requires { ⌜ (top ≤ limit) × (limit ≤ maxLimit) × ((h : ℕ) → getD (now counts) h 0 ≤ maxNodes) ⌝ }
-    ensures { λ r. ⌜ (r .gain ≡ levelFrom top (countsOf (now (counts .entry))) limit total .gain) × (r .times ≡ levelFrom top (countsOf (now (counts .entry))) limit total .times) ⌝ }
+    ensures { λ r. ⌜ (r .gain ≡ levelFrom top (countsOf (now (counts .entry))) limit total .gain)
+        × (r .times ≡ levelFrom top (countsOf (now (counts .entry))) limit total .times) ⌝ }
 {
     let mut gain = top;
     let mut left = counts[gain as usize];
@@ -47,14 +48,14 @@ fn find_level(counts: &[u16; GAINS], top: u16, total: u32, limit: u32) -> Level
             times = 0;
         } else {
             if sum <= limit {
-                return Level { gain, times };
+                return GainLevel { gain, times };
             }
             left -= 1;
             sum -= gain as u32;
             times += 1;
         }
     }
-    Level { gain: 0, times: 0 }
+    GainLevel { gain: 0, times: 0 }
 }
 
 // The sums over the last `len` children up to `child`, and how many of them have each gain.
@@ -68,7 +69,9 @@ fn sum_run(
 ) -> Sums
     requires { ⌜ SumReady child len (now rests) (now gains) (now prevs) × (now counts ≡ replicate gainSlots 0) ⌝ }
     ensures { λ r. ⌜ ((K : ℕ) → EachGood K (now (rests .entry)) (now (gains .entry))
-        → Kept K (pulled len [] (frontOf (now (rests .entry)) (now (gains .entry)) (now (prevs .entry)) child)) len (r .total) (r .gained) (r .top) (now (counts .exit))) ⌝ }
+        → RunSums K
+        (lastChildren len [] (childrenIn (now (rests .entry)) (now (gains .entry)) (now (prevs .entry)) child))
+        len (r .total) (r .gained) (r .top) (now (counts .exit))) ⌝ }
 {
     let mut sums = Sums {
         len: 0,
@@ -92,7 +95,7 @@ fn mark_of(before: u32) -> u8
 }
 
 // 1 where a member with this gain is taken, and `before` members at the level come before it.
-fn second_of(level: Level, before: u16, gain: u16) -> u8
+fn second_of(level: GainLevel, before: u16, gain: u16) -> u8
     ensures { λ r. ⌜ r ≡ pick (takes (level .gain) (level .times) before gain) 1 0 ⌝ }
 {
     if level.gain < gain {
@@ -116,7 +119,8 @@ fn lay_run(
     limit: usize,
 ) -> usize
     requires { ⌜ RunReady limit child len (now rests) (now gains) (now prevs) (now marks) (now seconds) ⌝ }
-    ensures { λ r. ⌜ RunDone limit child len (now (rests .entry)) (now (gains .entry)) (now (prevs .entry)) (now (marks .entry)) (now (seconds .entry)) (now (marks .exit)) (now (seconds .exit)) r ⌝ }
+    ensures { λ r. ⌜ RunDone limit child len (now (rests .entry)) (now (gains .entry)) (now (prevs .entry))
+        (now (marks .entry)) (now (seconds .entry)) (now (marks .exit)) (now (seconds .exit)) r ⌝ }
 {
     let mut counts = [0u16; GAINS];
     let sums = sum_run(prevs, rests, gains, &mut counts, child, len);
@@ -146,7 +150,8 @@ fn start_of(
     v: u16,
 ) -> usize
     requires { ⌜ (limit ≤ maxLimit) × (v ≤ maxNodes) × (getD (now rests) v 0 ≤ limit) ⌝ }
-    ensures { λ r. ⌜ r ≡ startOf limit (weightAt (now (table .entry)) v) (getD (now (rests .entry)) v 0) (eqb (getD (now (seconds .entry)) v 0) 1) ⌝ }
+    ensures { λ r. ⌜ r ≡ startOf limit (weightAt (now (table .entry)) v) (getD (now (rests .entry)) v 0)
+        (eqb (getD (now (seconds .entry)) v 0) 1) ⌝ }
 {
     let weight = weight_at(table, v) as usize;
     if seconds[v as usize] == 1 {
@@ -167,8 +172,11 @@ fn lay_children(
     seconds: &mut [u8; SLOTS],
     v: u16,
 )
-    requires { ⌜ NodeReady (now table) v (now rests) (now gains) (now prevs) (now lasts) (now words) (now marks) (now seconds) ⌝ }
-    ensures { λ r. ⌜ NodeDone (now (table .entry)) v (now (rests .entry)) (now (gains .entry)) (now (prevs .entry)) (now (lasts .entry)) (now (marks .entry)) (now (seconds .entry)) (now (marks .exit)) (now (seconds .exit)) ⌝ }
+    requires { ⌜ NodeReady (now table) v (now rests) (now gains) (now prevs) (now lasts) (now words)
+        (now marks) (now seconds) ⌝ }
+    ensures { λ r. ⌜ NodeDone (now (table .entry)) v
+        (now (rests .entry)) (now (gains .entry)) (now (prevs .entry)) (now (lasts .entry))
+        (now (marks .entry)) (now (seconds .entry)) (now (marks .exit)) (now (seconds .exit)) ⌝ }
 {
     let limit = limit_of(table) as usize;
     let mut start = start_of(table, rests, seconds, limit, v);
@@ -196,8 +204,11 @@ pub fn lay_nodes(
     words: &[u32],
     marks: &mut [u8],
 )
-    requires { ⌜ ((g : Bool) × Planned (now table) g 0 (now rests) (now gains) (now prevs) (now lasts) (now words)) × (length (now marks) ≡ nodeCount (now table)) ⌝ }
-    ensures { λ r. ⌜ ((g : Bool) → Planned (now (table .entry)) g 0 (now (rests .entry)) (now (gains .entry)) (now (prevs .entry)) (now (lasts .entry)) (now (words .entry))
+    requires { ⌜ ((g : Bool) × NodesPlanned (now table) g 0 (now rests) (now gains) (now prevs) (now lasts) (now words))
+        × (length (now marks) ≡ nodeCount (now table)) ⌝ }
+    ensures { λ r. ⌜ ((g : Bool)
+        → NodesPlanned (now (table .entry)) g 0 (now (rests .entry)) (now (gains .entry)) (now (prevs .entry))
+        (now (lasts .entry)) (now (words .entry))
         → now (marks .exit) ≡ layMarks g (limitOf (now (table .entry))) (treeOf (now (table .entry))) rootChoice) ⌝ }
 {
     let nodes = node_count(table);

@@ -1,4 +1,5 @@
-// The plan of the best planner, and of the level planner: a column of cells for each child, the figures of each node, and the marks.
+// The plan of the best planner, and of the level planner: a column of cells for each child, the figures of each
+// node, and the marks.
 mod column;
 mod lay;
 mod node;
@@ -20,8 +21,10 @@ ghost use Rattle.theory.specs.TableFacts.{AcceptedFacts};
 
 // The marks of an accepted tree; with every gain 0 they are level's.
 pub fn lay_best(table: &[u8], gainful: bool, marks: &mut [u8], scratch: &mut [u32])
-    requires { ⌜ AcceptedFacts (now table) × (length (now marks) ≡ nodeCount (now table)) × (scratchWords (nodeCount (now table)) (limitOf (now table)) ≤ length (now scratch)) ⌝ }
-    ensures { λ r. ⌜ now (marks .exit) ≡ layMarks gainful (limitOf (now (table .entry))) (treeOf (now (table .entry))) rootChoice ⌝ }
+    requires { ⌜ AcceptedFacts (now table) × (length (now marks) ≡ nodeCount (now table))
+        × (scratchWords (nodeCount (now table)) (limitOf (now table)) ≤ length (now scratch)) ⌝ }
+    ensures { λ r. ⌜ now (marks .exit)
+        ≡ layMarks gainful (limitOf (now (table .entry))) (treeOf (now (table .entry))) rootChoice ⌝ }
 {
     let prevs = link_before(table);
     let mut rests = [0u16; SLOTS];

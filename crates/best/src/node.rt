@@ -1,5 +1,5 @@
 // The nodes from the last to the first: the columns of each node's children, and the figures that its parent sees.
-use crate::column::PAGE;
+use crate::column::PAGE_WORD;
 use crate::column::block_at;
 use crate::column::fill_column;
 use table::SLOTS;
@@ -15,15 +15,15 @@ ghost use lib.ListN.{length, getD};
 ghost use Rattle.model.specs.Table.{maxLimit, slots, nodeCount};
 ghost use Rattle.model.specs.Steps.{secondStart};
 ghost use Rattle.theory.specs.TableFacts.{AcceptedFacts};
-ghost use Rattle.best.specs.Cells.{page, cellAt};
-ghost use Rattle.best.specs.CellsFront.{Swept};
-ghost use Rattle.best.specs.CellsNode.{Linked, Ready, Filled};
-ghost use Rattle.best.specs.CellsPlan.{Planned, gainFrom};
+ghost use Rattle.best.specs.Cells.{pageWord, cellAt};
+ghost use Rattle.best.specs.CellsArrays.{Swept};
+ghost use Rattle.best.specs.CellsNode.{SiblingsLinked, ColumnsReady, ColumnsFilled};
+ghost use Rattle.best.specs.CellsPlan.{NodesPlanned, gainFrom};
 
 // The sibling before each node, or 0.
 pub fn link_before(table: &[u8]) -> [u16; SLOTS]
     requires { ⌜ AcceptedFacts (now table) ⌝ }
-    ensures { λ r. ⌜ Linked (now (table .entry)) r ⌝ }
+    ensures { λ r. ⌜ SiblingsLinked (now (table .entry)) r ⌝ }
 {
     let nodes = node_count(table);
     let mut prevs = [0u16; SLOTS];
@@ -59,8 +59,10 @@ fn fill_columns(
     words: &mut [u32],
     v: u16,
 ) -> u16
-    requires { ⌜ Ready (now table) (now rests) (now gains) (now prevs) (now words) × (1 ≤ v) × (v ≤ nodeCount (now table)) ⌝ }
-    ensures { λ r. ⌜ Filled (now (table .entry)) (now (rests .entry)) (now (gains .entry)) (now (prevs .entry)) v r (now (words .entry)) (now (words .exit)) ⌝ }
+    requires { ⌜ ColumnsReady (now table) (now rests) (now gains) (now prevs) (now words)
+        × (1 ≤ v) × (v ≤ nodeCount (now table)) ⌝ }
+    ensures { λ r. ⌜ ColumnsFilled (now (table .entry)) (now (rests .entry)) (now (gains .entry)) (now (prevs .entry))
+        v r (now (words .entry)) (now (words .exit)) ⌝ }
 {
     let limit = limit_of(table) as usize;
     let start = weight_at(table, v) as usize;
@@ -90,14 +92,16 @@ fn gain_in(
     weight: usize,
     rest: usize,
 ) -> usize
-    requires { ⌜ (limit ≤ maxLimit) × (weight ≤ limit) × (rest ≤ limit) × (here + 2 * (limit + 1) ≤ length (now words)) ⌝ }
-    ensures { λ r. ⌜ r ≡ gainFrom gainful limit weight rest (getD (now (words .entry)) (here + secondStart limit weight rest) 0 % page) ⌝ }
+    requires { ⌜ (limit ≤ maxLimit) × (weight ≤ limit) × (rest ≤ limit)
+        × (here + 2 * (limit + 1) ≤ length (now words)) ⌝ }
+    ensures { λ r. ⌜ r ≡ gainFrom gainful limit weight rest
+        (getD (now (words .entry)) (here + secondStart limit weight rest) 0 % pageWord) ⌝ }
 {
     let second = weight + (limit - rest) + 1;
     if !gainful | (limit < second) {
         return 0;
     }
-    let found = (words[here + second] % PAGE) as usize;
+    let found = (words[here + second] % PAGE_WORD) as usize;
     less(rest, less(found, limit - rest + 1))
 }
 
@@ -112,16 +116,19 @@ fn plan_node(
     words: &mut [u32],
     v: u16,
 )
-    requires { ⌜ Planned (now table) gainful v (now rests) (now gains) (now prevs) (now lasts) (now words) × (1 ≤ v) × (v ≤ nodeCount (now table))
+    requires { ⌜ NodesPlanned (now table) gainful v (now rests) (now gains) (now prevs) (now lasts) (now words)
+        × (1 ≤ v) × (v ≤ nodeCount (now table))
         × (length (now rests) ≡ slots) × (length (now gains) ≡ slots) × (length (now lasts) ≡ slots) ⌝ }
-    ensures { λ r. ⌜ Planned (now (table .entry)) gainful (v - 1) (now (rests .exit)) (now (gains .exit)) (now (prevs .entry)) (now (lasts .exit)) (now (words .exit))
-        × (length (now (rests .exit)) ≡ slots) × (length (now (gains .exit)) ≡ slots) × (length (now (lasts .exit)) ≡ slots) ⌝ }
+    ensures { λ r. ⌜ NodesPlanned (now (table .entry)) gainful (v - 1) (now (rests .exit)) (now (gains .exit))
+        (now (prevs .entry)) (now (lasts .exit)) (now (words .exit))
+        × (length (now (rests .exit)) ≡ slots) × (length (now (gains .exit)) ≡ slots)
+        × (length (now (lasts .exit)) ≡ slots) ⌝ }
 {
     let limit = limit_of(table) as usize;
     let weight = weight_at(table, v) as usize;
     let last = fill_columns(table, prevs, rests, gains, words, v);
     let here = block_at(limit, last as usize);
-    let rest = (words[here + weight] % PAGE) as u16;
+    let rest = (words[here + weight] % PAGE_WORD) as u16;
     let gain = gain_in(words, gainful, here, limit, weight, rest as usize) as u16;
     rests[v as usize] = rest;
     gains[v as usize] = gain;
@@ -138,9 +145,10 @@ pub fn plan_nodes(
     lasts: &mut [u16; SLOTS],
     words: &mut [u32],
 )
-    requires { ⌜ Ready (now table) (now rests) (now gains) (now prevs) (now words)
+    requires { ⌜ ColumnsReady (now table) (now rests) (now gains) (now prevs) (now words)
         × (length (now rests) ≡ slots) × (length (now gains) ≡ slots) × (length (now lasts) ≡ slots) ⌝ }
-    ensures { λ r. ⌜ Planned (now (table .entry)) gainful 0 (now (rests .exit)) (now (gains .exit)) (now (prevs .entry)) (now (lasts .exit)) (now (words .exit)) ⌝ }
+    ensures { λ r. ⌜ NodesPlanned (now (table .entry)) gainful 0 (now (rests .exit)) (now (gains .exit))
+        (now (prevs .entry)) (now (lasts .exit)) (now (words .exit)) ⌝ }
 {
     let mut v = node_count(table);
     while v != 0 {

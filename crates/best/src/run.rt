@@ -4,7 +4,7 @@ ghost use mathlib.Core.Path.{_≡_};
 ghost use Prim.Native.Nat.{_+_, _≤_, _<_, max};
 ghost use lib.ListN.{getD, set};
 ghost use Rattle.model.specs.Table.{maxLimit};
-ghost use Rattle.best.specs.Run.{joined};
+ghost use Rattle.best.specs.CellsSums.{joinedSums};
 
 // A place for each gain, from 0 to the highest page limit.
 pub const GAINS: usize = MAX_LIMIT as usize + 1;
@@ -25,8 +25,10 @@ fn larger(a: u16, b: u16) -> u16
 
 // One more member on the left.
 pub fn join(sums: Sums, counts: &mut [u16; GAINS], rest: u16, gain: u16) -> Sums
-    requires { ⌜ (gain ≤ maxLimit) × (getD (now counts) gain 0 < 65535) × (sums .len < 4294967295) × (sums .total + rest < 4294967296) × (sums .gained + gain < 4294967296) ⌝ }
-    ensures { λ r. ⌜ (r ≡ joined sums rest gain) × (now (counts .exit) ≡ set (now (counts .entry)) gain (getD (now (counts .entry)) gain 0 + 1)) ⌝ }
+    requires { ⌜ (gain ≤ maxLimit) × (getD (now counts) gain 0 < 65535) × (sums .len < 4294967295)
+        × (sums .total + rest < 4294967296) × (sums .gained + gain < 4294967296) ⌝ }
+    ensures { λ r. ⌜ (r ≡ joinedSums sums rest gain)
+        × (now (counts .exit) ≡ set (now (counts .entry)) gain (getD (now (counts .entry)) gain 0 + 1)) ⌝ }
 {
     counts[gain as usize] = counts[gain as usize] + 1;
     Sums {

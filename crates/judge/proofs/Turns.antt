@@ -17,7 +17,8 @@ use Rattle.model.specs.declared.Place.the-variants.{At, Nowhere}
 use Rattle.theory.specs.Ranges.{pick-true, pick-false, sumTo-zero, sumTo-suc, countTo-zero, countTo-suc, countTo-le, firstTo-zero, firstTo-suc, firstTo-cong, lastTo-zero, lastTo-yes, lastTo-no}
 use Rattle.theory.specs.TableFacts.{AcceptedFacts}
 use Rattle.theory.specs.TableLinks.{next-le, prevAt-less}
-use Rattle.theory.specs.PlanPass.{stepBack, back-less, pageOf-none, pageOf-le, pageOf-step, parentAt-step, sumTo-most}
+use Rattle.theory.specs.PlanPass.{stepBack, back-less, pageOf-none, pageOf-le, pageOf-step, parentAt-step}
+use Rattle.theory.specs.Sums.{sumTo-most}
 use Rattle.theory.specs.PagesByNumber.{lastOnPage, lastOnPage-zero, lastOnPage-on, lastOnPage-off, first-found, last-found}
 use Rattle.theory.specs.JudgeAnswers.{pageCount-le}
 use Rattle.judge.specs.declared.pages.Layout.{Layout}

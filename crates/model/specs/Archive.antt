@@ -1,5 +1,5 @@
--- Document 01, 'The archive': the bytes of a tree and a plan, and the tree and the plan that an archive's bytes tell. The layout is a
--- description of the edition, which writing and reading share; document 01 has one edition.
+-- Document 01, 'The archive': the bytes of a tree and a plan, and the tree and the plan that an archive's bytes tell.
+-- The layout is a description of the edition, which writing and reading share; document 01 has one edition.
 use Prim.Native.Nat.{ℕ, _+_, _-_, _*_}
 use mathlib.Core.Bool.{Bool, _&&_}
 use mathlib.Core.List.{List, [], _∷_, _++_}

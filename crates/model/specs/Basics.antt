@@ -1,4 +1,5 @@
--- What the definitions are written with: a choice by a test, a place, and the numbers 1 to n summed, counted and searched.
+-- What the definitions are written with: a choice by a test, a place, and the numbers 1 to n summed, counted and
+-- searched.
 use Prim.Native.Nat.{ℕ, zero, suc, _+_}
 use mathlib.Core.Bool.{Bool, true, false, _&&_}
 use mathlib.Core.List.{List, [], _∷_, _++_}

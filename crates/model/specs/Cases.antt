@@ -1,18 +1,24 @@
--- Document 01, 'Trees on both sides' and the examples of 'What is refused', computed from the definitions: one result for the
--- starred cases and one for the refusals. Assumes nothing.
+-- Document 01, 'Trees on both sides' and the examples of 'What is refused', computed from the definitions: one result
+-- for the starred cases and one for the refusals. Assumes nothing.
 use mathlib.Core.Path.{_≡_, refl}
 use Prim.Native.Nat.{ℕ}
 use mathlib.Core.Bool.{Bool, true, not, _&&_}
 use mathlib.Core.List.{List, [], _∷_}
 use lib.ListN.{replicate}
 use lib.Dec.{eqb}
-use Rattle.model.specs.Basics.{pick, when, atPlace, sumTo, countTo, firstTo, lastTo, listTo, every, sameList}
-use Rattle.model.specs.Table.{wordAt, bytesOf, nodeCount, limitOf, fieldAt, walkFrom, walkPlace, chainFrom, treeOf}
-use Rattle.model.specs.Plan.{prevAt, ownerAt, parentFrom, parentAt, markAt, inRun, goodMark, pageFrom, pageOf, pageCount, pageWeight, badMark, heavyPage, verdictOf, runLastFrom, runLast}
-use Rattle.model.specs.Runs.{Run, comesFrom, comesAfter, isRun, isMember, countOf, holds, runWith, homeFrom, homeOf, runWeight, withinLimit, runsOf, pageRun, runCount, rootWeight}
-use Rattle.model.specs.Steps.{restSum, gainSum, takenCount, largestGain, takeEarliest, reduceFrom, reduce, better, leastOf, winner, staying, asMember, runChoices, running, runOf, lightest, stopsAt, secondStart, gainOf, childOf, childrenFrom, childrenOf, choicesOf, layMarks, bestMarks, levelMarks, whole, cutDown, remainders, laySingle, singleMarks, sides, remainder, takenAt, layPair, pairMarks, entryAt, stretched}
-use Rattle.model.specs.Archive.{firstEdition, headWords, nextPage, pageRecord, nextOnPage, nodeRecord, archiveOf, nodesIn, limitIn, pagesIn, pageFieldIn, nodeFieldIn, parentIn, firstIn, nextIn, tableIn, beginsIn, continuesIn, markIn, marksIn}
-use Rattle.model.specs.Refusals.{shortTable, badCount, badLimit, badLength, noWeight, badWalk, heavyNode, badMarks, shortScratch, markRefused, pageRefused, badOutput, noArchive, headChecks, nodeChecks, weightChecks, lentChecks, markChecks, filmChecks, backChecks, formChecks, treeChecks, planChecks, judgeChecks, writeChecks, passes, soundForm, acceptedTree, refusedForWeight, feasiblePlan, firstOf, readTree, judgePlan, planned, planBest, planLevel, planSingle, planPair, writeArchive, isArchive, readChecks, readArchive, scratchWords, Planned}
+use Rattle.model.specs.Basics as Basics
+use Rattle.model.specs.Table as Table
+use Rattle.model.specs.Plan as Plan
+use Rattle.model.specs.Runs as Runs
+use Rattle.model.specs.Steps as Steps
+use Rattle.model.specs.Archive as Archive
+use Rattle.model.specs.Refusals as Refusals
+use Rattle.model.specs.Basics.{every, sameList}
+use Rattle.model.specs.Table.{bytesOf, nodeCount, limitOf}
+use Rattle.model.specs.Runs.{Run, holds, withinLimit, runsOf, runCount, rootWeight}
+use Rattle.model.specs.Archive.{firstEdition, archiveOf}
+use Rattle.model.specs.Refusals.{refusedForWeight, readTree, judgePlan, planBest, planLevel, planSingle}
+use Rattle.model.specs.Refusals.{planPair, writeArchive, Written, readArchive, scratchWords, Planned}
 use Rattle.model.specs.declared.Beside.{Beside}
 use Rattle.model.specs.declared.Beside.the-variants.{Given, Nothing}
 use Rattle.model.specs.declared.Verdict.the-variants.{Feasible, Failed}
@@ -30,10 +36,11 @@ treeB = bytesOf (1 ∷ 3 ∷ 4 ∷ 1 ∷ 0 ∷ 0 ∷ [])
 abbrev treeCD : ℕ → List ℕ
 treeCD K = bytesOf (4 ∷ K ∷ 2 ∷ 1 ∷ 2 ∷ 0 ∷ 1 ∷ 2 ∷ 0 ∷ 3 ∷ 1 ∷ 3 ∷ 0 ∷ 4 ∷ 1 ∷ 4 ∷ 0 ∷ 0 ∷ [])
 
--- root 5; children 2, 1, 1; the middle one has children 2, 2. The limit and the weight of node 3 are 5 and 1 in E itself
+-- root 5; children 2, 1, 1; the middle one has children 2, 2. In E itself the limit is 5 and node 3 weighs 1
 abbrev treeE : ℕ → ℕ → List ℕ
 treeE K three =
-    bytesOf (6 ∷ K ∷ 5 ∷ 1 ∷ 2 ∷ 0 ∷ 2 ∷ 2 ∷ 0 ∷ 3 ∷ three ∷ 3 ∷ 4 ∷ 6 ∷ 2 ∷ 4 ∷ 0 ∷ 5 ∷ 2 ∷ 5 ∷ 0 ∷ 0 ∷ 1 ∷ 6 ∷ 0 ∷ 0 ∷ [])
+    bytesOf (6 ∷ K ∷ 5 ∷ 1 ∷ 2 ∷ 0 ∷ 2 ∷ 2 ∷ 0 ∷ 3 ∷ three ∷ 3 ∷ 4 ∷ 6 ∷ 2 ∷ 4 ∷ 0 ∷ 5 ∷ 2 ∷ 5 ∷ 0 ∷ 0 ∷ 1 ∷ 6 ∷ 0 ∷ 0
+    ∷ [])
 
 -- root 1, children 3, 3, K 4
 abbrev treeF : List ℕ
@@ -45,9 +52,33 @@ treeG = bytesOf (5 ∷ 5 ∷ 1 ∷ 1 ∷ 2 ∷ 0 ∷ 2 ∷ 2 ∷ 3 ∷ 4 ∷ 3 �
 
 -- ---- The starred cases
 
--- a test, with every definition open, so that it computes
+-- a test, with every definition open, so that it computes; a new definition joins here by its name
 pub computed : Bool → Bool
-unfolding pick when atPlace sumTo countTo firstTo lastTo listTo every sameList wordAt bytesOf fieldAt walkFrom walkPlace chainFrom treeOf prevAt ownerAt parentFrom parentAt markAt inRun goodMark pageFrom pageOf pageCount pageWeight badMark heavyPage verdictOf runLastFrom runLast comesFrom comesAfter isRun isMember countOf holds runWith homeFrom homeOf runWeight withinLimit runsOf pageRun restSum gainSum takenCount largestGain takeEarliest reduceFrom reduce better leastOf winner staying asMember runChoices running runOf lightest stopsAt secondStart gainOf childOf childrenFrom childrenOf choicesOf layMarks bestMarks levelMarks whole cutDown remainders laySingle singleMarks sides remainder takenAt layPair pairMarks entryAt stretched headWords nextPage pageRecord nextOnPage nodeRecord archiveOf nodesIn limitIn pagesIn pageFieldIn nodeFieldIn parentIn firstIn nextIn tableIn beginsIn continuesIn markIn marksIn shortTable badCount badLimit badLength noWeight badWalk heavyNode badMarks shortScratch markRefused pageRefused badOutput noArchive headChecks nodeChecks weightChecks lentChecks markChecks filmChecks backChecks formChecks treeChecks planChecks judgeChecks writeChecks passes soundForm acceptedTree refusedForWeight feasiblePlan firstOf readTree judgePlan planned writeArchive isArchive readChecks readArchive
+unfolding Basics.pick Basics.when Basics.atPlace Basics.sumTo Basics.countTo Basics.firstTo Basics.lastTo
+    Basics.listTo Basics.every Basics.sameList
+    Table.wordAt Table.bytesOf Table.fieldAt Table.walkFrom Table.walkPlace Table.chainFrom Table.treeOf
+    Plan.prevAt Plan.ownerAt Plan.parentFrom Plan.parentAt Plan.markAt Plan.inRun Plan.goodMark Plan.pageFrom
+    Plan.pageOf Plan.pageCount Plan.pageWeight Plan.badMark Plan.heavyPage Plan.verdictOf Plan.runLastFrom
+    Plan.runLast
+    Runs.comesFrom Runs.comesAfter Runs.isRun Runs.isMember Runs.countOf Runs.holds Runs.runWith Runs.homeFrom
+    Runs.homeOf Runs.runWeight Runs.withinLimit Runs.runsOf Runs.pageRun
+    Steps.restSum Steps.gainSum Steps.takenCount Steps.largestGain Steps.takeEarliest Steps.reduceFrom Steps.reduce
+    Steps.better Steps.leastOf Steps.winner Steps.staying Steps.asMember Steps.runChoices Steps.running Steps.runOf
+    Steps.lightest Steps.stopsAt Steps.secondStart Steps.gainOf Steps.childOf Steps.childrenFrom Steps.childrenOf
+    Steps.choicesOf Steps.layMarks Steps.bestMarks Steps.levelMarks Steps.whole Steps.cutDown Steps.remainders
+    Steps.laySingle Steps.singleMarks Steps.sides Steps.remainder Steps.takenAt Steps.layPair Steps.pairMarks
+    Steps.entryAt Steps.stretched
+    Archive.headWords Archive.nextPage Archive.pageRecord Archive.nextOnPage Archive.nodeRecord Archive.archiveOf
+    Archive.nodesIn Archive.limitIn Archive.pagesIn Archive.pageFieldIn Archive.nodeFieldIn Archive.parentIn
+    Archive.firstIn Archive.nextIn Archive.tableIn Archive.beginsIn Archive.continuesIn Archive.markIn Archive.marksIn
+    Refusals.shortTable Refusals.badCount Refusals.badLimit Refusals.badLength Refusals.noWeight Refusals.badWalk
+    Refusals.heavyNode Refusals.badMarks Refusals.shortScratch Refusals.markRefused Refusals.pageRefused
+    Refusals.badOutput Refusals.noArchive Refusals.headChecks Refusals.nodeChecks Refusals.weightChecks
+    Refusals.lentChecks Refusals.markChecks Refusals.filmChecks Refusals.backChecks Refusals.formChecks
+    Refusals.treeChecks Refusals.planChecks Refusals.judgeChecks Refusals.writeChecks Refusals.passes
+    Refusals.soundForm Refusals.acceptedTree Refusals.refusedForWeight Refusals.feasiblePlan Refusals.firstOf
+    Refusals.readTree Refusals.judgePlan Refusals.planned Refusals.writeArchive Refusals.isArchive Refusals.readChecks
+    Refusals.readArchive
 computed b = b
 
 abbrev saysFeasible : Beside → ℕ → ℕ → Bool
@@ -59,15 +90,17 @@ saysFeasible Nothing p r = eqb 0 1
 abbrev answers : Answer → ℕ → ℕ → Bool
 answers a n p = eqb (a .number) n && eqb (a .place) p
 
--- A planner lent a table, marks and just enough scratch, with bytes of no meaning in both, leaves the marks m and cleared scratch and
--- accepts with p pages and root weight r; the runs of the marks hold the tree within the limit, with the same figures.
+-- A planner lent a table, marks and just enough scratch, with bytes of no meaning in both, leaves the marks m and
+-- cleared scratch and accepts with p pages and root weight r; the runs of the marks hold the tree within the limit,
+-- with the same figures.
 pub plans : (List ℕ → List ℕ → List ℕ → Planned) → List ℕ → List ℕ → ℕ → ℕ → Bool
 plans planner t m p r =
     let words : ℕ = scratchWords (nodeCount t) (limitOf t) in
     let out : Planned = planner t (replicate (nodeCount t) 9) (replicate words 7) in
     answers (out .answer) 0 0 && saysFeasible (out .answer .beside) p r && sameList (out .marks) m
     && sameList (out .scratch) (replicate words 0)
-    && holds t (runsOf t m) && withinLimit t (runsOf t m) && eqb (runCount (runsOf t m)) p && eqb (rootWeight t (runsOf t m)) r
+    && holds t (runsOf t m) && withinLimit t (runsOf t m) && eqb (runCount (runsOf t m)) p
+    && eqb (rootWeight t (runsOf t m)) r
 
 pub starred : List Bool
 starred =
@@ -95,6 +128,10 @@ starred-hold = refl
 abbrev keeps : Answer → List ℕ → List ℕ → ℕ → ℕ → Bool
 keeps a left lent n p = answers a n p && sameList left lent
 
+-- the writer accepts and leaves these bytes
+abbrev leaves : Written → List ℕ → Bool
+leaves w a = keeps (w .answer) (w .archive) a 0 0
+
 abbrev bestE : List ℕ
 bestE = 1 ∷ 1 ∷ 2 ∷ 1 ∷ 2 ∷ 2 ∷ []
 
@@ -113,7 +150,7 @@ refusals =
     ∷ answers (judgePlan (treeE 5 1) (1 ∷ 2 ∷ 0 ∷ 0 ∷ 0 ∷ 0 ∷ [])) 10 2
     ∷ answers (judgePlan (treeE 5 1) (1 ∷ 0 ∷ 0 ∷ 0 ∷ 0 ∷ 0 ∷ [])) 11 1
     ∷ answers (writeArchive firstEdition (treeE 5 1) bestE (replicate 77 7) .answer) 12 78
-    ∷ keeps (writeArchive firstEdition (treeE 5 1) bestE (replicate 78 7) .answer) (writeArchive firstEdition (treeE 5 1) bestE (replicate 78 7) .archive) (archiveOf firstEdition (treeE 5 1) bestE) 0 0
+    ∷ leaves (writeArchive firstEdition (treeE 5 1) bestE (replicate 78 7)) (archiveOf firstEdition (treeE 5 1) bestE)
     ∷ answers (readArchive firstEdition [] [] [] .answer) 13 0
     ∷ []
 
@@ -121,7 +158,7 @@ pub refusals-hold : every computed refusals ≡ true
 unfolding computed refusals
 refusals-hold = refl
 
--- E's best plan, written and read back into buffers of the right lengths, with the tree and the plan it was written from
+-- E's best plan, written and read back into buffers of the right lengths: the very tree and plan
 pub back : List Bool
 back =
     let r = readArchive firstEdition (archiveOf firstEdition (treeE 5 1) bestE) (replicate 52 7) (replicate 6 7) in
@@ -131,7 +168,7 @@ pub back-hold : every computed back ≡ true
 unfolding computed back
 back-hold = refl
 
--- ---- Sequences of sibling runs of E: its best plan's in any order, and those that do not hold it or not within the limit
+-- ---- Sequences of sibling runs of E: its best plan's in any order, and those that do not hold it, or too heavy
 
 abbrev run : ℕ → ℕ → Run
 run first last = record { first = first; last = last }

@@ -12,7 +12,8 @@ use Rattle.model.specs.Table.{Bytes, nodeCount, limitOf}
 use Rattle.model.specs.Plan.{pageCount, pageWeight}
 use Rattle.model.specs.Runs.{Run, holds, withinLimit, runCount, rootWeight, runsOf}
 use Rattle.model.specs.Archive.{pagesIn, pageFieldIn, archiveBytes}
-use Rattle.model.specs.Refusals.{scratchWords, acceptedTree, feasiblePlan, soundForm, answerOf, planBest, writeArchive}
+use Rattle.model.specs.Refusals.{scratchWords, acceptedTree, feasiblePlan, soundForm, answerOf, planBest}
+use Rattle.model.specs.Refusals.{writeArchive}
 use Rattle.model.specs.declared.Answer.{Answer}
 use Rattle.model.specs.declared.Edition.{Edition}
 use Rattle.model.specs.declared.Verdict.the-variants.{Feasible}

@@ -51,14 +51,16 @@ inRun m v = hasMark m begins v || hasMark m continues v
 unfoldable pub goodMark : List ℕ → List ℕ → ℕ → Bool
 goodMark t m v =
     pick (eqb v 1) (hasMark m begins v)
-    (pick (hasMark m continues v) (not (eqb (prevAt t v) 0) && inRun m (prevAt t v)) (hasMark m stays v || hasMark m begins v))
+    (pick (hasMark m continues v) (not (eqb (prevAt t v) 0) && inRun m (prevAt t v))
+    (hasMark m stays v || hasMark m begins v))
 
--- Pages are numbered from 1 by their first node, which begins a run. Any other node is on the page of the sibling just before it
--- where it continues a run, and else of its parent. f bounds the steps to the first node.
+-- Pages are numbered from 1 by their first node, which begins a run. Any other node is on the page of the sibling
+-- just before it where it continues a run, and else of its parent. f bounds the steps to the first node.
 unfoldable pub pageFrom : ℕ → List ℕ → List ℕ → ℕ → ℕ
 pageFrom zero t m v = 0
 pageFrom (suc f) t m v =
-    pick (hasMark m begins v) (countTo v (hasMark m begins)) (pageFrom f t m (pick (hasMark m continues v) (prevAt t v) (parentAt t v)))
+    pick (hasMark m begins v) (countTo v (hasMark m begins))
+    (pageFrom f t m (pick (hasMark m continues v) (prevAt t v) (parentAt t v)))
 
 unfoldable pub pageOf : List ℕ → List ℕ → ℕ → ℕ
 pageOf t m v = pageFrom v t m v

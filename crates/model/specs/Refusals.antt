@@ -1,12 +1,13 @@
--- Document 01, 'What is refused': the list of refusals, the checks of each entry in their order, and for each entry its answer and
--- every lent buffer left behind, as one definition of all it was lent.
+-- Document 01, 'What is refused': the list of refusals, the checks of each entry in their order, and for each entry
+-- its answer and every lent buffer left behind, as one definition of all it was lent.
 use Prim.Native.Nat.{ℕ, _+_, _*_}
 use mathlib.Core.Bool.{Bool, true, false, not, _&&_, _||_}
 use mathlib.Core.List.{List, [], _∷_, _++_}
 use lib.ListN.{length, replicate}
 use lib.Dec.{eqb, ltb, leb}
 use Rattle.model.specs.Basics.{pick, when, atPlace, firstTo, sameList}
-use Rattle.model.specs.Table.{maxNodes, maxLimit, nodeCount, limitOf, weightAt, tableBytes, walkPlace, Chain, treeOf}
+use Rattle.model.specs.Table.{maxNodes, maxLimit, nodeCount, limitOf, weightAt, tableBytes, walkPlace, Chain}
+use Rattle.model.specs.Table.{treeOf}
 use Rattle.model.specs.Plan.{badMark, heavyPage, pageCount, verdictOf}
 use Rattle.model.specs.Steps.{bestMarks, levelMarks, singleMarks, pairMarks}
 use Rattle.model.specs.Archive.{archiveOf, archiveBytes, nodesIn, tableIn, marksIn}
@@ -55,16 +56,19 @@ shortTable t = record { answer = refused 1; place = when (ltb (length t) 4) 0 }
 
 -- 2: N is 0 or over 1,024; place N
 unfoldable pub badCount : List ℕ → Check
-badCount t = record { answer = refused 2; place = when (eqb (nodeCount t) 0 || ltb maxNodes (nodeCount t)) (nodeCount t) }
+badCount t =
+    let n : ℕ = nodeCount t in record { answer = refused 2; place = when (eqb n 0 || ltb maxNodes n) n }
 
 -- 3: K is 0 or over 1,024; place K
 unfoldable pub badLimit : List ℕ → Check
-badLimit t = record { answer = refused 3; place = when (eqb (limitOf t) 0 || ltb maxLimit (limitOf t)) (limitOf t) }
+badLimit t =
+    let k : ℕ = limitOf t in record { answer = refused 3; place = when (eqb k 0 || ltb maxLimit k) k }
 
 -- 4: length is not 4 + 8 × N; place the right length
 unfoldable pub badLength : List ℕ → Check
 badLength t =
-    record { answer = refused 4; place = when (not (eqb (length t) (tableBytes (nodeCount t)))) (tableBytes (nodeCount t)) }
+    let size : ℕ = tableBytes (nodeCount t) in
+    record { answer = refused 4; place = when (not (eqb (length t) size)) size }
 
 -- 5: a weight is 0; place the first such node
 unfoldable pub noWeight : List ℕ → Check
@@ -157,8 +161,8 @@ unfoldable pub passes : List Check → Bool
 passes [] = true
 passes (c ∷ cs) = atPlace (c .place) (λ p. false) (passes cs)
 
--- A tree is of sound form when nothing that is checked before 7 applies to it, accepted when 7 does not apply to it either, and
--- refused for weight means 7.
+-- A tree is of sound form when nothing that is checked before 7 applies to it, accepted when 7 does not apply to it
+-- either, and refused for weight means 7.
 unfoldable pub soundForm : List ℕ → Bool
 soundForm t = passes (formChecks t)
 
@@ -224,7 +228,7 @@ writeArchive e t m out =
       archive = pick (passes (writeChecks e t m out)) (archiveOf e t m) out;
     }
 
--- an accepted tree and a feasible plan write this archive: those that it tells, with no more nodes than the edition takes
+-- an accepted tree and a feasible plan write this archive: those that it tells, within the edition's most nodes
 unfoldable pub isArchive : Edition → List ℕ → Bool
 isArchive e a =
     leb (nodesIn e a) (e .most)

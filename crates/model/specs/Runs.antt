@@ -57,8 +57,8 @@ unfoldable pub runWith : List ℕ → List Run → ℕ → Place
 runWith t [] v = Nowhere
 runWith t (r ∷ rs) v = pick (isMember t v r) (At (r .first)) (runWith t rs v)
 
--- A page is named by the first node of its run. A node in a run is on that run's page, any other on its parent's page; f bounds
--- the steps up.
+-- A page is named by the first node of its run. A node in a run is on that run's page, any other on its parent's
+-- page; f bounds the steps up.
 unfoldable pub homeFrom : ℕ → List ℕ → List Run → ℕ → ℕ
 homeFrom zero t rs v = 0
 homeFrom (suc f) t rs v = atPlace (runWith t rs v) (λ u. u) (homeFrom f t rs (parentAt t v))

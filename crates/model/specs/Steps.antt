@@ -8,7 +8,7 @@ use Rattle.model.specs.Basics.{pick}
 use Rattle.model.specs.Table.{Chain, end, node}
 use Rattle.model.specs.Plan.{stays, begins, continues}
 
--- ---- What all four share: siblings, or sides, from which something is taken off, the largest first, until their sum has room.
+-- ---- What all four share: from siblings, or sides, the largest is taken off first, until their sum has room
 
 -- what one of them weighs now, what can still be taken off it, and whether it was
 pub record Member : Type 0 where
@@ -38,8 +38,8 @@ takeEarliest g [] = []
 takeEarliest g (m ∷ ms) =
     pick (eqb (m .gain) g) (record { rest = m .rest - g; gain = 0; taken = true } ∷ ms) (m ∷ takeEarliest g ms)
 
--- Gains above 0 are taken, the largest first and the earlier among equals, until the sum is at most the room or none is left. A
--- gain that was taken is 0, so as many turns as there are members are enough.
+-- Gains above 0 are taken, the largest first and the earlier among equals, until the sum is at most the room or none
+-- is left. A gain that was taken is 0, so as many turns as there are members are enough.
 unfoldable pub reduceFrom : ℕ → ℕ → List Member → List Member
 reduceFrom zero room ms = ms
 reduceFrom (suc f) room ms =
@@ -60,7 +60,7 @@ pub record Choice : Type 0 where
   pub mark : ℕ
   pub second : Bool
 
--- an entry at a start, after some of the children: a count, a rest, and what becomes of these children, the last of them first
+-- an entry at a start, after some of the children: a count, a rest, and what becomes of them, the last child first
 pub record Entry : Type 0 where
   pub count : ℕ
   pub rest : ℕ
@@ -95,12 +95,16 @@ unfoldable pub runChoices : ℕ → List Member → List Choice
 runChoices mark [] = []
 runChoices mark (m ∷ ms) = record { mark = mark; second = m .taken } ∷ runChoices continues ms
 
--- A run whose members are reduced to ms, after the entry e before it: a candidate where their sum is at most K. Its count is that
--- entry's, plus 1, plus the second plans taken; its rest is that entry's.
+-- A run whose members are reduced to ms, after the entry e before it: a candidate where their sum is at most K. Its
+-- count is that entry's, plus 1, plus the second plans taken; its rest is that entry's.
 unfoldable pub running : ℕ → List Member → Entry → List Entry
 running K ms e =
     pick (leb (restSum ms) K)
-    (record { count = e .count + 1 + takenCount ms; rest = e .rest; choices = reverse (runChoices begins ms) ++ e .choices } ∷ [])
+    (record {
+      count = e .count + 1 + takenCount ms;
+      rest = e .rest;
+      choices = reverse (runChoices begins ms) ++ e .choices;
+    } ∷ [])
     []
 
 unfoldable pub runOf : ℕ → List Child → List Member
@@ -114,13 +118,15 @@ lightest run = restSum (map asMember run) - gainSum (map asMember run)
 unfoldable pub stopsAt : ℕ → List Child → Bool
 stopsAt K run = leb K (lightest run)
 
--- The entry at start s after the children of the list, the last child first; and the candidates whose run goes on to the left of a
--- run already tried, the earliest child first.
+-- The entry at start s after the children of the list, the last child first; and the candidates whose run goes on to
+-- the left of a run already tried, the earliest child first.
 unfoldable mutual
   pub entryAt : ℕ → List Child → ℕ → Entry
   entryAt K [] s = record { count = 0; rest = s; choices = [] }
   entryAt K (k ∷ ks) s =
-      winner s (staying K s k (entryAt K ks (s + k .rest)) ++ (running K (runOf K (k ∷ [])) (entryAt K ks s) ++ stretched K s (k ∷ []) ks))
+      winner s
+      (staying K s k (entryAt K ks (s + k .rest))
+      ++ (running K (runOf K (k ∷ [])) (entryAt K ks s) ++ stretched K s (k ∷ []) ks))
 
   pub stretched : ℕ → ℕ → List Child → List Child → List Entry
   stretched K s run [] = []
@@ -178,7 +184,8 @@ levelMarks K c = layMarks false K c rootChoice
 unfoldable pub whole : ℕ → Member
 whole r = record { rest = r; gain = r; taken = false }
 
--- While a node of weight w and its uncut remainder exceed K, the child with the heaviest remainder is cut, the earliest among equals.
+-- While a node of weight w and its uncut remainder exceed K, the child with the heaviest remainder is cut, the
+-- earliest among equals.
 unfoldable pub cutDown : ℕ → ℕ → List Member → List Member
 cutDown K w ms = reduce (K - w) ms
 

@@ -60,8 +60,8 @@ nextAt t v = fieldAt t v 3
 abbrev pub tableBytes : ℕ → ℕ
 tableBytes n = 4 + 8 * n
 
--- The walk of the chains, child before sibling: where it fails, at the number of nodes met in order before that. The list is
--- what is still to be visited; 0 is the end of a chain. Each node met puts two numbers in the place of one.
+-- The walk of the chains, child before sibling: where it fails, at the number of nodes met in order before that. The
+-- list is what is still to be visited; 0 is the end of a chain. Each node met puts two numbers in the place of one.
 unfoldable pub walkFrom : ℕ → List ℕ → ℕ → ℕ → List ℕ → Place
 walkFrom zero t n met pending = At met
 walkFrom (suc f) t n met [] = when (not (eqb met n)) met

@@ -18,8 +18,8 @@ pub enum Verdict {
     Failed(Cause),
 }
 
-// What stands beside a number and a place: the judge's verdict with acceptance and with 10 and 11, wherever a plan is given or made; and nothing
-// with every other refusal, and from the tree reader.
+// What stands beside a number and a place: the judge's verdict with acceptance and with 10 and 11, wherever a plan is
+// given or made; and nothing with every other refusal, and from the tree reader.
 pub enum Beside {
     Given(Verdict),
     Nothing,
@@ -32,7 +32,8 @@ pub struct Answer {
     pub beside: Beside,
 }
 
-// How an edition of the archive is laid out: how many words its head and each page record have, and how many nodes it takes at most.
+// How an edition of the archive is laid out: how many words its head and each page record have, and how many nodes it
+// takes at most.
 pub struct Edition {
     pub head: u16,
     pub page: u16,

@@ -6,14 +6,13 @@ use Prim.Native.Nat.{ℕ, zero, suc, _+_, _-_, _*_, _≤_, _<_}
 use native.Mathlib.Omega.{arith}
 use mathlib.Core.Path.{_≡_, refl, sym, _∙_, ap, ap₂}
 use mathlib.Core.Bool.{Bool, true}
-use mathlib.Core.List.{List, _∷_, _++_, append-assoc}
+use mathlib.Core.List.{List, _∷_, _++_, append-assoc, append-nil}
 use lib.ListN.{length, set, drop, length-set}
 use lib.Seq.{drop-cons, drop-length, getD-set-same, getD-set-other}
 use lib.Dec.{eqb}
 use Rattle.model.specs.Basics.{pick}
 use Rattle.model.specs.Table.{maxLimit, nodeCount, limitOf, firstAt, nextAt, weightAt, Chain, treeOf}
 use Rattle.model.specs.Steps.{sides, remainder, takenAt, layPair, pairMarks}
-use Rattle.theory.specs.Ranges.{append-nil}
 use Rattle.theory.specs.TableFacts.{SoundFacts, AcceptedFacts}
 use Rattle.theory.specs.TableNumbered.{Numbered, none, some, numbered-le, Between, sound-tree}
 use Rattle.theory.specs.TableChain.{chainAt, chain-is}

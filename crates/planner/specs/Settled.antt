@@ -5,7 +5,7 @@ use Prim.Native.Nat.{ℕ, suc, _+_, _-_, _≤_, _<_}
 use native.Mathlib.Omega.{arith}
 use mathlib.Core.Path.{_≡_, refl, sym, _∙_, ap}
 use mathlib.Core.Bool.{Bool, true, false}
-use mathlib.Core.List.{List, [], _∷_, _++_}
+use mathlib.Core.List.{List, [], _∷_, _++_, append-nil}
 use lib.ListN.{length, set, drop, length-set}
 use lib.Seq.{drop-length}
 use lib.Dec.{eqb}
@@ -13,7 +13,6 @@ use borrow.Author.Tests.{eqb-true, eqb-false}
 use Rattle.model.specs.Basics.{pick}
 use Rattle.model.specs.Table.{nodeCount, limitOf, firstAt, nextAt, weightAt, labelAt, Chain, end, node, treeOf}
 use Rattle.model.specs.Steps.{Member, restSum, whole, cutDown, remainders, laySingle, singleMarks}
-use Rattle.theory.specs.Ranges.{append-nil}
 use Rattle.theory.specs.TableFacts.{SoundFacts}
 use Rattle.theory.specs.PlanShape.{size}
 use Rattle.theory.specs.TableNumbered.{Numbered, none, some, numbered-le, numbered-size, sound-tree, sound-root}

@@ -39,7 +39,8 @@ pending-set s i x (suc h) p =
     ap₂ _∷_ (getD-set-other s i h x 0 q) (pending-set s i x h (omega arith))
 
 -- two links pushed
-pending-push : (s : List ℕ) (a x y : ℕ) → a + 1 < length s → pendingOf (set (set s a x) (a + 1) y) (a + 2) ≡ y ∷ x ∷ pendingOf s a
+pending-push : (s : List ℕ) (a x y : ℕ) → a + 1 < length s → pendingOf (set (set s a x) (a + 1) y) (a + 2)
+    ≡ y ∷ x ∷ pendingOf s a
 unfolding pendingOf
 pending-push s a x y long =
     let e : a + 2 ≡ suc (suc a) = omega arith in
@@ -60,7 +61,8 @@ unfolding walkFrom pick
 meets f t n met zero ps e h = absurd (omega arith)
 meets f t n met (suc v) ps e h =
     let q : v ≡ met = omega arith in
-    simp (eq-eqb v met q, lt-ltb met n h) (ap (λ (k : ℕ). walkFrom f t n (suc k) (firstAt t (suc v) ∷ nextAt t (suc v) ∷ ps)) (sym q))
+    simp (eq-eqb v met q, lt-ltb met n h)
+    (ap (λ (k : ℕ). walkFrom f t n (suc k) (firstAt t (suc v) ∷ nextAt t (suc v) ∷ ps)) (sym q))
 
 stops : (f : ℕ) (t : List ℕ) (n met v : ℕ) (ps : List ℕ) → (v ≡ 0 → ⊥) → (v ≡ met + 1 → met < n → ⊥)
     → walkFrom (suc f) t n met (v ∷ ps) ≡ At met
@@ -68,7 +70,8 @@ unfolding walkFrom pick
 stops f t n met zero ps z e = absurd (z refl)
 stops f t n met (suc v) ps z e = go (decLt met n)
   where
-    go : Dec (met < n) → pick (eqb v met && ltb met n) (walkFrom f t n (suc met) (firstAt t (suc v) ∷ nextAt t (suc v) ∷ ps)) (At met) ≡ At met
+    go : Dec (met < n) → pick (eqb v met && ltb met n)
+        (walkFrom f t n (suc met) (firstAt t (suc v) ∷ nextAt t (suc v) ∷ ps)) (At met) ≡ At met
     go (yes h) = simp (ne-eqb v met (λ q. e (omega arith) h))
     go (no h) = let g : n ≤ met = omega arith in simp (le-ltb met n g, and-false)
 
@@ -96,7 +99,8 @@ module _ (t : List ℕ) (n met : ℕ) (s : List ℕ) (h : ℕ) where
   walk-short z e = walk-empty z ∙ simp (ne-eqb met n e)
 
   module _ (high : 0 < h) where
-    walk-top : walkFrom (fuel n met h) t n met (pendingOf s h) ≡ walkFrom (fuel n met h) t n met (getD s (h - 1) 0 ∷ pendingOf s (h - 1))
+    walk-top : walkFrom (fuel n met h) t n met (pendingOf s h) ≡ walkFrom (fuel n met h) t n met
+        (getD s (h - 1) 0 ∷ pendingOf s (h - 1))
     walk-top = ap (walkFrom (fuel n met h) t n met) (pending-top s h high)
 
     -- the end of a chain is dropped
@@ -108,7 +112,8 @@ module _ (t : List ℕ) (n met : ℕ) (s : List ℕ) (h : ℕ) where
         walk-top ∙ rw (e, f) refl
 
     -- a node v in its turn is met, and its two links take its place
-    pub turn-met : (v x y : ℕ) → getD s (h - 1) 0 ≡ v → x ≡ nextAt t v → y ≡ firstAt t v → v ≡ met + 1 → met < n → h < length s
+    pub turn-met : (v x y : ℕ) → getD s (h - 1) 0 ≡ v → x ≡ nextAt t v → y ≡ firstAt t v → v ≡ met + 1 → met < n
+        → h < length s
         → walkFrom (fuel n met h) t n met (pendingOf s h)
         ≡ walkFrom (fuel n v (h - 1 + 2)) t n v (pendingOf (set (set s (h - 1) x) (h - 1 + 1) y) (h - 1 + 2))
     turn-met v x y e ex ey q m long =

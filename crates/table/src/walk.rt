@@ -8,8 +8,8 @@ ghost use mathlib.Core.List.{[], _∷_};
 ghost use Prim.Native.Nat.{_+_, _*_, _≤_};
 ghost use Rattle.model.specs.Table.{maxNodes, nodeCount, walkFrom, walkPlace};
 
-// Where the walk from node 1 fails. What is still to be visited is a stack; each node met puts two links in the place of one, so
-// that it is never higher than the nodes met and one.
+// Where the walk from node 1 fails. What is still to be visited is a stack; each node met puts two links in the place
+// of one, so that it is never higher than the nodes met and one.
 fn walk_from_root(table: &[u8], nodes: u16) -> Place
     requires { ⌜ nodes ≤ maxNodes ⌝ }
     ensures { λ r. ⌜ r ≡ walkFrom (2 * nodes + 2) (now (table .entry)) nodes 0 (1 ∷ []) ⌝ }

@@ -1,264 +1,320 @@
--- The answers of the archive's writer and reader, case by case, and what the answer of a writer tells of an archive. Assumes nothing.
-use Prim.Native.Nat.{ℕ}
-use mathlib.Core.Bool.{true, false, not, _&&_}
+-- The answers of the archive's writer and reader, case by case, and what each tells. The writer is also told as it goes on from the
+-- tree's answer, whatever that is: so a reader may judge its tree otherwise than the writer's entry does.
+-- Defines filmAnswer, writeFrom, WriteDone. Proves write-then, write-done, writer-done, writer-refused; read-none, read-table,
+-- read-marks, read-done, reader-done, read-thirteen. Assumes nothing.
+use Prim.Native.Nat.{ℕ, _≤_}
+use native.Mathlib.Omega.{arith}
+use mathlib.Core.Bool.{Bool, true, false, not, _&&_, true≢false}
 use mathlib.Core.Path.{_≡_, refl, sym, _∙_, ap, ap₂}
-use mathlib.Core.Logic.{_⊎_, inl, inr}
 use mathlib.Core.List.{List, [], _∷_}
 use lib.ListN.{length}
 use lib.Dec.{eqb}
 use borrow.Author.Tests.{eq-eqb, ne-eqb, not-false}
-use Rattle.model.specs.Basics.{pick, when, every, sameList}
+use Rattle.model.specs.Basics.{pick, when, atPlace, every, sameList}
 use Rattle.model.specs.Table.{nodeCount, tableBytes}
 use Rattle.model.specs.Plan.{pageCount, verdictOf}
-use Rattle.model.specs.Archive.{archiveOf, archiveBytes, tableIn, marksIn}
-use Rattle.model.specs.Refusals.{Check, badMarks, badOutput, noArchive, judgeChecks, writeChecks, readChecks, passes, feasiblePlan, answerOf, refused, firstOf, judgePlan, Written, writeArchive, isArchive, readArchive}
+use Rattle.model.specs.Archive.{archiveOf, archiveBytes, nodesIn, tableIn, marksIn}
+use Rattle.model.specs.Refusals.{Check, badMarks, badOutput, noArchive, markChecks, judgeChecks, filmChecks, backChecks}
+use Rattle.model.specs.Refusals.{writeChecks, readChecks, passes, feasiblePlan, answerOf, refused, firstOf, readTree, judgePlan}
+use Rattle.model.specs.Refusals.{Written, writeArchive, isArchive, Restored, readArchive}
+use Rattle.model.specs.declared.Edition.{Edition}
 use Rattle.model.specs.declared.Place.the-variants.{At, Nowhere}
 use Rattle.model.specs.declared.Answer.{Answer}
-use Rattle.theory.specs.Bools.{bool-cases, both-true, and-true, and-false-left, and-false-right}
-use Rattle.theory.specs.Ranges.{pick-true, pick-false, when-true, when-false, when-nowhere, atPlace-at, atPlace-nowhere}
-use Rattle.theory.specs.TableFacts.{passes-cons, passes-first, passes-append}
-use Rattle.theory.specs.Checks.{firstOf-pass, firstOf-stop, firstOf-all, accepted-pass, never-first, judge-never, write-never, read-never}
-use Rattle.theory.specs.PlanFeasible.{feasible-judged, judged-answer}
-use Rattle.theory.specs.ArchiveWords.{length-archive}
-use Rattle.theory.specs.ArchiveBack.{sameList-true}
+use Rattle.theory.specs.Bools.{never-true, both-true}
+use Rattle.theory.specs.Ranges.{when-true, when-false, when-nowhere, atPlace-at, atPlace-nowhere}
+use Rattle.theory.specs.Checks.{Pass, pass-all, passes-both, both-pass, firstOf-pass, firstOf-stop, firstOf-all}
+use Rattle.theory.specs.Checks.{never-first, accepted-pass, mark-plain, judge-never, write-never, read-never}
+use Rattle.theory.specs.Checks.{andThen, then-next, then-stands, then-both}
+use Rattle.theory.specs.JudgeAnswers.{marksAnswer, judge-then}
+use Rattle.theory.specs.TableFacts.{AcceptedFacts}
+use Rattle.theory.specs.PlanFeasible.{Judged, marks-judged, feasible-parts, feasible-judged, judged-verdict, judge-feasible}
+use Rattle.theory.specs.PlanFeasible.{feasible-judge}
+use Rattle.theory.specs.ArchiveWords.{Described, length-archive}
+use Rattle.theory.specs.ArchiveBack.{sameList-true, read-write}
 
--- ---- One check
+-- ---- A list of checks: the answer, and whether all pass
 
-firstOf-at : (c : Check) (cs : List Check) (a : Answer) (p : ℕ) → c .place ≡ At p → firstOf (c ∷ cs) a ≡ c .answer p
-unfolding firstOf
-firstOf-at c cs a p e = atPlace-at (c .place) p (c .answer) (firstOf cs a) e
+abbrev outcome : List Check → Answer → Answer × Bool
+outcome cs a = (firstOf cs a, passes cs)
 
-firstOf-next : (c : Check) (cs : List Check) (a : Answer) → c .place ≡ Nowhere → firstOf (c ∷ cs) a ≡ firstOf cs a
-unfolding firstOf
-firstOf-next c cs a e = atPlace-nowhere (c .place) (c .answer) (firstOf cs a) e
+outcome-stop : (c : Check) (cs : List Check) (a : Answer) (p : ℕ) → c .place ≡ At p
+    → outcome (c ∷ cs) a ≡ (c .answer p, false)
+unfolding firstOf passes
+outcome-stop c cs a p e =
+    ap₂ (λ (x : Answer) (y : Bool). (x, y)) (atPlace-at (c .place) p (c .answer) (firstOf cs a) e)
+    (atPlace-at (c .place) p (λ q. false) (passes cs) e)
 
-passes-nil : passes [] ≡ true
-unfolding passes
-passes-nil = refl
+outcome-next : (c : Check) (cs : List Check) (a : Answer) → c .place ≡ Nowhere → outcome (c ∷ cs) a ≡ outcome cs a
+unfolding firstOf passes
+outcome-next c cs a e =
+    ap₂ (λ (x : Answer) (y : Bool). (x, y)) (atPlace-nowhere (c .place) (c .answer) (firstOf cs a) e)
+    (atPlace-nowhere (c .place) (λ q. false) (passes cs) e)
 
-passes-at : (c : Check) (cs : List Check) (p : ℕ) → c .place ≡ At p → passes (c ∷ cs) ≡ false
-unfolding passes
-passes-at c cs p e = atPlace-at (c .place) p (λ q. false) (passes cs) e
+outcome-none : (a : Answer) → outcome [] a ≡ (a, true)
+unfolding firstOf passes
+outcome-none a = refl
 
--- ---- The judge
+-- a number that is to be n, as the checks of a length ask
+unequal : (x n : ℕ) → (x ≡ n → ⊥) → when (not (eqb x n)) n ≡ At n
+unequal x n h = when-true (not (eqb x n)) n (ap not (ne-eqb x n h))
 
--- no refusal: a feasible plan
-pub judge-feasible : (t m : List ℕ) → judgePlan t m .number ≡ 0 → feasiblePlan t m ≡ true
-unfolding judgePlan feasiblePlan
-judge-feasible t m e = accepted-pass (judgeChecks t m) (answerOf (verdictOf t m)) (judge-never t m) e
-
-pub judge-zero : (t m : List ℕ) → feasiblePlan t m ≡ true → judgePlan t m .number ≡ 0
-judge-zero t m e = ap (λ (a : Answer). a .number) (judged-answer (feasible-judged t m e))
-
-pub feasible-judge : (t m : List ℕ) → feasiblePlan t m ≡ true → judgePlan t m ≡ answerOf (verdictOf t m)
-unfolding judgePlan feasiblePlan
-feasible-judge t m e = firstOf-all (judgeChecks t m) (answerOf (verdictOf t m)) e
+equal : (x n : ℕ) → x ≡ n → when (not (eqb x n)) n ≡ Nowhere
+equal x n h = when-false (not (eqb x n)) n (ap not (eq-eqb x n h))
 
 -- ---- The writer
 
-module _ (t m out : List ℕ) where
+-- a feasible plan's answer is acceptance
+pub feasible-zero : (t m : List ℕ) → feasiblePlan t m ≡ true → answerOf (verdictOf t m) .number ≡ 0
+feasible-zero t m f = ap (λ v. answerOf v .number) (judged-verdict (feasible-judged t m f))
+
+-- the tree's and the marks' answers were acceptance: nothing is found in the plan, and the answer is its verdict's
+pub marks-accepted : (t m : List ℕ) → AcceptedFacts t → marksAnswer t m .number ≡ 0
+    → Judged t m × (marksAnswer t m ≡ answerOf (verdictOf t m))
+unfolding marksAnswer
+marks-accepted t m a z =
+    let p = accepted-pass (markChecks t m) (answerOf (verdictOf t m)) (mark-plain t m .0) z in
+    (marks-judged t m a p, firstOf-all (markChecks t m) (answerOf (verdictOf t m)) p)
+
+module _ (e : Edition) (t m out : List ℕ) where
   abbrev size : ℕ
-  size = archiveBytes (pageCount t m) (nodeCount t)
+  size = archiveBytes e (pageCount t m) (nodeCount t)
 
-  written-by : {a : Answer} {o : List ℕ} → a ≡ firstOf (writeChecks t m out) (answerOf (verdictOf t m))
-      → o ≡ pick (passes (writeChecks t m out)) (archiveOf t m) out → record { answer = a; archive = o } ≡ writeArchive t m out
-  unfolding writeArchive
-  written-by e h = ap₂ (λ x y. record { answer = x; archive = y }) e h
+  abbrev verdict : Answer
+  verdict = answerOf (verdictOf t m)
 
-  -- a refusal of the judge is the writer's
-  pub write-refuses : (judgePlan t m .number ≡ 0 → ⊥) → record { answer = judgePlan t m; archive = out } ≡ writeArchive t m out
-  unfolding judgePlan writeChecks feasiblePlan
-  write-refuses h =
-      written-by
-      (sym (firstOf-stop (judgeChecks t m) (badOutput size out ∷ []) (answerOf (verdictOf t m)) (answerOf (verdictOf t m)) fails))
-      (sym
-      (pick-false (passes (writeChecks t m out)) (archiveOf t m) out
-      (passes-append (judgeChecks t m) (badOutput size out ∷ [])
-      ∙ and-false-left (passes (judgeChecks t m)) (passes (badOutput size out ∷ [])) fails)))
-    where
-      none : (feasiblePlan t m ≡ true) ⊎ (feasiblePlan t m ≡ false) → passes (judgeChecks t m) ≡ false
-      none (inl e) = absurd (h (judge-zero t m e))
-      none (inr e) = e
+  -- the writer's answer where the judge's was acceptance
+  unfoldable pub filmAnswer : Answer
+  filmAnswer = firstOf (filmChecks e t m out) (answerOf (verdictOf t m))
 
-      fails : passes (judgeChecks t m) ≡ false
-      fails = none (bool-cases (feasiblePlan t m))
+  film-short : (length out ≡ size → ⊥) → outcome (filmChecks e t m out) verdict ≡ (refused 12 size, false)
+  unfolding filmChecks badOutput
+  film-short other = outcome-stop (badOutput size out) [] verdict size (unequal (length out) size other)
 
-  module _ (e : judgePlan t m .number ≡ 0) where
-    checks-pass : passes (judgeChecks t m) ≡ true
-    unfolding feasiblePlan
-    checks-pass = judge-feasible t m e
+  film-long : length out ≡ size → outcome (filmChecks e t m out) verdict ≡ (verdict, true)
+  unfolding filmChecks badOutput
+  film-long fits = outcome-next (badOutput size out) [] verdict (equal (length out) size fits) ∙ outcome-none verdict
+
+  -- the writer that goes on from the answer r of what judged the tree
+  unfoldable pub writeFrom : Answer → Written
+  writeFrom r =
+      let given : Answer = andThen (andThen r (marksAnswer t m)) filmAnswer in
+      record { answer = given; archive = pick (eqb (given .number) 0) (archiveOf e t m) out }
+
+  -- as a program gives its answer, and leaves the output or the archive
+  module _ (r j : Answer) (is : j ≡ andThen r (marksAnswer t m)) where
+    from-by : (b : Bool) {s : Answer} → s ≡ andThen j filmAnswer → eqb (s .number) 0 ≡ b
+        → record { answer = s; archive = pick b (archiveOf e t m) out } ≡ writeFrom r
+    unfolding writeFrom
+    from-by b h k = rw (← is, ← h, k)
+
+    -- a refusal of the tree or of the marks
+    pub from-refused : (j .number ≡ 0 → ⊥) → record { answer = j; archive = out } ≡ writeFrom r
+    unfolding pick
+    from-refused other = from-by false (sym (then-stands j filmAnswer other)) (ne-eqb (j .number) 0 other)
 
     -- 12: the output has the wrong length
-    pub write-short : (length out ≡ archiveBytes (pageCount t m) (nodeCount t) → ⊥)
-        → record { answer = refused 12 (archiveBytes (pageCount t m) (nodeCount t)); archive = out } ≡ writeArchive t m out
-    unfolding writeChecks badOutput
-    write-short other =
-        let place : when (not (eqb (length out) size)) size ≡ At size =
-        when-true (not (eqb (length out) size)) size (ap not (ne-eqb (length out) size other)) in
-        written-by
-        (sym
-        (firstOf-pass (judgeChecks t m) (badOutput size out ∷ []) (answerOf (verdictOf t m)) checks-pass
-        ∙ firstOf-at (badOutput size out) [] (answerOf (verdictOf t m)) size place))
-        (sym
-        (pick-false (passes (writeChecks t m out)) (archiveOf t m) out
-        (passes-append (judgeChecks t m) (badOutput size out ∷ [])
-        ∙ and-false-right (passes (judgeChecks t m)) (passes (badOutput size out ∷ [])) (passes-at (badOutput size out) [] size place))))
+    pub from-short : j .number ≡ 0 → (length out ≡ archiveBytes e (pageCount t m) (nodeCount t) → ⊥)
+        → record { answer = refused 12 (archiveBytes e (pageCount t m) (nodeCount t)); archive = out } ≡ writeFrom r
+    unfolding pick filmAnswer
+    from-short z other =
+        from-by false (sym (then-next j filmAnswer z ∙ ap (λ (x : Answer × Bool). x .0) (film-short other))) refl
 
-    pub write-done : length out ≡ archiveBytes (pageCount t m) (nodeCount t)
-        → record { answer = judgePlan t m; archive = archiveOf t m } ≡ writeArchive t m out
-    unfolding writeChecks badOutput
-    write-done fits =
-        let place : when (not (eqb (length out) size)) size ≡ Nowhere =
-        when-false (not (eqb (length out) size)) size (ap not (eq-eqb (length out) size fits)) in
-        let all : passes (writeChecks t m out) ≡ true =
-        passes-append (judgeChecks t m) (badOutput size out ∷ [])
-        ∙ and-true (passes (judgeChecks t m)) (passes (badOutput size out ∷ [])) checks-pass
-        (passes-cons (badOutput size out) [] place ∙ passes-nil) in
-        written-by
-        (feasible-judge t m (judge-feasible t m e) ∙ sym (firstOf-all (writeChecks t m out) (answerOf (verdictOf t m)) all))
-        (sym (pick-true (passes (writeChecks t m out)) (archiveOf t m) out all))
+    pub from-done : AcceptedFacts t → j .number ≡ 0 → length out ≡ archiveBytes e (pageCount t m) (nodeCount t)
+        → record { answer = j; archive = archiveOf e t m } ≡ writeFrom r
+    unfolding pick filmAnswer
+    from-done a z fits =
+        let parts = then-both r (marksAnswer t m) (sym (ap (λ (x : Answer). x .number) is) ∙ z) in
+        let mine : j ≡ verdict = is ∙ then-next r (marksAnswer t m) (parts .0) ∙ marks-accepted t m a (parts .1) .1 in
+        from-by true (mine ∙ sym (then-next j filmAnswer z ∙ ap (λ (x : Answer × Bool). x .0) (film-long fits)))
+        (eq-eqb (j .number) 0 z)
+
+  -- ---- The entry
+
+  pub write-feasible : passes (writeChecks e t m out) ≡ true → feasiblePlan t m ≡ true
+  unfolding writeChecks feasiblePlan
+  write-feasible p = passes-both (judgeChecks t m) (filmChecks e t m out) p .0
+
+  -- it accepts just where its checks pass
+  write-zero : passes (writeChecks e t m out) ≡ true → firstOf (writeChecks e t m out) verdict .number ≡ 0
+  write-zero p =
+      ap (λ (x : Answer). x .number) (firstOf-all (writeChecks e t m out) verdict p)
+      ∙ feasible-zero t m (write-feasible p)
+
+  zero-passes : (b : Bool) → passes (writeChecks e t m out) ≡ b → eqb (firstOf (writeChecks e t m out) verdict .number) 0 ≡ b
+  zero-passes true p = eq-eqb _ 0 (write-zero p)
+  zero-passes false p =
+      ne-eqb _ 0
+      (λ z. true≢false (sym (accepted-pass (writeChecks e t m out) verdict (write-never e t m out) z) ∙ p))
+
+  answer-then : (b : Bool) → passes (judgeChecks t m) ≡ b
+      → firstOf (writeChecks e t m out) verdict ≡ andThen (judgePlan t m) filmAnswer
+  unfolding writeChecks judgePlan filmAnswer feasiblePlan
+  answer-then true p =
+      firstOf-pass (judgeChecks t m) (filmChecks e t m out) verdict p
+      ∙ sym
+      (then-next _ _ (ap (λ (x : Answer). x .number) (firstOf-all (judgeChecks t m) verdict p) ∙ feasible-zero t m p))
+  answer-then false p =
+      firstOf-stop (judgeChecks t m) (filmChecks e t m out) verdict verdict p
+      ∙ sym
+      (then-stands _ _ (λ z. true≢false (sym (accepted-pass (judgeChecks t m) verdict (judge-never t m) z) ∙ p)))
+
+  -- the entry goes on from the tree reader's answer
+  pub write-then : writeFrom (readTree t) ≡ writeArchive e t m out
+  unfolding writeFrom writeArchive
+  write-then =
+      rw (← judge-then t m, ← answer-then (passes (judgeChecks t m)) refl, zero-passes (passes (writeChecks e t m out)) refl)
+
+  pub write-done : feasiblePlan t m ≡ true → length out ≡ archiveBytes e (pageCount t m) (nodeCount t)
+      → writeArchive e t m out ≡ record { answer = answerOf (verdictOf t m); archive = archiveOf e t m }
+  unfolding writeArchive writeChecks feasiblePlan pick
+  write-done f fits =
+      let all : passes (writeChecks e t m out) ≡ true =
+      both-pass (judgeChecks t m) (filmChecks e t m out) f (ap (λ (x : Answer × Bool). x .1) (film-long fits)) in
+      rw (all, firstOf-all (writeChecks e t m out) verdict all)
+
+  -- on refusal the output is as lent
+  pub write-kept : (writeArchive e t m out .answer .number ≡ 0 → ⊥) → writeArchive e t m out .archive ≡ out
+  unfolding writeArchive pick
+  write-kept h = rw (never-true (passes (writeChecks e t m out)) (λ p. h (write-zero p)))
 
   -- ---- What the writer's answer tells: it wrote an archive, or none of that length is written
 
-  pub write-feasible : passes (writeChecks t m out) ≡ true → feasiblePlan t m ≡ true
-  unfolding writeChecks feasiblePlan
-  write-feasible e =
-      both-true (passes (judgeChecks t m)) (passes (badOutput size out ∷ [])) (sym (passes-append (judgeChecks t m) (badOutput size out ∷ [])) ∙ e) .0
+  pub record WriteDone : Type 0 where
+    pub feasible : feasiblePlan t m ≡ true
+    pub few : nodeCount t ≤ e .most
+    pub wrote : writeArchive e t m out ≡ record { answer = answerOf (verdictOf t m); archive = archiveOf e t m }
 
-  pub writer-done : writeArchive t m out .answer .number ≡ 0
-      → (feasiblePlan t m ≡ true) × (writeArchive t m out ≡ record { answer = answerOf (verdictOf t m); archive = archiveOf t m })
-  unfolding writeArchive
-  writer-done z =
-      let all : passes (writeChecks t m out) ≡ true = accepted-pass (writeChecks t m out) (answerOf (verdictOf t m)) (write-never t m out) z in (
-        write-feasible all,
-        sym
-            (written-by (sym (firstOf-all (writeChecks t m out) (answerOf (verdictOf t m)) all))
-            (sym (pick-true (passes (writeChecks t m out)) (archiveOf t m) out all))),
-      )
+  module _ (d : Described e) where
+    pub writer-done : writeArchive e t m out .answer .number ≡ 0 → WriteDone
+    unfolding writeArchive pick
+    writer-done z =
+        let all : passes (writeChecks e t m out) ≡ true =
+        accepted-pass (writeChecks e t m out) verdict (write-never e t m out) z in
+        let f = write-feasible all in
+        record {
+          feasible = f;
+          few = d .most t (feasible-parts t m f .0);
+          wrote = rw (all, firstOf-all (writeChecks e t m out) verdict all);
+        }
 
-  pub writer-refused : (writeArchive t m out .answer .number ≡ 0 → ⊥) → (a : List ℕ) → length out ≡ length a
-      → (feasiblePlan t m && sameList (archiveOf t m) a) ≡ false
-  writer-refused h a long = go (bool-cases (feasiblePlan t m)) (bool-cases (sameList (archiveOf t m) a))
-    where
-      go : (feasiblePlan t m ≡ true) ⊎ (feasiblePlan t m ≡ false)
-          → (sameList (archiveOf t m) a ≡ true) ⊎ (sameList (archiveOf t m) a ≡ false)
-          → (feasiblePlan t m && sameList (archiveOf t m) a) ≡ false
-      go (inl e) (inl s) =
-          let zero-number = judge-zero t m e in
-          let fits : length out ≡ archiveBytes (pageCount t m) (nodeCount t) =
-          long ∙ ap length (sym (sameList-true (archiveOf t m) a s)) ∙ length-archive t m in
-          absurd (h (ap (λ (w : Written). w .answer .number) (sym (write-done zero-number fits)) ∙ zero-number))
-      go (inl e) (inr s) = and-false-right (feasiblePlan t m) (sameList (archiveOf t m) a) s
-      go (inr e) s = and-false-left (feasiblePlan t m) (sameList (archiveOf t m) a) e
+    pub writer-refused : (writeArchive e t m out .answer .number ≡ 0 → ⊥) → (a : List ℕ) → length out ≡ length a
+        → (feasiblePlan t m && sameList (archiveOf e t m) a) ≡ false
+    writer-refused h a long =
+        never-true _
+        (λ y.
+        let both = both-true (feasiblePlan t m) (sameList (archiveOf e t m) a) y in
+        let fits : length out ≡ size =
+        long ∙ ap length (sym (sameList-true (archiveOf e t m) a (both .1))) ∙ length-archive d t m in
+        h (ap (λ (w : Written). w .answer .number) (write-done (both .0) fits) ∙ feasible-zero t m (both .0)))
 
 -- ---- The reader
 
-module _ (a t m : List ℕ) where
-  restored-by : {r : Answer} {x y : List ℕ} → r ≡ firstOf (readChecks a t m) (answerOf (verdictOf (tableIn a) (marksIn a)))
-      → x ≡ pick (passes (readChecks a t m)) (tableIn a) t → y ≡ pick (passes (readChecks a t m)) (marksIn a) m
-      → record { answer = r; table = x; marks = y } ≡ readArchive a t m
-  unfolding readArchive
-  restored-by e h k i = record { answer = e i; table = h i; marks = k i }
+module _ (e : Edition) (a t m : List ℕ) where
+  abbrev told : Answer
+  told = answerOf (verdictOf (tableIn e a) (marksIn e a))
 
-  refuses-by : {r : Answer} → r ≡ firstOf (readChecks a t m) (answerOf (verdictOf (tableIn a) (marksIn a)))
-      → passes (readChecks a t m) ≡ false → record { answer = r; table = t; marks = m } ≡ readArchive a t m
-  refuses-by e h =
-      restored-by e (sym (pick-false (passes (readChecks a t m)) (tableIn a) t h)) (sym (pick-false (passes (readChecks a t m)) (marksIn a) m h))
+  abbrev nodes : ℕ
+  nodes = nodesIn e a
+
+  restored-by : {r : Answer} (b : Bool) → outcome (readChecks e a t m) told ≡ (r, b)
+      → record { answer = r; table = pick b (tableIn e a) t; marks = pick b (marksIn e a) m } ≡ readArchive e a t m
+  unfolding readArchive
+  restored-by b h =
+      ap (λ (x : Answer × Bool).
+      record { answer = x .0; table = pick (x .1) (tableIn e a) t; marks = pick (x .1) (marksIn e a) m }) (sym h)
 
   -- 13
-  pub read-none : isArchive a ≡ false → record { answer = refused 13 0; table = t; marks = m } ≡ readArchive a t m
-  unfolding readChecks noArchive
-  read-none e =
-      let place : when (not (isArchive a)) 0 ≡ At 0 = when-true (not (isArchive a)) 0 (ap not e) in
-      refuses-by
-      (sym (firstOf-at (noArchive (isArchive a)) (badOutput (tableBytes (nodeCount a)) t ∷ badMarks (nodeCount a) m ∷ []) _ 0 place))
-      (passes-at (noArchive (isArchive a)) (badOutput (tableBytes (nodeCount a)) t ∷ badMarks (nodeCount a) m ∷ []) 0 place)
+  pub read-none : isArchive e a ≡ false → record { answer = refused 13 0; table = t; marks = m } ≡ readArchive e a t m
+  unfolding pick readChecks noArchive
+  read-none n =
+      restored-by false
+      (outcome-stop (noArchive (isArchive e a)) (backChecks nodes t m) told 0 (when-true (not (isArchive e a)) 0 (ap not n)))
 
-  module _ (is : isArchive a ≡ true) where
-    archive-place : when (not (isArchive a)) 0 ≡ Nowhere
-    archive-place = when-false (not (isArchive a)) 0 (ap not is)
+  module _ (is : isArchive e a ≡ true) where
+    archive-next : outcome (readChecks e a t m) told ≡ outcome (backChecks nodes t m) told
+    unfolding readChecks noArchive
+    archive-next =
+        outcome-next (noArchive (isArchive e a)) (backChecks nodes t m) told (when-false (not (isArchive e a)) 0 (ap not is))
 
     -- 12
-    pub read-table : (length t ≡ tableBytes (nodeCount a) → ⊥)
-        → record { answer = refused 12 (tableBytes (nodeCount a)); table = t; marks = m } ≡ readArchive a t m
-    unfolding readChecks noArchive badOutput
+    pub read-table : (length t ≡ tableBytes (nodesIn e a) → ⊥)
+        → record { answer = refused 12 (tableBytes (nodesIn e a)); table = t; marks = m } ≡ readArchive e a t m
+    unfolding pick backChecks badOutput
     read-table other =
-        let place : when (not (eqb (length t) (tableBytes (nodeCount a)))) (tableBytes (nodeCount a)) ≡ At (tableBytes (nodeCount a)) =
-        when-true (not (eqb (length t) (tableBytes (nodeCount a)))) (tableBytes (nodeCount a))
-        (ap not (ne-eqb (length t) (tableBytes (nodeCount a)) other)) in
-        refuses-by
-        (sym
-        (firstOf-next (noArchive (isArchive a)) (badOutput (tableBytes (nodeCount a)) t ∷ badMarks (nodeCount a) m ∷ []) _ archive-place
-        ∙ firstOf-at (badOutput (tableBytes (nodeCount a)) t) (badMarks (nodeCount a) m ∷ []) _ (tableBytes (nodeCount a)) place))
-        (passes-cons (noArchive (isArchive a)) (badOutput (tableBytes (nodeCount a)) t ∷ badMarks (nodeCount a) m ∷ []) archive-place
-        ∙ passes-at (badOutput (tableBytes (nodeCount a)) t) (badMarks (nodeCount a) m ∷ []) (tableBytes (nodeCount a)) place)
+        restored-by false
+        (archive-next
+        ∙ outcome-stop (badOutput (tableBytes nodes) t) (badMarks nodes m ∷ []) told (tableBytes nodes)
+        (unequal (length t) (tableBytes nodes) other))
 
-    module _ (fits : length t ≡ tableBytes (nodeCount a)) where
-      table-place : when (not (eqb (length t) (tableBytes (nodeCount a)))) (tableBytes (nodeCount a)) ≡ Nowhere
-      table-place =
-          when-false (not (eqb (length t) (tableBytes (nodeCount a)))) (tableBytes (nodeCount a))
-          (ap not (eq-eqb (length t) (tableBytes (nodeCount a)) fits))
+    module _ (fits : length t ≡ tableBytes (nodesIn e a)) where
+      table-next : outcome (readChecks e a t m) told ≡ outcome (badMarks nodes m ∷ []) told
+      unfolding backChecks badOutput
+      table-next =
+          archive-next
+          ∙ outcome-next (badOutput (tableBytes nodes) t) (badMarks nodes m ∷ []) told
+          (equal (length t) (tableBytes nodes) fits)
 
       -- 8
-      pub read-marks : (length m ≡ nodeCount a → ⊥) → record { answer = refused 8 (nodeCount a); table = t; marks = m } ≡ readArchive a t m
-      unfolding readChecks noArchive badOutput badMarks
+      pub read-marks : (length m ≡ nodesIn e a → ⊥)
+          → record { answer = refused 8 (nodesIn e a); table = t; marks = m } ≡ readArchive e a t m
+      unfolding pick badMarks
       read-marks other =
-          let place : when (not (eqb (length m) (nodeCount a))) (nodeCount a) ≡ At (nodeCount a) =
-          when-true (not (eqb (length m) (nodeCount a))) (nodeCount a) (ap not (ne-eqb (length m) (nodeCount a) other)) in
-          refuses-by
-          (sym
-          (firstOf-next (noArchive (isArchive a)) (badOutput (tableBytes (nodeCount a)) t ∷ badMarks (nodeCount a) m ∷ []) _ archive-place
-          ∙ firstOf-next (badOutput (tableBytes (nodeCount a)) t) (badMarks (nodeCount a) m ∷ []) _ table-place
-          ∙ firstOf-at (badMarks (nodeCount a) m) [] _ (nodeCount a) place))
-          (passes-cons (noArchive (isArchive a)) (badOutput (tableBytes (nodeCount a)) t ∷ badMarks (nodeCount a) m ∷ []) archive-place
-          ∙ passes-cons (badOutput (tableBytes (nodeCount a)) t) (badMarks (nodeCount a) m ∷ []) table-place
-          ∙ passes-at (badMarks (nodeCount a) m) [] (nodeCount a) place)
+          restored-by false (table-next ∙ outcome-stop (badMarks nodes m) [] told nodes (unequal (length m) nodes other))
 
-      pub read-done : length m ≡ nodeCount a
-          → record { answer = answerOf (verdictOf (tableIn a) (marksIn a)); table = tableIn a; marks = marksIn a } ≡ readArchive a t m
-      unfolding readChecks noArchive badOutput badMarks
+      pub read-done : length m ≡ nodesIn e a
+          → record {
+            answer = answerOf (verdictOf (tableIn e a) (marksIn e a));
+            table = tableIn e a;
+            marks = marksIn e a;
+          }
+          ≡ readArchive e a t m
+      unfolding pick badMarks
       read-done long =
-          let place : when (not (eqb (length m) (nodeCount a))) (nodeCount a) ≡ Nowhere =
-          when-false (not (eqb (length m) (nodeCount a))) (nodeCount a) (ap not (eq-eqb (length m) (nodeCount a) long)) in
-          let all : passes (readChecks a t m) ≡ true =
-          passes-cons (noArchive (isArchive a)) (badOutput (tableBytes (nodeCount a)) t ∷ badMarks (nodeCount a) m ∷ []) archive-place
-          ∙ passes-cons (badOutput (tableBytes (nodeCount a)) t) (badMarks (nodeCount a) m ∷ []) table-place
-          ∙ passes-cons (badMarks (nodeCount a) m) [] place ∙ passes-nil in
-          restored-by (sym (firstOf-all (readChecks a t m) _ all))
-          (sym (pick-true (passes (readChecks a t m)) (tableIn a) t all))
-          (sym (pick-true (passes (readChecks a t m)) (marksIn a) m all))
+          restored-by true
+          (table-next ∙ outcome-next (badMarks nodes m) [] told (equal (length m) nodes long) ∙ outcome-none told)
 
   -- ---- What the reader's answer tells: the bytes are an archive, and the table and the marks are those that it tells
 
-  pub read-film : passes (readChecks a t m) ≡ true → isArchive a ≡ true
-  unfolding readChecks noArchive
-  read-film e =
-      not-false (isArchive a)
-      (when-nowhere (not (isArchive a)) 0
-      (passes-first (noArchive (isArchive a)) (badOutput (tableBytes (nodeCount a)) t ∷ badMarks (nodeCount a) m ∷ []) e))
+  pub read-film : passes (readChecks e a t m) ≡ true → isArchive e a ≡ true
+  unfolding Pass readChecks noArchive
+  read-film p =
+      not-false (isArchive e a) (when-nowhere (not (isArchive e a)) 0 (pass-all (readChecks e a t m) .0 p .0))
 
-  pub reader-done : readArchive a t m .answer .number ≡ 0
-      → (isArchive a ≡ true)
-      × (readArchive a t m ≡ record { answer = answerOf (verdictOf (tableIn a) (marksIn a)); table = tableIn a; marks = marksIn a })
-  unfolding readArchive
+  -- an archive's own answer is acceptance
+  pub archive-zero : isArchive e a ≡ true → answerOf (verdictOf (tableIn e a) (marksIn e a)) .number ≡ 0
+  archive-zero is = feasible-zero (tableIn e a) (marksIn e a) (read-write e a is .feasible)
+
+  pub reader-done : readArchive e a t m .answer .number ≡ 0
+      → (isArchive e a ≡ true)
+      × (readArchive e a t m
+      ≡ record {
+        answer = answerOf (verdictOf (tableIn e a) (marksIn e a));
+        table = tableIn e a;
+        marks = marksIn e a;
+      })
+  unfolding readArchive pick
   reader-done z =
-      let all : passes (readChecks a t m) ≡ true =
-      accepted-pass (readChecks a t m) (answerOf (verdictOf (tableIn a) (marksIn a))) (read-never a t m) z in (
-        read-film all,
-        sym
-            (restored-by (sym (firstOf-all (readChecks a t m) (answerOf (verdictOf (tableIn a) (marksIn a))) all))
-            (sym (pick-true (passes (readChecks a t m)) (tableIn a) t all))
-            (sym (pick-true (passes (readChecks a t m)) (marksIn a) m all))),
-      )
+      let all : passes (readChecks e a t m) ≡ true =
+      accepted-pass (readChecks e a t m) told (read-never e a t m) z in
+      (read-film all, rw (all, firstOf-all (readChecks e a t m) told all))
 
-  -- an archive is not refused with 13
-  pub film-read : isArchive a ≡ true → readArchive a t m .answer .number ≡ 13 → answerOf (verdictOf (tableIn a) (marksIn a)) .number ≡ 13
-  unfolding readArchive readChecks noArchive badOutput badMarks every
-  film-read e h =
-      never-first 13 (badOutput (tableBytes (nodeCount a)) t ∷ badMarks (nodeCount a) m ∷ []) (answerOf (verdictOf (tableIn a) (marksIn a))) (λ p. refl)
-      (sym
-      (ap (λ (x : Answer). x .number)
-      (firstOf-next (noArchive (isArchive a)) (badOutput (tableBytes (nodeCount a)) t ∷ badMarks (nodeCount a) m ∷ [])
-      (answerOf (verdictOf (tableIn a) (marksIn a))) (archive-place e)))
-      ∙ h)
-      .1
+  -- on refusal the table and the marks are as lent
+  pub read-kept : (readArchive e a t m .answer .number ≡ 0 → ⊥)
+      → (readArchive e a t m .table ≡ t) × (readArchive e a t m .marks ≡ m)
+  unfolding readArchive pick
+  read-kept h =
+      let none : passes (readChecks e a t m) ≡ false = never-true (passes (readChecks e a t m)) (λ p. h (zero p)) in
+      (rw none, rw none)
+    where
+      zero : passes (readChecks e a t m) ≡ true → firstOf (readChecks e a t m) told .number ≡ 0
+      zero p = ap (λ (x : Answer). x .number) (firstOf-all (readChecks e a t m) told p) ∙ archive-zero (read-film p)
+
+  -- 13 is for bytes that are no archive
+  pub read-thirteen : readArchive e a t m .answer .number ≡ 13 → isArchive e a ≡ false
+  unfolding readArchive backChecks badOutput badMarks every
+  read-thirteen h =
+      never-true (isArchive e a)
+      (λ is.
+      let given = ap (λ (x : Answer × Bool). x .0 .number) (archive-next is) in
+      let last = never-first 13 (backChecks nodes t m) told (λ p. refl) (sym given ∙ h) in
+      omega (arith, last .1, archive-zero is))

@@ -1,7 +1,7 @@
--- Demand 3 read off the archive's bytes: page count, the weight in page record 1 and the runs in the page records are the plan's; so where a
--- planner promises that its plan is the lowest, the archive of that plan is the lowest too.
+-- Demand 3 read off the archive's bytes, in an edition: page count, the weight in page record 1 and the runs in the page records are the
+-- plan's; so where a planner promises that its plan is the lowest, the archive of that plan is the lowest too.
 -- Proves archive-runs, archive-root, plan-feasible, film-lowest. Assumes nothing.
-use Prim.Native.Nat.{ℕ, suc, _≤_, _<_}
+use Prim.Native.Nat.{ℕ, suc, _+_, _-_, _≤_, _<_}
 use native.Mathlib.Omega.{arith}
 use mathlib.Core.Path.{_≡_, sym, _∙_, ap, ap₂}
 use mathlib.Core.Bool.{true}
@@ -10,7 +10,7 @@ use lib.ListN.{getD}
 use lib.Seq.{ext-getD}
 use Rattle.model.specs.Basics.{listTo}
 use Rattle.model.specs.Plan.{pageCount, pageWeight, verdictOf}
-use Rattle.model.specs.Runs.{rootRun, runsOf}
+use Rattle.model.specs.Runs.{Run, rootRun, runsOf, pageRun}
 use Rattle.model.specs.Archive.{archiveOf, pagesIn}
 use Rattle.model.specs.Refusals.{answerOf, feasiblePlan}
 use Rattle.model.specs.Demand.{PlanLent, PlanPromise, BestPromise, runIn, runsIn, rootIn, LowestOnFilm}
@@ -18,38 +18,39 @@ use Rattle.model.specs.declared.Verdict.the-variants.{Feasible, Failed}
 use Rattle.model.specs.declared.Beside.{Beside}
 use Rattle.model.specs.declared.Beside.the-variants.{Given, Nothing}
 use Rattle.model.specs.declared.Answer.{Answer}
+use Rattle.model.specs.declared.Edition.{Edition}
 use Rattle.theory.specs.Ranges.{length-listTo, getD-listTo}
 use Rattle.theory.specs.PlanPages.{pages-low}
 use Rattle.theory.specs.PlanFeasible.{Judged, feasible-judged, judged-verdict}
 use Rattle.theory.specs.RunsMarked.{length-runsOf}
-use Rattle.theory.specs.ArchiveWords.{page-first, getD-runsOf, archive-pages, archive-page}
+use Rattle.theory.specs.ArchiveWords.{Described, archive-pages, archive-begin, archive-end, archive-weight}
 
 -- ---- The page records of a table and marks
 
-module _ (t m : List ℕ) where
-  run-back : (i : ℕ) → i < pagesIn (archiveOf t m) → runIn (archiveOf t m) (suc i) ≡ getD (runsOf t m) i rootRun
-  run-back i h =
-      let high : suc i ≤ pageCount t m = omega (arith, archive-pages t m) in
-      let x = page-first t m (suc i) (omega arith) high in
-      ap₂ (λ u v. record { first = u; last = v })
-      (archive-page t m (suc i) (x .0) 0 (omega arith) high (x .1) (omega arith))
-      (archive-page t m (suc i) (x .0) 1 (omega arith) high (x .1) (omega arith))
-      ∙ sym (getD-runsOf t m i (x .0) (x .1))
+module _ {e : Edition} (d : Described e) (t m : List ℕ) where
+  abbrev a : List ℕ
+  a = archiveOf e t m
 
-  pub archive-runs : runsIn (archiveOf t m) ≡ runsOf t m
+  run-back : (i : ℕ) → i < pagesIn e a → runIn e a (suc i) ≡ getD (runsOf t m) i rootRun
+  unfolding pageRun
+  run-back i h =
+      let high : suc i ≤ pageCount t m = omega (arith, archive-pages d t m) in
+      ap₂ (λ u v. record { first = u; last = v }) (archive-begin d t m (suc i) (omega arith) high)
+      (archive-end d t m (suc i) (omega arith) high)
+      ∙ ap (λ j. getD (runsOf t m) j rootRun) (omega arith)
+
+  pub archive-runs : runsIn e (archiveOf e t m) ≡ runsOf t m
   unfolding runsIn
   archive-runs =
-      let long = length-listTo (pagesIn (archiveOf t m)) (runIn (archiveOf t m)) in
-      ext-getD rootRun (listTo (pagesIn (archiveOf t m)) (λ q. runIn (archiveOf t m) q ∷ [])) (runsOf t m)
-      (long ∙ archive-pages t m ∙ sym (length-runsOf t m))
+      let long = length-listTo (pagesIn e a) (runIn e a) in
+      ext-getD rootRun (listTo (pagesIn e a) (λ q. runIn e a q ∷ [])) (runsOf t m)
+      (long ∙ archive-pages d t m ∙ sym (length-runsOf t m))
       (λ i h.
-      let less : i < pagesIn (archiveOf t m) = rw long at h in
-      getD-listTo (pagesIn (archiveOf t m)) i (runIn (archiveOf t m)) rootRun less ∙ run-back i less)
+      let less : i < pagesIn e a = rw long at h in getD-listTo (pagesIn e a) i (runIn e a) rootRun less ∙ run-back i less)
 
-  pub archive-root : 1 ≤ pageCount t m → rootIn (archiveOf t m) ≡ pageWeight t m 1
+  pub archive-root : 1 ≤ pageCount t m → rootIn e (archiveOf e t m) ≡ pageWeight t m 1
   unfolding rootIn
-  archive-root some =
-      let x = page-first t m 1 (omega arith) some in archive-page t m 1 (x .0) 2 (omega arith) some (x .1) (omega arith)
+  archive-root some = archive-weight d t m 1 (omega arith) some
 
 -- ---- The archive of a plan that its planner promises to be the lowest
 
@@ -66,22 +67,27 @@ module _ {t m s marks scratch : List ℕ} {r : Answer} (p : PlanPromise t m s r 
   judged : Judged t marks
   judged = feasible-judged t marks plan-feasible
 
-  root-back : rootIn (archiveOf t marks) ≡ pageWeight t marks 1
-  root-back = archive-root t marks (pages-low (judged .tree .sound) marks (judged .marked))
+  module _ {e : Edition} (d : Described e) where
+    abbrev film : List ℕ
+    film = archiveOf e t marks
 
-  film-figures : answerOf (Feasible (pageCount t marks) (pageWeight t marks 1))
-      ≡ answerOf (Feasible (pagesIn (archiveOf t marks)) (rootIn (archiveOf t marks)))
-  film-figures = ap₂ (λ (x y : ℕ). answerOf (Feasible x y)) (sym (archive-pages t marks)) (sym root-back)
+    root-back : rootIn e film ≡ pageWeight t marks 1
+    root-back = archive-root d t marks (pages-low (judged .tree .sound) marks (judged .marked))
 
-  pub film-lowest : BestPromise t m s r marks → LowestOnFilm t (archiveOf t marks) r (answerOf (verdictOf t marks))
-  film-lowest b =
-      let answer = p .accepts ready .0 in
-      let low = b .lowest ready in
-      let count : low .0 ≡ pagesIn (archiveOf t marks) = sym (low .3 .count) ∙ length-runsOf t marks ∙ sym (archive-pages t marks) in
-      let root : low .1 ≡ rootIn (archiveOf t marks) =
-      ap (λ (x : Answer). rootBeside (x .beside)) (sym (low .2) ∙ answer) ∙ sym root-back in
-      record {
-        planner = answer ∙ film-figures;
-        writer = ap answerOf (judged-verdict judged) ∙ film-figures;
-        lowest = rw (← count, ← root, archive-runs t marks) (low .3);
-      }
+    film-figures : answerOf (Feasible (pageCount t marks) (pageWeight t marks 1))
+        ≡ answerOf (Feasible (pagesIn e film) (rootIn e film))
+    film-figures = ap₂ (λ (x y : ℕ). answerOf (Feasible x y)) (sym (archive-pages d t marks)) (sym root-back)
+
+    pub film-lowest : BestPromise t m s r marks → LowestOnFilm e t (archiveOf e t marks) r (answerOf (verdictOf t marks))
+    film-lowest b =
+        let answer = p .accepts ready .0 in
+        let low = b .lowest ready in
+        let count : low .0 ≡ pagesIn e film =
+        sym (low .3 .count) ∙ length-runsOf t marks ∙ sym (archive-pages d t marks) in
+        let root : low .1 ≡ rootIn e film =
+        ap (λ (x : Answer). rootBeside (x .beside)) (sym (low .2) ∙ answer) ∙ sym root-back in
+        record {
+          planner = answer ∙ film-figures;
+          writer = ap answerOf (judged-verdict judged) ∙ film-figures;
+          lowest = rw (← count, ← root, archive-runs d t marks) (low .3);
+        }

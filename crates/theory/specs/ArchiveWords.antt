@@ -1,229 +1,151 @@
--- The words of an archive: its length, its head, and the fields of its page and node records, read back as they were written. They
--- hold of any table and marks.
--- Defines Words, pageRow, Page, archiveWords. Assumes nothing.
+-- The words of an archive of an edition: its length, its head, and the fields of its page and node records, read back as they were
+-- written. They hold of any table and marks. What the laws take of an edition is said once, in Described, and first-described says it of
+-- the first.
+-- Defines Described. Proves first-described; length-archive and archive-nodes to archive-parent.
+-- Assumes nothing.
 use Prim.Native.Nat.{ℕ, zero, suc, _+_, _-_, _*_, _≤_, _<_}
 use native.Mathlib.Omega.{arith}
-use mathlib.Core.Path.{_≡_, refl, sym, _∙_, ap, ap₂}
-use mathlib.Core.Logic.{_⊎_, inl, inr}
+use native.Mathlib.Nat.{mul-le-mul-left}
+use mathlib.Core.Bool.{true}
+use mathlib.Core.Path.{_≡_, refl, sym, _∙_, ap}
 use mathlib.Core.List.{List, [], _∷_, _++_}
 use lib.ListN.{length, getD, length-append, List·getD-append}
 use lib.Seq.{getD-append-add}
 use Rattle.model.specs.Basics.{listTo}
 use Rattle.model.specs.Table.{Bytes, wordAt, bytesOf, nodeCount, limitOf, weightAt, labelAt}
-use Rattle.model.specs.Plan.{begins, hasMark, parentAt, pageCount, pageWeight, runLast}
-use Rattle.model.specs.Runs.{Run, rootRun, runsOf}
-use Rattle.model.specs.Archive.{nextPage, pageRecords, nextOnPage, nodeRecord, archiveOf, archiveBytes, pagesIn, pageFieldIn, nodeFieldIn, parentIn}
-use Rattle.theory.specs.Ranges.{upto-suc, listTo-zero, listTo-suc}
-use Rattle.theory.specs.Chosen.{Ranked, ranked, getD-chosen}
-use Rattle.theory.specs.RunsMarked.{runAt, length-runsOf}
-use Rattle.theory.specs.TableEncoded.{Holds, length-bytesOf, wordAt-bytesOf, holds-all}
+use Rattle.model.specs.Plan.{begins, hasMark, parentAt, pageCount, pageWeight}
+use Rattle.model.specs.Runs.{rootRun, runsOf, pageRun}
+use Rattle.model.specs.Archive.{firstEdition, headWords, pageRecord, nextOnPage, nodeRecord, archiveOf, archiveBytes}
+use Rattle.model.specs.Archive.{nodesIn, limitIn, pagesIn, pageFieldIn, nodeFieldIn, parentIn}
+use Rattle.model.specs.Refusals.{acceptedTree}
+use Rattle.model.specs.declared.Edition.{Edition}
+use Rattle.theory.specs.TableFacts.{accepted-facts}
+use Rattle.theory.specs.Words.{length-bytesOf, wordAt-bytesOf}
+use Rattle.theory.specs.Put.{length-recordsTo, getD-recordsTo}
 
--- ---- Records of four words
+-- ---- What the laws take of an edition
 
-module _ (rec : ℕ → List ℕ) (four : (v : ℕ) → length (rec v) ≡ 4) where
-  pub length-fours : (n : ℕ) → length (listTo n rec) ≡ 4 * n
-  length-fours zero = ap length (listTo-zero rec)
-  length-fours (suc n) =
-      ap length (listTo-suc n rec) ∙ length-append (listTo n rec) (rec (suc n)) ∙ omega (arith, length-fours n, four (suc n))
+-- its head has as many words as it says, and N, K and P are the last three of them; a page record has as many words as it says, and the
+-- first three are first node, last sibling and weight; and it takes every accepted tree
+pub record Described (e : Edition) : Type 0 where
+  pub head-low : 3 ≤ e .head
+  pub head : (t m : List ℕ) → length (headWords e t m) ≡ e .head
+  pub nodes-at : (t m : List ℕ) → getD (headWords e t m) (e .head - 3) 0 ≡ nodeCount t
+  pub limit-at : (t m : List ℕ) → getD (headWords e t m) (e .head - 2) 0 ≡ limitOf t
+  pub pages-at : (t m : List ℕ) → getD (headWords e t m) (e .head - 1) 0 ≡ pageCount t m
+  pub page-low : 3 ≤ e .page
+  pub page : (t m : List ℕ) (p : ℕ) → length (pageRecord e t m p) ≡ e .page
+  pub first-at : (t m : List ℕ) (p : ℕ) → getD (pageRecord e t m p) 0 0 ≡ pageRun t m p .first
+  pub last-at : (t m : List ℕ) (p : ℕ) → getD (pageRecord e t m p) 1 0 ≡ pageRun t m p .last
+  pub weight-at : (t m : List ℕ) (p : ℕ) → getD (pageRecord e t m p) 2 0 ≡ pageWeight t m p
+  pub most : (t : List ℕ) → acceptedTree t ≡ true → nodeCount t ≤ e .most
 
-  -- word f of record v
-  pub getD-fours : (n v f : ℕ) → 1 ≤ v → v ≤ n → f < 4 → getD (listTo n rec) (4 * (v - 1) + f) 0 ≡ getD (rec v) f 0
-  getD-fours zero v f low high less = absurd (omega arith)
-  getD-fours (suc n) v f low high less = go (upto-suc n v high) (getD-fours n v f low)
-    where
-      go : (v ≤ n) ⊎ (v ≡ suc n) → (v ≤ n → f < 4 → getD (listTo n rec) (4 * (v - 1) + f) 0 ≡ getD (rec v) f 0)
-          → getD (listTo (suc n) rec) (4 * (v - 1) + f) 0 ≡ getD (rec v) f 0
-      go (inl h) ih =
-          ap (λ l. getD l (4 * (v - 1) + f) 0) (listTo-suc n rec)
-          ∙ List·getD-append (listTo n rec) (rec (suc n)) 0 (4 * (v - 1) + f) (omega (arith, length-fours n))
-          ∙ ih h less
-      go (inr e) ih =
-          let place : 4 * (v - 1) + f ≡ length (listTo n rec) + f = omega (arith, length-fours n) in
-          ap (λ l. getD l (4 * (v - 1) + f) 0) (listTo-suc n rec)
-          ∙ ap (λ i. getD (listTo n rec ++ rec (suc n)) i 0) place
-          ∙ getD-append-add (listTo n rec) (rec (suc n)) f 0
-          ∙ ap (λ u. getD (rec u) f 0) (sym e)
+-- The first edition takes every accepted tree because its limit is not below the table's. No other law makes the one limit of the other.
+pub first-described : Described firstEdition
+unfolding headWords pageRecord
+first-described =
+    record {
+      head-low = omega arith;
+      head = λ t m. refl;
+      nodes-at = λ t m. refl;
+      limit-at = λ t m. refl;
+      pages-at = λ t m. refl;
+      page-low = omega arith;
+      page = λ t m p. refl;
+      first-at = λ t m p. refl;
+      last-at = λ t m p. refl;
+      weight-at = λ t m p. refl;
+      most = λ t a. accepted-facts t a .sound .count-high;
+    }
 
--- ---- A string of bytes is told by its words
+-- ---- The archive
 
-holds-from : (t : List ℕ) (i : ℕ) (ws : List ℕ) → ((j : ℕ) → j < length ws → wordAt t (i + j) ≡ getD ws j 0) → Holds t i ws
-unfolding Holds
-holds-from t i [] h = tt
-holds-from t i (w ∷ ws) h = (
-  ap (wordAt t) (omega arith) ∙ h 0 (omega arith),
-  holds-from t (suc i) ws (λ j less. ap (wordAt t) (omega arith) ∙ h (suc j) (omega arith)),
-)
+pub length-nodeRecord : (t m : List ℕ) (v : ℕ) → length (nodeRecord t m v) ≡ 4
+unfolding nodeRecord
+length-nodeRecord t m v = refl
 
-pub words-tell : (t ws : List ℕ) → Bytes t → length t ≡ 2 * length ws → ((j : ℕ) → j < length ws → wordAt t j ≡ getD ws j 0)
-    → t ≡ bytesOf ws
-words-tell t ws b long h = holds-all t ws b (holds-from t 0 ws (λ j less. ap (wordAt t) (omega arith) ∙ h j less)) long
+module _ {e : Edition} (d : Described e) (t m : List ℕ) where
+  abbrev pages : List ℕ
+  pages = listTo (pageCount t m) (pageRecord e t m)
 
--- words below 65,536 make bytes
-abbrev pub Words : List ℕ → Type 0
-Words ws = (i : ℕ) → getD ws i 0 < 65536
+  abbrev front : List ℕ
+  front = headWords e t m ++ pages
 
-pub words-bytes : (ws : List ℕ) → Words ws → Bytes (bytesOf ws)
-unfolding bytesOf
-words-bytes [] h = λ i. omega arith
-words-bytes (w ∷ ws) h =
-    λ i. elim i [ zero ↦ omega (arith, h 0) | suc j ↦ elim j [ zero ↦ omega arith | suc k ↦ words-bytes ws (λ n. h (suc n)) k ] ]
+  abbrev nodes : List ℕ
+  nodes = listTo (nodeCount t) (nodeRecord t m)
 
-pub words-cons : (w : ℕ) (ws : List ℕ) → w < 65536 → Words ws → Words (w ∷ ws)
-words-cons w ws h k = λ i. elim i [ zero ↦ h | suc j ↦ k j ]
+  length-pages : length pages ≡ e .page * pageCount t m
+  length-pages = length-recordsTo (pageRecord e t m) (e .page) (d .page t m) (pageCount t m)
 
-pub words-nil : Words []
-words-nil i = omega arith
+  length-front : length front ≡ e .head + e .page * pageCount t m
+  length-front = omega (arith, length-append (headWords e t m) pages, d .head t m, length-pages)
 
-pub words-append : (xs ys : List ℕ) → Words xs → Words ys → Words (xs ++ ys)
-words-append [] ys h k = k
-words-append (x ∷ xs) ys h k = words-cons x (xs ++ ys) (h 0) (words-append xs ys (λ n. h (suc n)) k)
+  length-nodes : length nodes ≡ 4 * nodeCount t
+  length-nodes = length-recordsTo (nodeRecord t m) 4 (length-nodeRecord t m) (nodeCount t)
 
-pub words-listTo : (n : ℕ) (rec : ℕ → List ℕ) → ((v : ℕ) → 1 ≤ v → v ≤ n → Words (rec v)) → Words (listTo n rec)
-words-listTo zero rec h = rw (listTo-zero rec) words-nil
-words-listTo (suc n) rec h =
-    rw (listTo-suc n rec)
-    (words-append (listTo n rec) (rec (suc n)) (words-listTo n rec (λ v a b. h v a (omega arith))) (h (suc n) (omega arith) (omega arith)))
+  pub length-archive : length (archiveOf e t m) ≡ archiveBytes e (pageCount t m) (nodeCount t)
+  unfolding archiveOf
+  length-archive =
+      omega (arith, length-bytesOf (front ++ nodes), length-append front nodes, length-front, length-nodes)
 
--- ---- Page records
+  archive-word : (i : ℕ) → wordAt (archiveOf e t m) i ≡ getD (front ++ nodes) i 0
+  unfolding archiveOf
+  archive-word i = wordAt-bytesOf (front ++ nodes) i
 
--- the record of page q with run r
-unfoldable pub pageRow : List ℕ → List ℕ → ℕ → Run → List ℕ
-pageRow t m q r = r .first ∷ r .last ∷ pageWeight t m q ∷ nextPage q (pageCount t m) ∷ []
+  -- a word of the head and the page records
+  archive-front : (i : ℕ) → i < e .head + e .page * pageCount t m → wordAt (archiveOf e t m) i ≡ getD front i 0
+  archive-front i less = archive-word i ∙ List·getD-append front nodes 0 i (omega (arith, length-front))
 
-module _ (t m : List ℕ) where
-  pub length-pageRecords : (p : ℕ) (rs : List Run) → length (pageRecords t m p rs) ≡ 4 * length rs
-  unfolding pageRecords
-  length-pageRecords p [] = refl
-  length-pageRecords p (r ∷ rs) = omega (arith, length-pageRecords (suc p) rs)
+  archive-head : (i : ℕ) → i < e .head → wordAt (archiveOf e t m) i ≡ getD (headWords e t m) i 0
+  archive-head i less =
+      archive-front i (omega arith) ∙ List·getD-append (headWords e t m) pages 0 i (omega (arith, d .head t m))
 
-  -- one more run
-  pub pageRecords-snoc : (p : ℕ) (rs : List Run) (r : Run)
-      → pageRecords t m p (rs ++ (r ∷ [])) ≡ pageRecords t m p rs ++ pageRow t m (p + length rs) r
-  unfolding pageRecords pageRow
-  pageRecords-snoc p [] r =
-      ap (λ q. r .first ∷ r .last ∷ pageWeight t m q ∷ nextPage q (pageCount t m) ∷ []) (omega arith)
-  pageRecords-snoc p (x ∷ rs) r =
-      let up : suc p + length rs ≡ p + suc (length rs) = omega arith in
-      ap (λ (l : List ℕ). x .first ∷ x .last ∷ pageWeight t m p ∷ nextPage p (pageCount t m) ∷ l)
-      (pageRecords-snoc (suc p) rs r ∙ ap (λ q. pageRecords t m (suc p) rs ++ pageRow t m q r) up)
+  pub archive-nodes : nodesIn e (archiveOf e t m) ≡ nodeCount t
+  unfolding nodesIn
+  archive-nodes = archive-head (e .head - 3) (omega (arith, d .head-low)) ∙ d .nodes-at t m
 
-  pub getD-pageRecords : (p : ℕ) (rs : List Run) (i f : ℕ) → i < length rs → f < 4
-      → getD (pageRecords t m p rs) (4 * i + f) 0 ≡ getD (pageRow t m (p + i) (getD rs i rootRun)) f 0
-  unfolding pageRecords pageRow
-  getD-pageRecords p [] i f h less = absurd (omega arith)
-  getD-pageRecords p (r ∷ rs) zero f h less = go f less
-    where
-      row : ℕ → List ℕ
-      row q = r .first ∷ r .last ∷ pageWeight t m q ∷ nextPage q (pageCount t m) ∷ []
+  pub archive-limit : limitIn e (archiveOf e t m) ≡ limitOf t
+  unfolding limitIn
+  archive-limit = archive-head (e .head - 2) (omega (arith, d .head-low)) ∙ d .limit-at t m
 
-      same : p ≡ p + 0
-      same = omega arith
+  pub archive-pages : pagesIn e (archiveOf e t m) ≡ pageCount t m
+  unfolding pagesIn
+  archive-pages = archive-head (e .head - 1) (omega (arith, d .head-low)) ∙ d .pages-at t m
 
-      go : (g : ℕ) → g < 4
-          → getD (r .first ∷ r .last ∷ pageWeight t m p ∷ nextPage p (pageCount t m) ∷ pageRecords t m (suc p) rs) (4 * 0 + g) 0
-          ≡ getD (row (p + 0)) g 0
-      go zero l = refl
-      go (suc zero) l = refl
-      go (suc (suc zero)) l = ap (pageWeight t m) same
-      go (suc (suc (suc zero))) l = ap (λ q. nextPage q (pageCount t m)) same
-      go (suc (suc (suc (suc g)))) l = absurd (omega arith)
-  getD-pageRecords p (r ∷ rs) (suc i) f h less =
-      let place : 4 * suc i + f ≡ suc (suc (suc (suc (4 * i + f)))) = omega arith in
-      let up : suc p + i ≡ p + suc i = omega arith in
-      ap (λ j. getD (r .first ∷ r .last ∷ pageWeight t m p ∷ nextPage p (pageCount t m) ∷ pageRecords t m (suc p) rs) j 0) place
-      ∙ getD-pageRecords (suc p) rs i f (omega arith) less
-      ∙ ap (λ q. getD (pageRow t m q (getD rs i rootRun)) f 0) up
+  -- word f of page q's record
+  pub archive-page : (q f : ℕ) → 1 ≤ q → q ≤ pageCount t m → f < e .page
+      → pageFieldIn e (archiveOf e t m) q f ≡ getD (pageRecord e t m q) f 0
+  unfolding pageFieldIn
+  archive-page q f low high less =
+      let here : ℕ = e .page * (q - 1) + f in
+      let next : suc (q - 1) ≤ pageCount t m = omega arith in
+      archive-front (e .head + e .page * (q - 1) + f) (omega (arith, mul-le-mul-left (e .page) next))
+      ∙ ap (λ i. getD front i 0) (omega (arith, d .head t m))
+      ∙ getD-append-add (headWords e t m) pages here 0
+      ∙ getD-recordsTo (pageRecord e t m) (e .page) (d .page t m) (pageCount t m) q f low high less
 
-  -- page q's first node
-  abbrev pub Page : ℕ → ℕ → Type 0
-  Page q b = Ranked (hasMark m begins) (nodeCount t) q b
+  module _ (q : ℕ) (low : 1 ≤ q) (high : q ≤ pageCount t m) where
+    pub archive-begin : pageFieldIn e (archiveOf e t m) q 0 ≡ pageRun t m q .first
+    archive-begin = archive-page q 0 low high (omega (arith, d .page-low)) ∙ d .first-at t m q
 
-  pub page-first : (q : ℕ) → 1 ≤ q → q ≤ pageCount t m → (b : ℕ) × Page q b
-  unfolding pageCount
-  page-first q low high = ranked (hasMark m begins) (nodeCount t) q low high
+    pub archive-end : pageFieldIn e (archiveOf e t m) q 1 ≡ pageRun t m q .last
+    archive-end = archive-page q 1 low high (omega (arith, d .page-low)) ∙ d .last-at t m q
 
-  pub getD-runsOf : (i b : ℕ) → Page (suc i) b → getD (runsOf t m) i rootRun ≡ runAt t m b
-  unfolding runsOf
-  getD-runsOf i b r = getD-chosen (hasMark m begins) (runAt t m) (nodeCount t) b i rootRun r
-
-  -- ---- The archive
-
-  unfoldable pub archiveWords : List ℕ
-  archiveWords = nodeCount t ∷ limitOf t ∷ pageCount t m ∷ pageRecords t m 1 (runsOf t m) ++ listTo (nodeCount t) (nodeRecord t m)
-
-  pub four-nodeRecord : (v : ℕ) → length (nodeRecord t m v) ≡ 4
-  unfolding nodeRecord
-  four-nodeRecord v = refl
-
-  pages-long : length (pageRecords t m 1 (runsOf t m)) ≡ 4 * pageCount t m
-  pages-long = omega (arith, length-pageRecords 1 (runsOf t m), length-runsOf t m)
-
-  pub length-archiveWords : length archiveWords ≡ 3 + 4 * pageCount t m + 4 * nodeCount t
-  unfolding archiveWords
-  length-archiveWords =
-      omega (
-        arith,
-        length-append (pageRecords t m 1 (runsOf t m)) (listTo (nodeCount t) (nodeRecord t m)),
-        pages-long,
-        length-fours (nodeRecord t m) four-nodeRecord (nodeCount t),
-      )
-
-  pub length-archive : length (archiveOf t m) ≡ archiveBytes (pageCount t m) (nodeCount t)
-  unfolding archiveOf archiveWords
-  length-archive = omega (arith, length-bytesOf archiveWords, length-archiveWords)
-
-  pub archive-word : (i : ℕ) → wordAt (archiveOf t m) i ≡ getD archiveWords i 0
-  unfolding archiveOf archiveWords
-  archive-word i = wordAt-bytesOf archiveWords i
-
-  pub archive-nodes : nodeCount (archiveOf t m) ≡ nodeCount t
-  unfolding archiveWords
-  archive-nodes = archive-word 0
-
-  pub archive-limit : limitOf (archiveOf t m) ≡ limitOf t
-  unfolding archiveWords
-  archive-limit = archive-word 1
-
-  pub archive-pages : pagesIn (archiveOf t m) ≡ pageCount t m
-  unfolding archiveWords pagesIn
-  archive-pages = archive-word 2
-
-  page-word : (q f : ℕ) → 1 ≤ q → q ≤ pageCount t m → f < 4
-      → getD archiveWords (3 + 4 * (q - 1) + f) 0 ≡ getD (pageRecords t m 1 (runsOf t m)) (4 * (q - 1) + f) 0
-  unfolding archiveWords
-  page-word q f low high less =
-      let place : 3 + 4 * (q - 1) + f ≡ suc (suc (suc (4 * (q - 1) + f))) = omega arith in
-      ap (λ i. getD (nodeCount t ∷ limitOf t ∷ pageCount t m ∷ pageRecords t m 1 (runsOf t m) ++ listTo (nodeCount t) (nodeRecord t m)) i 0) place
-      ∙ List·getD-append (pageRecords t m 1 (runsOf t m)) (listTo (nodeCount t) (nodeRecord t m)) 0 (4 * (q - 1) + f)
-      (omega (arith, pages-long))
-
-  -- word f of page q's record, where b is its first node
-  pub archive-page : (q b f : ℕ) → 1 ≤ q → q ≤ pageCount t m → Page q b → f < 4
-      → pageFieldIn (archiveOf t m) q f ≡ getD (b ∷ runLast t m b ∷ pageWeight t m q ∷ nextPage q (pageCount t m) ∷ []) f 0
-  unfolding pageFieldIn pageRow
-  archive-page q b f low high r less =
-      let back : suc (q - 1) ≡ q = omega arith in
-      let back′ : 1 + (q - 1) ≡ q = omega arith in
-      let rank : Page (suc (q - 1)) b =
-      record { low = r .low; high = r .high; passed = r .passed; rank = r .rank ∙ sym back } in
-      archive-word (3 + 4 * (q - 1) + f)
-      ∙ page-word q f low high less
-      ∙ getD-pageRecords 1 (runsOf t m) (q - 1) f (omega (arith, length-runsOf t m)) less
-      ∙ ap₂ (λ p x. getD (pageRow t m p x) f 0) back′ (getD-runsOf (q - 1) b rank)
+    pub archive-weight : pageFieldIn e (archiveOf e t m) q 2 ≡ pageWeight t m q
+    archive-weight = archive-page q 2 low high (omega (arith, d .page-low)) ∙ d .weight-at t m q
 
   -- word f of node v's record
   pub archive-node : (v f : ℕ) → 1 ≤ v → v ≤ nodeCount t → f < 4
-      → nodeFieldIn (archiveOf t m) v f ≡ getD (weightAt t v ∷ labelAt t v ∷ parentAt t v ∷ nextOnPage t m v ∷ []) f 0
-  unfolding nodeFieldIn nodeRecord archiveWords
+      → nodeFieldIn e (archiveOf e t m) v f
+      ≡ getD (weightAt t v ∷ labelAt t v ∷ parentAt t v ∷ nextOnPage t m v ∷ []) f 0
+  unfolding nodeFieldIn nodeRecord
   archive-node v f low high less =
-      let pages : List ℕ = pageRecords t m 1 (runsOf t m) in
-      let place : 3 + 4 * pagesIn (archiveOf t m) + 4 * (v - 1) + f ≡ suc (suc (suc (length pages + (4 * (v - 1) + f)))) =
-      omega (arith, archive-pages, pages-long) in
-      archive-word (3 + 4 * pagesIn (archiveOf t m) + 4 * (v - 1) + f)
-      ∙ ap (λ i. getD (nodeCount t ∷ limitOf t ∷ pageCount t m ∷ pages ++ listTo (nodeCount t) (nodeRecord t m)) i 0) place
-      ∙ getD-append-add pages (listTo (nodeCount t) (nodeRecord t m)) (4 * (v - 1) + f) 0
-      ∙ getD-fours (nodeRecord t m) four-nodeRecord (nodeCount t) v f low high less
+      archive-word (e .head + e .page * pagesIn e (archiveOf e t m) + 4 * (v - 1) + f)
+      ∙ ap (λ i. getD (front ++ nodes) i 0)
+      (ap (λ k. e .head + e .page * k + 4 * (v - 1) + f) archive-pages ∙ omega (arith, length-front))
+      ∙ getD-append-add front nodes (4 * (v - 1) + f) 0
+      ∙ getD-recordsTo (nodeRecord t m) 4 (length-nodeRecord t m) (nodeCount t) v f low high less
 
-  pub archive-parent : (v : ℕ) → 1 ≤ v → v ≤ nodeCount t → parentIn (archiveOf t m) v ≡ parentAt t v
+  pub archive-parent : (v : ℕ) → 1 ≤ v → v ≤ nodeCount t → parentIn e (archiveOf e t m) v ≡ parentAt t v
   unfolding parentIn
   archive-parent v low high = archive-node v 2 low high (omega arith)

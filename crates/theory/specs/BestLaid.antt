@@ -1,36 +1,39 @@
 -- The marks that best and level lay from the root down weigh what their entries say.
--- Defines Figured, pagesBelow, pagesOf. Proves laid-feasible: these marks are allowed, every page is within K, and the page count and
--- the root page are the entries'. Assumes nothing.
+-- Defines Figured, pagesBelow, pagesOf. Proves laid-feasible: these marks are allowed, every page is within K, and
+-- the page count and the root page are the entries'. Assumes nothing.
 use Prim.Native.Nat.{ℕ, suc, _+_, _≤_}
 use mathlib.Core.Path.{_≡_, refl, sym, ap, _∙_}
 use mathlib.Core.Bool.{Bool, true, false}
-use mathlib.Core.List.{List, [], _∷_, _++_, reverse, reverseAux, reverse-reverse}
+use mathlib.Core.List.{List, [], _∷_, reverse, reverseAux, reverse-reverse}
 use native.Mathlib.Omega.{arith}
 use lib.ListN.{length}
 use Rattle.model.specs.Basics.{pick}
 use Rattle.model.specs.Table.{Chain, end, node}
 use Rattle.model.specs.Plan.{stays, begins, continues}
-use Rattle.model.specs.Steps.{Child, Choice, entryAt, childOf, childrenFrom, childrenOf, choicesOf, layMarks, rootChoice}
+use Rattle.model.specs.Steps.{Child, Choice, entryAt, childOf, childrenFrom, childrenOf, choicesOf, layMarks}
+use Rattle.model.specs.Steps.{rootChoice}
 use Rattle.theory.specs.PlanShape.{weighed, EachWithin}
+use Rattle.theory.specs.PlanLaid.{FeasibleShape, feasible-tree}
+use Rattle.theory.specs.PlanWeighs.{Weighs, weighs-end, weighs-stays, weighs-begins, weighs-continues}
 use Rattle.theory.specs.BestGreedy.{Offers, best, second}
 use Rattle.theory.specs.BestLevel.{Fair, RunSoFar, noRun, aRun, Level, empty, stay, begin, go, run-within}
-use Rattle.theory.specs.BestEntries.{Reaches}
-use Rattle.theory.specs.BestNodes.{bestEntry, secondEntry, node-rest, node-best, SecondPlan, node-second, children-fair}
-use Rattle.theory.specs.PlanLaid.{FeasibleShape}
-use Rattle.theory.specs.PlanWeighs.{Weighs, node-page, weighs-end, weighs-stays, weighs-begins, weighs-continues}
+use Rattle.theory.specs.BestNodes.{bestEntry, node-rest, node-best, node-second, children-fair}
 
--- the pages that begin in a chain and below it where each node follows its best plan: the counts of their best entries
+-- the pages that begin in a chain and below it where each node follows its best plan: the counts of their best
+-- entries
 unfoldable pub pagesBelow : Bool → ℕ → Chain → ℕ
 pagesBelow gains K end = 0
 pagesBelow gains K (node w l kids next) =
     bestEntry K w (childrenOf gains K kids) .count + pagesBelow gains K kids + pagesBelow gains K next
+
+-- ---- A node and a chain
 
 -- the marks laid below a node, which follows its best plan or its second
 abbrev marksBelow : Bool → ℕ → ℕ → Chain → Bool → List ℕ
 marksBelow gains K w kids b = layMarks gains K kids (choicesOf gains K w kids b)
 
 -- a node that follows a plan with e pages more than its best, and rest r
-record LaidBelow (gains : Bool) (K w : ℕ) (kids : Chain) (b : Bool) (e r : ℕ) : Type 0 where
+record NodeLaid (gains : Bool) (K w : ℕ) (kids : Chain) (b : Bool) (e r : ℕ) : Type 0 where
   sum : ℕ
   carry : ℕ
   pages : ℕ
@@ -48,188 +51,89 @@ abbrev HasRoom : ℕ → RunSoFar → ℕ → Type 0
 HasRoom K noRun c = Unit {0}
 HasRoom K (aRun y l) c = y + c ≤ K
 
--- The marks of a chain after some siblings, laid under the choices ds of a plan of the level with n pages, and x that stays: the choices
--- are split into those of the chain and those of the siblings before, for which the plan is one too.
-record Laid (gains : Bool) (K : ℕ) (c : Chain) (before : List Child) (ds : List Choice) (n x : ℕ) : Type 0 where
-  own : List Choice
-  others : List Choice
-  split : reverseAux own others ≡ ds
-  count : ℕ
-  sum : ℕ
-  run : RunSoFar
-  level : Level K before others count sum run
-  stayed : ℕ
-  carried : ℕ
-  pages : ℕ
-  marks : Weighs K (inRunSoFar run) c (layMarks gains K c own) stayed carried pages
-  room : HasRoom K run carried
-  total : x ≡ sum + stayed
-  counted : n + pagesBelow gains K c ≡ count + pages
-
 room-zero : {K n x : ℕ} {ks : List Child} {cs : List Choice} (o : RunSoFar) → Level K ks cs n x o → HasRoom K o 0
 room-zero noRun l = tt
 room-zero (aRun y z) l = omega (arith, run-within l)
 
-laid-end : {gains : Bool} {K n x : ℕ} {before : List Child} {ds : List Choice} {o : RunSoFar}
-    → Level K before ds n x o
-    → Laid gains K end before ds n x
+-- The marks of a chain after some siblings, laid under the choices ds of a plan of the level with n pages, and x
+-- that stays: the choices are split into those of the chain and those of the siblings before, for which the plan is
+-- one too.
+data ChainLaid (gains : Bool) (K : ℕ) (c : Chain) (before : List Child) (ds : List Choice) (n x : ℕ) : Type 0 where
+  chainLaid : {others : List Choice} {count sum stayed carried pages : ℕ} {run : RunSoFar} (own : List Choice)
+      → reverseAux own others ≡ ds
+      → Level K before others count sum run
+      → Weighs K (inRunSoFar run) c (layMarks gains K c own) stayed carried pages
+      → HasRoom K run carried
+      → x ≡ sum + stayed
+      → n + pagesBelow gains K c ≡ count + pages
+      → ChainLaid gains K c before ds n x
+
+chain-laid-end : {gains : Bool} {K n x : ℕ} {before : List Child} {ds : List Choice} {o : RunSoFar}
+    → Level K before ds n x o → ChainLaid gains K end before ds n x
 unfolding layMarks pagesBelow
-laid-end {gains} {K} {n} {x} {o = o} l =
-    record {
-      own = [];
-      others = _;
-      split = refl;
-      count = n;
-      sum = x;
-      run = o;
-      level = l;
-      stayed = 0;
-      carried = 0;
-      pages = 0;
-      marks = weighs-end K (inRunSoFar o);
-      room = room-zero o l;
-      total = omega arith;
-      counted = omega arith;
-    }
+chain-laid-end {K = K} {o = o} l =
+    chainLaid [] refl l (weighs-end K (inRunSoFar o)) (room-zero o l) (omega arith) (omega arith)
 
 -- what a node's children weigh under each plan that it offers
 abbrev Offering : Bool → ℕ → ℕ → Chain → Type 0
 Offering gains K w kids =
-    (b : Bool) (e r : ℕ) → Offers (childOf gains K w (childrenOf gains K kids)) b e r → LaidBelow gains K w kids b e r
+    (b : Bool) (e r : ℕ) → Offers (childOf gains K w (childrenOf gains K kids)) b e r → NodeLaid gains K w kids b e r
 
 -- one sibling more, before those of `next`
-module _ {gains : Bool} {K w l n x stayed carried pages : ℕ} {kids next : Chain} {before : List Child} {ds : List Choice} (own : List Choice) where
-  laid-node : {count sum : ℕ} {others : List Choice} {run : RunSoFar}
-      → Offering gains K w kids
-      → reverseAux own others ≡ ds
-      → Level K (childOf gains K w (childrenOf gains K kids) ∷ before) others count sum run
-      → Weighs K (inRunSoFar run) next (layMarks gains K next own) stayed carried pages
-      → HasRoom K run carried
-      → x ≡ sum + stayed
-      → n + pagesBelow gains K next ≡ count + pages
-      → Laid gains K (node w l kids next) before ds n x
-  unfolding layMarks pagesBelow
-  laid-node kid s (stay {cs = cs} {n = m} {x′ = y} {o = o} e v) q h t u =
-      let p : LaidBelow gains K w kids false 0 _ = kid false 0 _ (best refl refl) in
-      record {
-        own = record { mark = stays; second = false } ∷ own;
-        others = cs;
-        split = s;
-        count = m;
-        sum = y;
-        run = o;
-        level = v;
-        stayed = w + p .sum + stayed;
-        carried = 0;
-        pages = p .pages + pages;
-        marks = weighs-stays w l kids next (marksBelow gains K w kids false) (layMarks gains K next own) (inRunSoFar o) (p .marks) q;
-        room = room-zero o v;
-        total = omega arith;
-        counted = omega arith;
-      }
-  laid-node kid s (begin {cs = cs} {b = b} {e = more} {r = r} {n′ = m} {x = y} {o = o} f c e z v) q h t u =
-      let p : LaidBelow gains K w kids b more r = kid b more r f in
-      record {
-        own = record { mark = begins; second = b } ∷ own;
-        others = cs;
-        split = s;
-        count = m;
-        sum = y;
-        run = o;
-        level = v;
-        stayed = stayed;
-        carried = 0;
-        pages = suc (p .pages + pages);
-        marks = weighs-begins w l kids next (marksBelow gains K w kids b) (layMarks gains K next own) (inRunSoFar o) (p .marks) q (omega arith);
-        room = room-zero o v;
-        total = t;
-        counted = omega arith;
-      }
-  laid-node kid s (go {cs = cs} {b = b} {e = more} {r = r} {n′ = m} {x = y} {y′ = z} {l′ = y₂} f c d e g i v) q h t u =
-      let p : LaidBelow gains K w kids b more r = kid b more r f in
-      record {
-        own = record { mark = continues; second = b } ∷ own;
-        others = cs;
-        split = s;
-        count = m;
-        sum = y;
-        run = aRun z y₂;
-        level = v;
-        stayed = stayed;
-        carried = w + p .sum + carried;
-        pages = p .pages + pages;
-        marks = weighs-continues w l kids next (marksBelow gains K w kids b) (layMarks gains K next own) (p .marks) q;
-        room = omega arith;
-        total = t;
-        counted = omega arith;
-      }
+chain-laid-node : {gains : Bool} {K w l n x : ℕ} {kids next : Chain} {before : List Child} {ds : List Choice}
+    → Offering gains K w kids
+    → ChainLaid gains K next (childOf gains K w (childrenOf gains K kids) ∷ before) ds n x
+    → ChainLaid gains K (node w l kids next) before ds n x
+unfolding layMarks pagesBelow
+chain-laid-node {w = w} {l} {kids = kids} {next} kid (chainLaid own s (stay {o = o} e v) q h t u) =
+    let p : NodeLaid _ _ w kids false 0 _ = kid false 0 _ (best refl refl) in
+    chainLaid (record { mark = stays; second = false } ∷ own) s v
+    (weighs-stays w l kids next _ _ (inRunSoFar o) (p .marks) q) (room-zero o v) (omega arith) (omega arith)
+chain-laid-node {w = w} {l} {kids = kids} {next} kid (chainLaid own s (begin {b = b} {o = o} f c e z v) q h t u) =
+    let p : NodeLaid _ _ w kids b _ _ = kid b _ _ f in
+    chainLaid (record { mark = begins; second = b } ∷ own) s v
+    (weighs-begins w l kids next _ _ (inRunSoFar o) (p .marks) q (omega arith)) (room-zero o v) t (omega arith)
+chain-laid-node {w = w} {l} {kids = kids} {next} kid (chainLaid own s (go {b = b} f c d e g i v) q h t u) =
+    let p : NodeLaid _ _ w kids b _ _ = kid b _ _ f in
+    chainLaid (record { mark = continues; second = b } ∷ own) s v
+    (weighs-continues w l kids next _ _ (p .marks) q) (omega arith) t (omega arith)
 
--- the children of a node under a plan of their level
-record LaidAll (gains : Bool) (K : ℕ) (c : Chain) (ds : List Choice) (n x : ℕ) : Type 0 where
-  carry : ℕ
-  pages : ℕ
-  marks : Weighs K false c (layMarks gains K c (reverse ds)) x carry pages
-  counted : pages ≡ n + pagesBelow gains K c
-
-laid-all : {gains : Bool} {K n x : ℕ} {c : Chain} {ds : List Choice} → Laid gains K c [] ds n x → LaidAll gains K c ds n x
-laid-all r = whole (r .own) (r .split) (r .level) (r .marks) (r .total) (r .counted)
-  where
-    whole : {gains : Bool} {K n x count sum stayed carried pages : ℕ} {c : Chain} {ds others : List Choice} {run : RunSoFar} (own : List Choice)
-        → reverseAux own others ≡ ds
-        → Level K [] others count sum run
-        → Weighs K (inRunSoFar run) c (layMarks gains K c own) stayed carried pages
-        → x ≡ sum + stayed
-        → n + pagesBelow gains K c ≡ count + pages
-        → LaidAll gains K c ds n x
-    whole {x = x} {stayed = stayed} {ds = ds} own s (empty e f) m t u =
-        let mine : own ≡ reverse ds = sym (reverse-reverse own) ∙ ap reverse s in
-        let all : stayed ≡ x = omega arith in
-        record { carry = _; pages = _; marks = rw (mine, all) at m; counted = omega arith }
+-- the children of a node, under the plan that the node follows
+node-laid : {gains : Bool} {K n w x e r : ℕ} {b : Bool} {kids : Chain} {ds : List Choice}
+    → ChainLaid gains K kids [] ds n x
+    → reverse ds ≡ choicesOf gains K w kids b
+    → w + x ≡ r
+    → n ≡ bestEntry K w (childrenOf gains K kids) .count + e
+    → NodeLaid gains K w kids b e r
+node-laid (chainLaid own s (empty e f) m h t u) c q v =
+    let mine = sym (reverse-reverse own) ∙ ap reverse s ∙ c in
+    record { sum = _; carry = _; pages = _; marks = rw mine at m; total = omega arith; more = omega arith }
 
 -- every plan that a node offers is laid below it as it is offered
-offering : (gains : Bool) {K w : ℕ} {kids : Chain}
-    → Fair K (childrenOf gains K kids)
-    → w ≤ K
-    → ((ds : List Choice) (n x : ℕ) (o : RunSoFar) → Level K (childrenOf gains K kids) ds n x o → LaidAll gains K kids ds n x)
+offering : (gains : Bool) (K w : ℕ) (kids : Chain) → Fair K (childrenOf gains K kids) → w ≤ K
+    → ((ds : List Choice) (n x : ℕ) (o : RunSoFar) → Level K (childrenOf gains K kids) ds n x o
+    → ChainLaid gains K kids [] ds n x)
     → Offering gains K w kids
 unfolding choicesOf pick
-offering gains {K} {w} {kids} f h lay b e r (best p q) =
+offering gains K w kids f h lay b e r (best p q) =
     let ks : List Child = childrenOf gains K kids in
-    let b : Reaches K w ks (bestEntry K w ks) = node-best f h in
-    let a : LaidAll gains K kids (bestEntry K w ks .choices) (bestEntry K w ks .count) (b .sum) = lay _ _ _ _ (b .level) in
-    record {
-      sum = b .sum;
-      carry = a .carry;
-      pages = a .pages;
-      marks = a .marks;
-      total = omega (arith, b .total, node-rest gains K w ks);
-      more = omega (arith, a .counted);
-    }
-offering gains {K} {w} {kids} f h lay b e r (second p g q) =
+    let b = node-best K w ks f h in
+    node-laid (lay _ _ _ _ (b .level)) refl (omega (arith, b .total, node-rest gains K w ks)) (omega arith)
+offering gains K w kids f h lay b e r (second p g q) =
     let ks : List Child = childrenOf gains K kids in
-    let b : SecondPlan K w ks (childOf gains K w ks .gain) = node-second gains f h g in
-    let a : LaidAll gains K kids (secondEntry K w ks .choices) (secondEntry K w ks .count) (b .sum) = lay _ _ _ _ (b .level) in
-    record {
-      sum = b .sum;
-      carry = a .carry;
-      pages = a .pages;
-      marks = a .marks;
-      total = omega (arith, b .total, node-rest gains K w ks);
-      more = omega (arith, a .counted, b .more);
-    }
+    let b = node-second K w ks f h gains g in
+    let total = b .total in
+    node-laid (lay _ _ _ _ (b .level)) refl (omega (arith, node-rest gains K w ks)) (omega (arith, b .more))
 
 lay-chain : (gains : Bool) {K n x : ℕ} (c : Chain) (before : List Child) {ds : List Choice} {o : RunSoFar}
-    → EachWithin K c
-    → Level K (childrenFrom gains K c before) ds n x o
-    → Laid gains K c before ds n x
+    → EachWithin K c → Level K (childrenFrom gains K c before) ds n x o → ChainLaid gains K c before ds n x
 unfolding childrenFrom childrenOf EachWithin
-lay-chain gains end before e l = laid-end l
+lay-chain gains end before e l = chain-laid-end l
 lay-chain gains {K} (node w z kids next) before e l =
-    let r : Laid gains K next _ _ _ _ = lay-chain gains next (childOf gains K w (childrenFrom gains K kids []) ∷ before) (e .2) l in
-    let f : Fair K (childrenFrom gains K kids []) = children-fair gains K kids [] (e .1) tt in
-    laid-node (r .own)
-    (offering gains f (e .0) (λ ds n x o v. laid-all (lay-chain gains kids [] (e .1) v)))
-    (r .split) (r .level) (r .marks) (r .room) (r .total) (r .counted)
+    chain-laid-node
+    (offering gains K w kids (children-fair gains K kids [] (e .1) tt) (e .0)
+    (λ ds n x o v. lay-chain gains kids [] (e .1) v))
+    (lay-chain gains next (childOf gains K w (childrenFrom gains K kids []) ∷ before) (e .2) l)
 
 -- ---- The whole tree
 
@@ -242,31 +146,19 @@ pub record Figured (K : ℕ) (c : Chain) (ms : List ℕ) (pages root : ℕ) : Ty
 abbrev pub pagesOf : Bool → ℕ → Chain → ℕ
 pagesOf gains K c = suc (pagesBelow gains K c)
 
-pub laid-feasible : (gains : Bool) (K w l : ℕ) (kids : Chain)
-    → EachWithin K (node w l kids end)
-    → Figured K (node w l kids end) (layMarks gains K (node w l kids end) rootChoice) (pagesOf gains K (node w l kids end))
-    (entryAt K (childrenOf gains K kids) w .rest)
+pub laid-feasible : (gains : Bool) (K w l : ℕ) (kids : Chain) → EachWithin K (node w l kids end)
+    → Figured K (node w l kids end) (layMarks gains K (node w l kids end) rootChoice)
+    (pagesOf gains K (node w l kids end)) (entryAt K (childrenOf gains K kids) w .rest)
 unfolding layMarks childrenOf EachWithin pagesBelow
 laid-feasible gains K w l kids e =
-    let f : Fair K (childrenFrom gains K kids []) = children-fair gains K kids [] (e .1) tt in
-    let p : LaidBelow gains K w kids false 0 _ =
-    offering gains f (e .0) (λ ds n x o v. laid-all (lay-chain gains kids [] (e .1) v)) false 0 _ (best refl refl)
-    in
-    let ms : List ℕ = marksBelow gains K w kids false in
     let ks : List Child = childrenOf gains K kids in
-    let b : Reaches K w ks (bestEntry K w ks) = node-best f (e .0) in
-    let rest : childOf gains K w ks .rest ≡ bestEntry K w ks .rest = node-rest gains K w ks in
-    let q : Weighs K false (node w l kids end) (1 ∷ (ms ++ [])) 0 0 (suc (p .pages + 0)) =
-    weighs-begins w l kids end ms [] false (p .marks) (weighs-end K true) (omega (arith, b .within, p .total))
-    in
+    let f : Fair K ks = children-fair gains K kids [] (e .1) tt in
+    let p = offering gains K w kids f (e .0) (λ ds n x o v. lay-chain gains kids [] (e .1) v)
+    false 0 _ (best refl refl) in
+    let b = node-best K w ks f (e .0) in
+    let total : w + p .sum ≡ bestEntry K w ks .rest = omega (arith, p .total, node-rest gains K w ks) in
+    let q = weighs-begins w l kids end _ [] false (p .marks) (weighs-end K true) (omega arith) in
     record {
-      feasible =
-          record {
-            long = q .sized;
-            first = refl;
-            allows = q .fine;
-            within = q .within;
-            root-page = omega (arith, node-page w l kids end ms [] (p .marks .sized), p .total, p .marks .stays-is, weighs-end K true .carry-is);
-          };
+      feasible = rw total at (feasible-tree K w l (record { count = _; weighs = p .marks }) (omega arith));
       count = omega (arith, q .pages-are, p .more);
     }

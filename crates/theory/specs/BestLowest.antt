@@ -1,143 +1,106 @@
 -- Demand 3: the best plan is the lowest there is.
--- Defines rootEntry. Proves best-judged, level-judged, single-judged, pair-judged (each planner's plan of an accepted tree is
--- feasible), best-figures and level-figures (the verdict has the entries' count and the rest of the root's entry), best-least-plan (no
--- feasible plan is better than best's) and best-lowest. Assumes nothing.
+-- Proves best-judged, level-judged, single-judged, pair-judged (each planner's plan of an accepted tree is feasible)
+-- and best-lowest. Assumes nothing.
 use Prim.Native.Nat.{ℕ, _≤_}
-use mathlib.Core.Path.{_≡_, sym, _∙_, ap₂}
-use mathlib.Core.Bool.{Bool, true, false}
-use mathlib.Core.List.{List, []}
+use mathlib.Core.Path.{_≡_, _∙_}
+use mathlib.Core.Bool.{true, false}
+use mathlib.Core.List.{List}
 use native.Mathlib.Omega.{arith}
 use lib.ListN.{length, getD}
 use Rattle.model.specs.Table.{Chain, end, node, limitOf, treeOf, weightAt, labelAt}
-use Rattle.model.specs.Plan.{markAt, pageCount, pageWeight, verdictOf}
+use Rattle.model.specs.Plan.{markAt, pageCount, pageWeight}
 use Rattle.model.specs.Runs.{runsOf}
-use Rattle.model.specs.Steps.{Entry, entryAt, childrenOf, bestMarks, levelMarks, singleMarks, pairMarks}
-use Rattle.model.specs.Refusals.{answerOf, judgePlan}
+use Rattle.model.specs.Steps.{bestMarks, levelMarks, singleMarks, pairMarks}
 use Rattle.model.specs.Demand.{Lowest}
-use Rattle.model.specs.declared.Verdict.the-variants.{Feasible}
 use Rattle.theory.specs.TableFacts.{AcceptedFacts}
 use Rattle.theory.specs.TableNumbered.{Rooted, sound-root, tree-within, tree-positive}
 use Rattle.theory.specs.PlanShape.{allowed, weighed, AllWithin, EachWithin, Positive}
 use Rattle.theory.specs.PlanLaid.{FeasibleShape}
-use Rattle.theory.specs.PlanFeasible.{Judged, ShapePlan, judged-verdict, judged-bridge, shape-judged}
+use Rattle.theory.specs.PlanFeasible.{Judged, ShapePlan, judged-bridge, shape-judged}
 use Rattle.theory.specs.PlanBridge.{count-bridge, weight-bridge}
 use Rattle.theory.specs.SingleShape.{single-feasible}
 use Rattle.theory.specs.PairShape.{pair-feasible}
-use Rattle.theory.specs.BestLaid.{Figured, pagesOf}
 use Rattle.theory.specs.BestShape.{NoBetterThanBest, best-feasible, level-feasible, best-least}
 use Rattle.theory.specs.RunsHeld.{PlanRuns, plan-runs, RunsPlan, runs-plan}
 
--- the entry of the root's best plan
-unfoldable pub rootEntry : Bool → ℕ → Chain → Entry
-rootEntry gains K end = record { count = 0; rest = 0; choices = [] }
-rootEntry gains K (node w l kids next) = entryAt K (childrenOf gains K kids) w
-
 module _ {t : List ℕ} (a : AcceptedFacts t) where
+  abbrev K : ℕ
+  K = limitOf t
+
   -- what is shown of a root with its children holds of the tree of the table
   by-shape : (P : Chain → Type 0)
-      → ((w l : ℕ) (kids : Chain) → EachWithin (limitOf t) (node w l kids end) → Positive (node w l kids end) → P (node w l kids end))
+      → ((w l : ℕ) (kids : Chain) → EachWithin K (node w l kids end) → Positive (node w l kids end)
+      → P (node w l kids end))
       → P (treeOf t)
   by-shape P f =
       let r : Rooted t = sound-root (a .sound) in
       rw (r .shape)
-      (f (weightAt t 1) (labelAt t 1) (r .kids) (rw (r .shape) at (tree-within a)) (rw (r .shape) at (tree-positive (a .sound))))
+      (f (weightAt t 1) (labelAt t 1) (r .kids) (rw (r .shape) at (tree-within a))
+      (rw (r .shape) at (tree-positive (a .sound))))
 
   -- a planner whose marks are feasible by shape
   abbrev Plans : (ℕ → Chain → List ℕ) → Chain → Type 0
-  Plans steps c = (root : ℕ) × FeasibleShape (limitOf t) c (steps (limitOf t) c) root
+  Plans steps c = (root : ℕ) × FeasibleShape K c (steps K c) root
 
-  judged : (steps : ℕ → Chain → List ℕ) → Plans steps (treeOf t) → Judged t (steps (limitOf t) (treeOf t))
-  judged steps p = shape-judged a _ (p .0) (p .1)
+  plan-judged : (steps : ℕ → Chain → List ℕ)
+      → ((w l : ℕ) (kids : Chain) → EachWithin K (node w l kids end) → Plans steps (node w l kids end))
+      → Judged t (steps K (treeOf t))
+  plan-judged steps f =
+      let p = by-shape (Plans steps) (λ w l kids e p. f w l kids e) in
+      shape-judged a _ (p .0) (p .1)
 
-  pub best-judged : Judged t (bestMarks (limitOf t) (treeOf t))
-  best-judged = judged bestMarks (by-shape (Plans bestMarks) (λ w l kids e p. (_, best-feasible (limitOf t) w l kids e .feasible)))
+  pub best-judged : Judged t (bestMarks K (treeOf t))
+  best-judged = plan-judged bestMarks (λ w l kids e. (_, best-feasible K w l kids e .feasible))
 
-  pub level-judged : Judged t (levelMarks (limitOf t) (treeOf t))
-  level-judged = judged levelMarks (by-shape (Plans levelMarks) (λ w l kids e p. (_, level-feasible (limitOf t) w l kids e .feasible)))
+  pub level-judged : Judged t (levelMarks K (treeOf t))
+  level-judged = plan-judged levelMarks (λ w l kids e. (_, level-feasible K w l kids e .feasible))
 
-  pub single-judged : Judged t (singleMarks (limitOf t) (treeOf t))
-  single-judged = judged singleMarks (by-shape (Plans singleMarks) (λ w l kids e p. (_, single-feasible (limitOf t) w l kids e)))
+  pub single-judged : Judged t (singleMarks K (treeOf t))
+  single-judged = plan-judged singleMarks (λ w l kids e. (_, single-feasible K w l kids e))
 
-  pub pair-judged : Judged t (pairMarks (limitOf t) (treeOf t))
-  pair-judged = judged pairMarks (by-shape (Plans pairMarks) (λ w l kids e p. (_, pair-feasible (limitOf t) w l kids e)))
+  pub pair-judged : Judged t (pairMarks K (treeOf t))
+  pair-judged = plan-judged pairMarks (λ w l kids e. (_, pair-feasible K w l kids e))
 
   -- the figures of a feasible plan are those of its pages by shape
-  count-is : (m : List ℕ) → Judged t m → pageCount t m ≡ length (weighed (treeOf t) m .pages)
-  count-is m j = count-bridge (a .sound) m (j .long) (judged-bridge a m (j .long) .0 j .allows)
+  page-count-is : (m : List ℕ) → Judged t m → pageCount t m ≡ length (weighed (treeOf t) m .pages)
+  page-count-is m j = count-bridge (a .sound) m (j .long) (judged-bridge a m (j .long) .0 j .allows)
 
-  root-is : (m : List ℕ) → Judged t m → pageWeight t m 1 ≡ getD (weighed (treeOf t) m .pages) 0 0
-  root-is m j = weight-bridge (a .sound) m (j .long) (judged-bridge a m (j .long) .0 j .allows) 1 (omega arith)
+  root-weight-is : (m : List ℕ) → Judged t m → pageWeight t m 1 ≡ getD (weighed (treeOf t) m .pages) 0 0
+  root-weight-is m j = weight-bridge (a .sound) m (j .long) (judged-bridge a m (j .long) .0 j .allows) 1 (omega arith)
 
-  -- the verdict's figures are those of the entries: the sum of the counts and a page for the root, and the rest of the root's entry
-  abbrev ByEntries : Bool → List ℕ → Type 0
-  ByEntries gains m =
-      verdictOf t m ≡ Feasible (pagesOf gains (limitOf t) (treeOf t)) (rootEntry gains (limitOf t) (treeOf t) .rest)
-
-  by-entries : (gains : Bool) (m : List ℕ) → Judged t m
-      → Figured (limitOf t) (treeOf t) m (pagesOf gains (limitOf t) (treeOf t)) (rootEntry gains (limitOf t) (treeOf t) .rest)
-      → ByEntries gains m
-  by-entries gains m j f =
-      judged-verdict j
-      ∙ ap₂ (λ (p w : ℕ). Feasible p w) (count-is m j ∙ f .count) (root-is m j ∙ f .feasible .root-page)
-
-  pub best-figures : ByEntries true (bestMarks (limitOf t) (treeOf t))
-  unfolding rootEntry
-  best-figures =
-      by-entries true (bestMarks (limitOf t) (treeOf t)) best-judged
-      (by-shape (λ c. Figured (limitOf t) c (bestMarks (limitOf t) c) (pagesOf true (limitOf t) c) (rootEntry true (limitOf t) c .rest))
-      (λ w l kids e p. best-feasible (limitOf t) w l kids e))
-
-  pub level-figures : ByEntries false (levelMarks (limitOf t) (treeOf t))
-  unfolding rootEntry
-  level-figures =
-      by-entries false (levelMarks (limitOf t) (treeOf t)) level-judged
-      (by-shape (λ c. Figured (limitOf t) c (levelMarks (limitOf t) c) (pagesOf false (limitOf t) c) (rootEntry false (limitOf t) c .rest))
-      (λ w l kids e p. level-feasible (limitOf t) w l kids e))
-
-  no-better : (m : List ℕ) → Judged t m → NoBetterThanBest (limitOf t) (treeOf t) m
+  no-better : (m : List ℕ) → Judged t m → NoBetterThanBest K (treeOf t) m
   unfolding markAt
   no-better m j =
       let s : ShapePlan t m = judged-bridge a m (j .long) .0 j in
-      by-shape
-      (λ c. allowed false c m ≡ true → AllWithin (limitOf t) (weighed c m .pages) → NoBetterThanBest (limitOf t) c m)
-      (λ w l kids e p q h. best-least (limitOf t) w l kids m e p q (s .first) h)
-      (s .allows) (s .within)
+      by-shape (λ c. allowed false c m ≡ true → AllWithin K (weighed c m .pages) → NoBetterThanBest K c m)
+      (λ w l kids e p q h. best-least K w l kids m e p q (s .first) h) (s .allows) (s .within)
 
-  -- the best plan of the tree, and its page count and root weight
-  abbrev best : List ℕ
-  best = bestMarks (limitOf t) (treeOf t)
+  abbrev bestPlan : List ℕ
+  bestPlan = bestMarks K (treeOf t)
 
-  -- no feasible plan has fewer pages, nor as many and a lighter root page
-  pub best-least-plan : (m : List ℕ) → Judged t m
-      → (pageCount t best ≤ pageCount t m) × (pageCount t m ≡ pageCount t best → pageWeight t best 1 ≤ pageWeight t m 1)
+  -- no feasible plan has fewer pages than best's, nor as many and a lighter root page
+  best-least-plan : (m : List ℕ) → Judged t m
+      → (pageCount t bestPlan ≤ pageCount t m)
+      × (pageCount t m ≡ pageCount t bestPlan → pageWeight t bestPlan 1 ≤ pageWeight t m 1)
   best-least-plan m j =
-      let b = best-judged in
-      let n = no-better m j in (
-        omega (arith, count-is best b, count-is m j, n .count),
-        λ e. omega (arith, root-is best b, root-is m j, n .root (sym (count-is best b) ∙ (sym e ∙ count-is m j))),
+      let n = no-better m j in
+      let c = page-count-is bestPlan best-judged in
+      let d = page-count-is m j in (
+        omega (arith, n .count),
+        λ e. omega (arith, root-weight-is bestPlan best-judged, root-weight-is m j, n .root (omega arith)),
       )
 
-  -- so it has at most as many as each other planner's
-  pub best-below-level : pageCount t best ≤ pageCount t (levelMarks (limitOf t) (treeOf t))
-  best-below-level = best-least-plan _ level-judged .0
-
-  pub best-below-single : pageCount t best ≤ pageCount t (singleMarks (limitOf t) (treeOf t))
-  best-below-single = best-least-plan _ single-judged .0
-
-  pub best-below-pair : pageCount t best ≤ pageCount t (pairMarks (limitOf t) (treeOf t))
-  best-below-pair = best-least-plan _ pair-judged .0
-
   -- demand 3
-  pub best-lowest : Lowest t (pageCount t best) (pageWeight t best 1) (runsOf t best)
+  pub best-lowest : Lowest t (pageCount t bestPlan) (pageWeight t bestPlan 1) (runsOf t bestPlan)
   best-lowest =
       let b = best-judged in
-      let r : PlanRuns t best = plan-runs (a .sound) best (b .marked) in
+      let r : PlanRuns t bestPlan = plan-runs (a .sound) bestPlan (b .marked) in
       record {
         least =
             λ qs h w.
             let q : RunsPlan t qs = runs-plan (a .sound) qs h in
-            let j : Judged t (q .marks) = record { tree = a; long = q .long; marked = q .good; light = q .limit .1 w } in
-            let n = best-least-plan (q .marks) j in
+            let n = best-least-plan (q .marks)
+            (record { tree = a; long = q .long; marked = q .good; light = q .limit .1 w }) in
             (omega (arith, n .0, q .count), λ e. omega (arith, n .1 (q .count ∙ e), q .root));
         held = r .held;
         within = r .limit .1 (b .light);

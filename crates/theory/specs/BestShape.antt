@@ -1,6 +1,6 @@
--- Best and level on a tree by shape: their plans are feasible and their figures are those of the entries (best-feasible, level-feasible),
--- and no feasible plan has fewer pages than best, nor as many and a lighter root page, where every node weighs something (best-least).
--- Assumes nothing.
+-- Best and level on a tree by shape: their plans are feasible and their figures are those of the entries
+-- (best-feasible, level-feasible), and no feasible plan has fewer pages than best, nor as many and a lighter root
+-- page, where every node weighs something (best-least). Defines NoBetterThanBest. Assumes nothing.
 use Prim.Native.Nat.{ℕ, zero, suc, _+_, _≤_}
 use mathlib.Core.Path.{_≡_}
 use mathlib.Core.Bool.{true, false, and-eq-true-iff}
@@ -10,22 +10,22 @@ use lib.ListN.{length, getD, length-append}
 use Rattle.model.specs.Table.{Chain, end, node}
 use Rattle.model.specs.Steps.{entryAt, childrenOf, bestMarks, levelMarks}
 use Rattle.theory.specs.PlanShape.{allowed, allowedMark, joined, weighed, AllWithin, EachWithin, Positive}
-use Rattle.theory.specs.BestNodes.{bestEntry, NoBetter, node-least, children-fair}
+use Rattle.theory.specs.BestNodes.{node-least, children-fair}
 use Rattle.theory.specs.BestLaid.{pagesBelow, pagesOf, Figured, laid-feasible}
 use Rattle.theory.specs.PlanWeighs.{all-within-left}
-use Rattle.theory.specs.BestRealPlans.{Matching, match-children}
+use Rattle.theory.specs.BestRealPlans.{match-children}
 use Rattle.theory.specs.BestReaching.{Reaching, positive-reaching}
 
 module _ (K w l : ℕ) (kids : Chain) (each : EachWithin K (node w l kids end)) where
   -- best's plan is feasible; its page count and the weight of its root page are the entries'
-  pub best-feasible : Figured K (node w l kids end) (bestMarks K (node w l kids end)) (pagesOf true K (node w l kids end))
-      (entryAt K (childrenOf true K kids) w .rest)
+  pub best-feasible : Figured K (node w l kids end) (bestMarks K (node w l kids end))
+      (pagesOf true K (node w l kids end)) (entryAt K (childrenOf true K kids) w .rest)
   unfolding bestMarks
   best-feasible = laid-feasible true K w l kids each
 
   -- and so is level's
-  pub level-feasible : Figured K (node w l kids end) (levelMarks K (node w l kids end)) (pagesOf false K (node w l kids end))
-      (entryAt K (childrenOf false K kids) w .rest)
+  pub level-feasible : Figured K (node w l kids end) (levelMarks K (node w l kids end))
+      (pagesOf false K (node w l kids end)) (entryAt K (childrenOf false K kids) w .rest)
   unfolding levelMarks
   level-feasible = laid-feasible false K w l kids each
 
@@ -44,10 +44,8 @@ record RootParts (K w l : ℕ) (kids : Chain) (ms : List ℕ) : Type 0 where
   root-is : getD (weighed (node w l kids end) (1 ∷ ms) .pages) 0 0 ≡ w + weighed kids ms .stay
 
 module _ (K w l : ℕ) (kids : Chain) where
-  root-parts : (ms : List ℕ)
-      → allowed false (node w l kids end) (1 ∷ ms) ≡ true
-      → AllWithin K (weighed (node w l kids end) (1 ∷ ms) .pages)
-      → RootParts K w l kids ms
+  root-parts : (ms : List ℕ) → allowed false (node w l kids end) (1 ∷ ms) ≡ true
+      → AllWithin K (weighed (node w l kids end) (1 ∷ ms) .pages) → RootParts K w l kids ms
   unfolding allowed allowedMark weighed joined AllWithin
   root-parts ms a h =
       record {
@@ -58,34 +56,27 @@ module _ (K w l : ℕ) (kids : Chain) where
         root-is = omega arith;
       }
 
-  root-least : (ms : List ℕ)
-      → EachWithin K (node w l kids end)
-      → Reaching K [] (node w l kids end)
-      → RootParts K w l kids ms
-      → NoBetterThanBest K (node w l kids end) (1 ∷ ms)
+  root-least : (ms : List ℕ) → EachWithin K (node w l kids end) → Reaching K [] (node w l kids end)
+      → RootParts K w l kids ms → NoBetterThanBest K (node w l kids end) (1 ∷ ms)
   unfolding EachWithin Reaching pagesBelow childrenOf
   root-least ms e g r =
-      let b : Figured K (node w l kids end) (bestMarks K (node w l kids end)) _ _ = best-feasible K w l kids e in
-      let m : Matching K (childrenOf true K kids) (pagesBelow true K kids) (length (weighed kids ms .pages)) (weighed kids ms .stay) =
-      match-children kids ms (e .1) (g .1) (r .fine) (r .within) (omega (arith, r .root-within))
-      in
-      let c : NoBetter (m .pages) (m .sum) (bestEntry K w (childrenOf true K kids)) w _ =
-      node-least (children-fair true K kids [] (e .1) tt) (e .0) (m .level) (omega (arith, m .light, r .root-within))
-      in
+      let b = best-feasible K w l kids e in
+      let m = match-children kids ms (e .1) (g .1) (r .fine) (r .within) (omega (arith, r .root-within)) in
+      let f = children-fair true K kids [] (e .1) tt in
+      let c = node-least K w (childrenOf true K kids) f (e .0) (m .level) (omega (arith, m .light, r .root-within)) in
+      let root = b .feasible .root-page in
       record {
         count = omega (arith, b .count, c .count, m .few, r .count);
-        root = λ q. omega (arith, b .feasible .root-page, r .root-is, m .light, c .rest (omega (arith, b .count, m .few, r .count)));
+        root = λ q. omega (arith, r .root-is, m .light, c .rest (omega (arith, b .count, m .few, r .count)));
       }
 
   -- no feasible plan is better than best's
-  pub best-least : (ms : List ℕ)
-      → EachWithin K (node w l kids end)
-      → Positive (node w l kids end)
-      → allowed false (node w l kids end) ms ≡ true
-      → getD ms 0 0 ≡ 1
+  pub best-least : (ms : List ℕ) → EachWithin K (node w l kids end) → Positive (node w l kids end)
+      → allowed false (node w l kids end) ms ≡ true → getD ms 0 0 ≡ 1
       → AllWithin K (weighed (node w l kids end) ms .pages)
       → NoBetterThanBest K (node w l kids end) ms
   best-least [] e p a m h = absurd (omega arith)
   best-least (zero ∷ ms) e p a m h = absurd (omega arith)
-  best-least (suc zero ∷ ms) e p a m h = root-least ms e (positive-reaching K [] (node w l kids end) e p tt) (root-parts ms a h)
+  best-least (suc zero ∷ ms) e p a m h =
+      root-least ms e (positive-reaching K [] (node w l kids end) e p tt) (root-parts ms a h)
   best-least (suc (suc k) ∷ ms) e p a m h = absurd (omega arith)

@@ -1,14 +1,16 @@
--- Lists of checks, one after the other: where all pass, which of them answers, and which numbers they never give. A list is told by its
--- parts, so that a check put into one of them is met here and in the facts that the part stands for, and nowhere else.
--- Defines Pass, Never, andThen. Proves passes-append, pass-all; firstOf-pass, firstOf-stop, firstOf-all, firstOf-cons; never-append, never-first,
--- accepted-pass, refused-fails; that no check gives 0, and that of the weights alone 7 (head-never to read-never); firstOf-then. Assumes nothing.
+-- Lists of checks, one after the other: where all pass, which of them answers, and which numbers they never give. A
+-- list is told by its parts, so that a check put into one of them is met here and in the facts that the part stands
+-- for, and nowhere else.
+-- Defines Pass, Never, andThen. Proves passes-append, pass-all; firstOf-pass, firstOf-stop, firstOf-all,
+-- firstOf-cons; never-append, never-first, accepted-pass, refused-fails; that no check gives 0, and that of the
+-- weights alone 7 (head-never to read-never); firstOf-then. Assumes nothing.
 use Prim.Native.Nat.{ℕ}
 use mathlib.Core.Path.{_≡_, refl, sym, ap, ap₂, _∙_}
 use mathlib.Core.Bool.{Bool, true, false, not, _&&_, false≢true, true≢false}
 use mathlib.Core.Logic.{_↔_}
-use mathlib.Core.List.{List, [], _∷_, _++_}
+use mathlib.Core.List.{List, [], _∷_, _++_, append-nil}
 use lib.Dec.{eqb}
-use borrow.Author.Tests.{eq-eqb, ne-eqb}
+use borrow.Author.Tests.{eqb-true, eqb-false, eq-eqb, ne-eqb}
 use Rattle.model.specs.Basics.{pick, atPlace, every}
 use Rattle.model.specs.Refusals.{Check, accepted, firstOf, passes}
 use Rattle.model.specs.Refusals.{shortTable, badCount, badLimit, badLength, noWeight, badWalk, heavyNode, badMarks}
@@ -19,7 +21,7 @@ use Rattle.model.specs.declared.Place.{Place}
 use Rattle.model.specs.declared.Place.the-variants.{At, Nowhere}
 use Rattle.model.specs.declared.Answer.{Answer}
 use Rattle.model.specs.declared.Edition.{Edition}
-use Rattle.theory.specs.Ranges.{at-nowhere, pick-true, pick-false, append-nil}
+use Rattle.theory.specs.Ranges.{at-nowhere, pick-true, pick-false}
 use Rattle.theory.specs.Bools.{both-true, and-true}
 
 -- ---- Checks that pass
@@ -86,7 +88,8 @@ unfolding firstOf
 firstOf-all cs a e = ap (λ (ds : List Check). firstOf ds a) (sym (append-nil cs)) ∙ firstOf-pass cs [] a e
 
 -- one check before others, as a program puts an answer together
-pub firstOf-cons : (c : Check) (cs : List Check) (a : Answer) (p : Place) (rest r : Answer) → r ≡ atPlace p (c .answer) rest
+pub firstOf-cons : (c : Check) (cs : List Check) (a : Answer) (p : Place) (rest r : Answer) → r
+    ≡ atPlace p (c .answer) rest
     → p ≡ c .place → rest ≡ firstOf cs a → r ≡ firstOf (c ∷ cs) a
 unfolding firstOf
 firstOf-cons c cs a p rest r e h g = e ∙ ap₂ (λ (o : Place) (x : Answer). atPlace o (c .answer) x) h g
@@ -206,7 +209,8 @@ judge-never t m = never-append 0 (treeChecks t) (markChecks t m) (tree-never t) 
 
 pub write-never : (e : Edition) (t m out : List ℕ) → Never 0 (writeChecks e t m out)
 unfolding writeChecks
-write-never e t m out = never-append 0 (judgeChecks t m) (filmChecks e t m out) (judge-never t m) (film-plain e t m out .0)
+write-never e t m out = never-append 0 (judgeChecks t m) (filmChecks e t m out) (judge-never t m)
+    (film-plain e t m out .0)
 
 pub read-never : (e : Edition) (a t m : List ℕ) → Never 0 (readChecks e a t m)
 unfolding every readChecks backChecks noArchive badOutput badMarks
@@ -225,6 +229,17 @@ then-next r s e = pick-true (eqb (r .number) 0) s r (eq-eqb (r .number) 0 e)
 pub then-stands : (r s : Answer) → (r .number ≡ 0 → ⊥) → andThen r s ≡ r
 unfolding andThen
 then-stands r s h = pick-false (eqb (r .number) 0) s r (ne-eqb (r .number) 0 h)
+
+-- both accept where the answer is acceptance
+pub then-both : (r s : Answer) → andThen r s .number ≡ 0 → (r .number ≡ 0) × (s .number ≡ 0)
+then-both r s e = go (eqb (r .number) 0) refl
+  where
+    go : (b : Bool) → eqb (r .number) 0 ≡ b → (r .number ≡ 0) × (s .number ≡ 0)
+    go true q =
+        let z = eqb-true (r .number) 0 q in (z, sym (ap (λ (x : Answer). x .number) (then-next r s z)) ∙ e)
+    go false q =
+        let other = eqb-false (r .number) 0 q in
+        absurd (other (sym (ap (λ (x : Answer). x .number) (then-stands r s other)) ∙ e))
 
 -- checks after others, from the others' own answer
 pub firstOf-then : (cs ds : List Check) (a : Answer) → Never 0 cs

@@ -1,6 +1,7 @@
--- The answers of the tree reader and of the judge: what acceptance tells of a tree, and the judge's answer from the tree's and the marks'.
--- Defines headAnswer, nodeAnswer, marksAnswer. Proves tree-accepted, tree-facts; head-refuses, head-goes-on, head-count; judge-then, marks-length, marks-verdict;
--- pageCount-le. Assumes nothing.
+-- The answers of the tree reader and of the judge: what acceptance tells of a tree, and the judge's answer from the
+-- tree's and the marks'.
+-- Defines headAnswer, nodeAnswer, marksAnswer. Proves tree-accepted, tree-facts; head-refuses, head-goes-on,
+-- head-count; judge-then, marks-length, marks-verdict; pageCount-le. Assumes nothing.
 use Prim.Native.Nat.{ℕ, _≤_}
 use mathlib.Core.Path.{_≡_, refl, sym, ap, _∙_}
 use mathlib.Core.Bool.{true, not}
@@ -21,7 +22,8 @@ use Rattle.model.specs.declared.Verdict.{Verdict}
 use Rattle.model.specs.declared.Verdict.the-variants.{Feasible, Failed}
 use Rattle.model.specs.declared.Answer.{Answer}
 use Rattle.theory.specs.Ranges.{when-true, when-false, atPlace-at, atPlace-nowhere, countTo-le}
-use Rattle.theory.specs.Checks.{head-plain, tree-never, firstOf-pass, firstOf-append, firstOf-then, accepted-pass, andThen, then-next, then-stands}
+use Rattle.theory.specs.Checks.{head-plain, tree-never, firstOf-pass, firstOf-append, firstOf-then}
+use Rattle.theory.specs.Checks.{accepted-pass, andThen, then-next, then-stands}
 use Rattle.theory.specs.TableFacts.{AcceptedFacts, head-facts, accepted-facts}
 
 -- ---- The tree
@@ -93,7 +95,8 @@ module _ (t m : List ℕ) where
   marks-length h =
       sym
       (marks-are
-      ∙ atPlace-at _ (nodeCount t) (refused 8) _ (when-true _ (nodeCount t) (ap not (ne-eqb (length m) (nodeCount t) h))))
+      ∙ atPlace-at _ (nodeCount t) (refused 8) _
+      (when-true _ (nodeCount t) (ap not (ne-eqb (length m) (nodeCount t) h))))
 
   -- a plan of the right length
   pub marks-verdict : length m ≡ nodeCount t → answerOf (verdictOf t m) ≡ marksAnswer t m

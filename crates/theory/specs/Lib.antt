@@ -1,13 +1,15 @@
 -- Laws about the definitions of document 01, by group, each file after those that it rests on.
--- Bools, numbers 1 to n, and lists
+-- Bools, numbers 1 to n, lists, words
 pub mod Bools
 pub mod Ranges
+pub mod Search
 pub mod Sums
 pub mod Chosen
 pub mod Lists
+pub mod Words
 -- Lists of checks
 pub mod Checks
--- Tables of sound form: facts, numbering, links, siblings, bytes
+-- Tables of sound form: facts, numbering, links, siblings, bytes, and words put into bytes
 pub mod TableFacts
 pub mod PlanShape
 pub mod TableNumbered
@@ -16,6 +18,7 @@ pub mod TableChain
 pub mod SiblingChains
 pub mod SiblingsByParent
 pub mod TableEncoded
+pub mod Put
 -- Plans: pages by number, the judge's answer, plans by shape, and that both say the same
 pub mod PlanPass
 pub mod PlanPages

@@ -1,15 +1,17 @@
--- Tests and counts over lists, and over the list of what is made of each of 1 to n that passes a test: which elements it has, and what
--- is counted in it. Defines Mem, From. Proves every-all, all-every, countOf-one, chosen-from, chosen-mem, countOf-chosen. Assumes nothing.
+-- Tests and counts over lists, and over the list of what is made of each of 1 to n that passes a test: which elements
+-- it has, and what is counted in it. Defines Mem, From. Proves every-all, all-every, countOf-one, chosen-from,
+-- chosen-mem, countOf-chosen. Assumes nothing.
 use Prim.Native.Nat.{ℕ, zero, suc, _+_, _≤_}
 use native.Mathlib.Omega.{arith}
 use mathlib.Core.Bool.{Bool, true, false, _&&_, true≢false}
 use mathlib.Core.Path.{_≡_, refl, sym, _∙_, ap}
-use mathlib.Core.Logic.{_⊎_, inl, inr}
-use mathlib.Core.List.{List, [], _∷_, _++_, List·Memᴰ, List·Memᴰ·head, List·Memᴰ·tail, List·Memᴰ·not-nil, List·Memᴰ·append-cases, List·Memᴰ·eq-of-singleton, Memᴰ·append-left, Memᴰ·append-right}
-use Rattle.model.specs.Basics.{countTo, every}
+use mathlib.Core.Logic.{_⊎_, inl, inr, ⊎-elim}
+use mathlib.Core.List.{List, [], _∷_, _++_, List·Memᴰ, List·Memᴰ·head, List·Memᴰ·tail, List·Memᴰ·not-nil}
+use mathlib.Core.List.{List·Memᴰ·append-cases, List·Memᴰ·eq-of-singleton, Memᴰ·append-left, Memᴰ·append-right}
+use Rattle.model.specs.Basics.{pick, countTo, every}
 use Rattle.model.specs.Runs.{countOf}
-use Rattle.theory.specs.Bools.{both-true}
-use Rattle.theory.specs.Ranges.{upto-suc, pick-true, pick-false, countTo-zero, countTo-yes, countTo-no}
+use Rattle.theory.specs.Bools.{bool-cases, both-true, and-false-left}
+use Rattle.theory.specs.Ranges.{upto-suc, pick-true, pick-false, pick-both, countTo-zero, countTo-suc, countTo-no}
 use Rattle.theory.specs.Chosen.{chosen, chosen-zero, chosen-yes, chosen-no}
 
 abbrev pub Mem {ℓ} : {X : Type ℓ} → X → List X → Type ℓ
@@ -35,20 +37,23 @@ module _ {ℓ} {X : Type ℓ} (p : X → Bool) where
   unfolding countOf
   countOf-nil = refl
 
-  pub countOf-yes : (x : X) (xs : List X) → p x ≡ true → countOf p (x ∷ xs) ≡ suc (countOf p xs)
+  countOf-yes : (x : X) (xs : List X) → p x ≡ true → countOf p (x ∷ xs) ≡ suc (countOf p xs)
   unfolding countOf
   countOf-yes x xs e = pick-true (p x) (suc (countOf p xs)) (countOf p xs) e
 
-  pub countOf-no : (x : X) (xs : List X) → p x ≡ false → countOf p (x ∷ xs) ≡ countOf p xs
+  countOf-no : (x : X) (xs : List X) → p x ≡ false → countOf p (x ∷ xs) ≡ countOf p xs
   unfolding countOf
   countOf-no x xs e = pick-false (p x) (suc (countOf p xs)) (countOf p xs) e
 
-  pub countOf-more : (x : X) (xs : List X) → countOf p xs ≤ countOf p (x ∷ xs)
-  countOf-more x xs = go (p x) refl
-    where
-      go : (b : Bool) → p x ≡ b → countOf p xs ≤ countOf p (x ∷ xs)
-      go true e = omega (arith, countOf-yes x xs e)
-      go false e = omega (arith, countOf-no x xs e)
+  pub countOf-cons : (x : X) (xs : List X) → countOf p (x ∷ xs) ≡ pick (p x) 1 0 + countOf p xs
+  countOf-cons x xs =
+      ⊎-elim (λ e. omega (arith, countOf-yes x xs e, pick-true {X = ℕ} (p x) 1 0 e))
+      (λ e. omega (arith, countOf-no x xs e, pick-false {X = ℕ} (p x) 1 0 e)) (bool-cases (p x))
+
+  countOf-more : (x : X) (xs : List X) → countOf p xs ≤ countOf p (x ∷ xs)
+  unfolding countOf
+  countOf-more x xs =
+      pick-both (λ k. countOf p xs ≤ k) (p x) (suc (countOf p xs)) (countOf p xs) (omega arith) (omega arith)
 
   pub countOf-some : (xs : List X) (x : X) → Mem x xs → p x ≡ true → 1 ≤ countOf p xs
   countOf-some [] x h e = absurd (List·Memᴰ·not-nil h)
@@ -57,11 +62,10 @@ module _ {ℓ} {X : Type ℓ} (p : X → Bool) where
 
   pub countOf-find : (xs : List X) → 1 ≤ countOf p xs → (x : X) × Mem x xs × (p x ≡ true)
   countOf-find [] h = absurd (omega (arith, countOf-nil))
-  countOf-find (y ∷ ys) h = go (p y) refl (countOf-find ys)
-    where
-      go : (b : Bool) → p y ≡ b → (1 ≤ countOf p ys → (x : X) × Mem x ys × (p x ≡ true)) → (x : X) × Mem x (y ∷ ys) × (p x ≡ true)
-      go true e ih = (y, List·Memᴰ·head refl, e)
-      go false e ih = let r = ih (omega (arith, countOf-no y ys e)) in (r .0, List·Memᴰ·tail (r .1), r .2)
+  countOf-find (y ∷ ys) h =
+      ⊎-elim (λ e. (y, List·Memᴰ·head refl, e))
+      (λ e. let r = countOf-find ys (omega (arith, countOf-no y ys e)) in (r .0, List·Memᴰ·tail (r .1), r .2))
+      (bool-cases (p y))
 
   -- where one at most is counted, two that are counted are the same
   pub countOf-one : (xs : List X) (x y : X) → countOf p xs ≤ 1 → Mem x xs → Mem y xs → p x ≡ true → p y ≡ true → x ≡ y
@@ -74,24 +78,21 @@ module _ {ℓ} {X : Type ℓ} (p : X → Bool) where
   countOf-one (z ∷ zs) x y h (List·Memᴰ·tail a) (List·Memᴰ·tail b) e e′ =
       countOf-one zs x y (omega (arith, countOf-more z zs)) a b e e′
 
-  pub countOf-append : (xs ys : List X) → countOf p (xs ++ ys) ≡ countOf p xs + countOf p ys
+  countOf-append : (xs ys : List X) → countOf p (xs ++ ys) ≡ countOf p xs + countOf p ys
   countOf-append [] ys = omega (arith, countOf-nil)
-  countOf-append (x ∷ xs) ys = go (p x) refl (countOf-append xs ys)
-    where
-      go : (b : Bool) → p x ≡ b → countOf p (xs ++ ys) ≡ countOf p xs + countOf p ys
-          → countOf p (x ∷ (xs ++ ys)) ≡ countOf p (x ∷ xs) + countOf p ys
-      go true e ih = omega (arith, countOf-yes x (xs ++ ys) e, countOf-yes x xs e)
-      go false e ih = omega (arith, countOf-no x (xs ++ ys) e, countOf-no x xs e)
+  countOf-append (x ∷ xs) ys =
+      let rest = countOf-append xs ys in
+      ⊎-elim (λ e. omega (arith, countOf-yes x (xs ++ ys) e, countOf-yes x xs e))
+      (λ e. omega (arith, countOf-no x (xs ++ ys) e, countOf-no x xs e)) (bool-cases (p x))
 
 -- a test that passes less often counts less
 pub countOf-le {ℓ} : {X : Type ℓ} (p q : X → Bool) (xs : List X) → ((x : X) → Mem x xs → p x ≡ true → q x ≡ true)
     → countOf p xs ≤ countOf q xs
 countOf-le p q [] h = omega (arith, countOf-nil p)
-countOf-le {X = X} p q (x ∷ xs) h = go (p x) refl (countOf-le p q xs (λ y m. h y (List·Memᴰ·tail m)))
-  where
-    go : (b : Bool) → p x ≡ b → countOf p xs ≤ countOf q xs → countOf p (x ∷ xs) ≤ countOf q (x ∷ xs)
-    go true e ih = omega (arith, countOf-yes p x xs e, countOf-yes q x xs (h x (List·Memᴰ·head refl) e))
-    go false e ih = omega (arith, countOf-no p x xs e, countOf-more q x xs)
+countOf-le p q (x ∷ xs) h =
+    let rest = countOf-le p q xs (λ y m. h y (List·Memᴰ·tail m)) in
+    ⊎-elim (λ e. omega (arith, countOf-yes p x xs e, countOf-yes q x xs (h x (List·Memᴰ·head refl) e)))
+    (λ e. omega (arith, countOf-no p x xs e, countOf-more q x xs)) (bool-cases (p x))
 
 -- ---- Lists of what is made of each number that passes
 
@@ -118,7 +119,13 @@ module _ {ℓ} {X : Type ℓ} (p : ℕ → Bool) (f : ℕ → X) where
           by : Mem x (chosen p f n) ⊎ Mem x (f (suc n) ∷ []) → From (suc n) x
           by (inl m) = from-more n x (ih m)
           by (inr m) =
-              record { number = suc n; low = omega arith; high = omega arith; passed = e; same = List·Memᴰ·eq-of-singleton m }
+              record {
+                number = suc n;
+                low = omega arith;
+                high = omega arith;
+                passed = e;
+                same = List·Memᴰ·eq-of-singleton m;
+              }
       go false e ih = from-more n x (ih (rw (chosen-no p f n e) at h))
 
   pub chosen-mem : (n v : ℕ) → 1 ≤ v → v ≤ n → p v ≡ true → Mem (f v) (chosen p f n)
@@ -135,30 +142,23 @@ module _ {ℓ} {X : Type ℓ} (p : ℕ → Bool) (f : ℕ → X) where
   -- what is counted in it
   pub countOf-chosen : (q : X → Bool) (n : ℕ) → countOf q (chosen p f n) ≡ countTo n (λ v. p v && q (f v))
   countOf-chosen q zero = ap (countOf q) (chosen-zero p f) ∙ countOf-nil q ∙ sym (countTo-zero (λ v. p v && q (f v)))
-  countOf-chosen q (suc n) = go (p (suc n)) refl (q (f (suc n))) refl (countOf-chosen q n)
+  countOf-chosen q (suc n) = go (p (suc n)) refl (countOf-chosen q n)
     where
-      go : (b : Bool) → p (suc n) ≡ b → (c : Bool) → q (f (suc n)) ≡ c → countOf q (chosen p f n) ≡ countTo n (λ v. p v && q (f v))
-          → countOf q (chosen p f (suc n)) ≡ countTo (suc n) (λ v. p v && q (f v))
-      go true e true e′ ih =
-          let yes′ : (p (suc n) && q (f (suc n))) ≡ true = rw (e, e′) in
+      both : ℕ → Bool
+      both v = p v && q (f v)
+
+      go : (b : Bool) → p (suc n) ≡ b → countOf q (chosen p f n) ≡ countTo n both
+          → countOf q (chosen p f (suc n)) ≡ countTo (suc n) both
+      go true e ih =
           omega (
             arith,
             ap (countOf q) (chosen-yes p f n e),
             countOf-append q (chosen p f n) (f (suc n) ∷ []),
-            countOf-yes q (f (suc n)) [] e′,
+            countOf-cons q (f (suc n)) [],
             countOf-nil q,
-            countTo-yes n (λ v. p v && q (f v)) yes′,
+            countTo-suc n both,
+            ap (λ b. pick {X = ℕ} (b && q (f (suc n))) 1 0) e,
           )
-      go true e false e′ ih =
-          let no′ : (p (suc n) && q (f (suc n))) ≡ false = rw (e, e′) in
-          omega (
-            arith,
-            ap (countOf q) (chosen-yes p f n e),
-            countOf-append q (chosen p f n) (f (suc n) ∷ []),
-            countOf-no q (f (suc n)) [] e′,
-            countOf-nil q,
-            countTo-no n (λ v. p v && q (f v)) no′,
-          )
-      go false e c e′ ih =
-          let no′ : (p (suc n) && q (f (suc n))) ≡ false = rw e in
-          ap (countOf q) (chosen-no p f n e) ∙ ih ∙ sym (countTo-no n (λ v. p v && q (f v)) no′)
+      go false e ih =
+          ap (countOf q) (chosen-no p f n e) ∙ ih
+          ∙ sym (countTo-no n both (and-false-left (p (suc n)) (q (f (suc n))) e))

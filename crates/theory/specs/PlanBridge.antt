@@ -1,7 +1,6 @@
--- Pages by number and by shape are the same: for a table of sound form and as many marks as nodes, where the marks of the tree are
--- allowed, the pages are as many, and weigh as much, as by shape.
--- Defines pageIn, weightTo, Adds (what the nodes of a chain add to the pages by number). Proves count-bridge, weight-bridge. Assumes
--- nothing.
+-- Pages by number and by shape are the same: for a table of sound form and as many marks as nodes, where the marks of
+-- the tree are allowed, the pages are as many, and weigh as much, as by shape.
+-- Proves count-bridge, weight-bridge, by what the nodes of a chain add to the pages by number. Assumes nothing.
 use Prim.Native.Nat.{ℕ, zero, suc, _+_, _-_, _≤_, _<_}
 use native.Mathlib.Omega.{arith}
 use native.Mathlib.Nat.{add-zero}
@@ -11,23 +10,23 @@ use mathlib.Core.List.{List, [], _∷_, _++_}
 use lib.ListN.{length, drop, getD, length-append}
 use lib.Dec.{eqb}
 use borrow.Author.Tests.{eq-eqb, ne-eqb}
-use Rattle.model.specs.Basics.{pick, sumTo, countTo}
+use Rattle.model.specs.Basics.{pick, countTo}
 use Rattle.model.specs.Table.{nodeCount, weightAt, labelAt, firstAt, nextAt, Chain, end, node, treeOf}
 use Rattle.model.specs.Plan.{prevAt, parentAt, begins, markAt, hasMark, pageOf, pageCount, pageWeight}
 use Rattle.theory.specs.Bools.{three-true}
-use Rattle.theory.specs.Ranges.{pick-true, pick-false, sumTo-zero, sumTo-suc, countTo-zero, countTo-yes, countTo-no}
+use Rattle.theory.specs.Ranges.{pick-true, pick-false, countTo-zero, countTo-yes, countTo-no}
 use Rattle.theory.specs.Sums.{pick-add, pick-none}
 use Rattle.theory.specs.TableFacts.{SoundFacts}
 use Rattle.theory.specs.PlanShape.{runs, allowedMark, allowed, Weights, joined, weighed}
 use Rattle.theory.specs.TableNumbered.{Numbered, none, some, numbered-size, numbered-le, sound-tree}
 use Rattle.theory.specs.TableLinks.{next-prev, first-prev, next-parent, first-parent, prevAt-one, parentAt-one}
-use Rattle.theory.specs.PlanPass.{pageOf-none}
+use Rattle.theory.specs.PlanPass.{pageOf-none, weightTo, weightTo-zero, weightTo-suc}
 use Rattle.theory.specs.PlanPages.{pageOf-begins, pageOf-continues, pageOf-stays}
 use Rattle.theory.specs.PlanMarks.{weighed-from, allowed-from}
 
 -- ---- What page x weighs, where the pages of a list are numbered from n + 1
 
-unfoldable pub pageIn : ℕ → List ℕ → ℕ → ℕ
+unfoldable pageIn : ℕ → List ℕ → ℕ → ℕ
 pageIn n [] x = 0
 pageIn n (p ∷ ps) x = pick (eqb (suc n) x) p 0 + pageIn (suc n) ps x
 
@@ -42,7 +41,11 @@ pageIn-low : (n : ℕ) (ps : List ℕ) (x : ℕ) → x ≤ n → pageIn n ps x �
 unfolding pageIn
 pageIn-low n [] x h = refl
 pageIn-low n (p ∷ ps) x h =
-    omega (arith, pick-false (eqb (suc n) x) p 0 (ne-eqb (suc n) x (λ z. omega arith)), pageIn-low (suc n) ps x (omega arith))
+    omega (
+      arith,
+      pick-false (eqb (suc n) x) p 0 (ne-eqb (suc n) x (λ z. omega arith)),
+      pageIn-low (suc n) ps x (omega arith),
+    )
 
 -- it is that element of the list
 pageIn-at : (n : ℕ) (ps : List ℕ) (i : ℕ) → pageIn n ps (suc (n + i)) ≡ getD ps i 0
@@ -65,26 +68,14 @@ pageIn-at n (p ∷ ps) (suc i) =
 
 -- ---- What a chain adds to the pages
 
--- what the nodes 1 to e put on page x
-unfoldable pub weightTo : List ℕ → List ℕ → ℕ → ℕ → ℕ
-weightTo t m e x = sumTo e (λ v. pick (eqb (pageOf t m v) x) (weightAt t v) 0)
-
-weightTo-zero : (t m : List ℕ) (x : ℕ) → weightTo t m 0 x ≡ 0
-unfolding weightTo
-weightTo-zero t m x = sumTo-zero (λ v. pick (eqb (pageOf t m v) x) (weightAt t v) 0)
-
-weightTo-suc : (t m : List ℕ) (e x : ℕ)
-    → weightTo t m (suc e) x ≡ weightTo t m e x + pick (eqb (pageOf t m (suc e)) x) (weightAt t (suc e)) 0
-unfolding weightTo
-weightTo-suc t m e x = sumTo-suc e (λ v. pick (eqb (pageOf t m v) x) (weightAt t v) 0)
-
--- The nodes v + 1 to e, in a chain under a parent on page q and after a sibling on page r, come to w: so much stays on q, so much is
--- carried to r, and the pages that begin are the next ones, in order.
-pub record Adds (t m : List ℕ) (v e q r : ℕ) (w : Weights) : Type 0 where
-  pub count : countTo e (hasMark m begins) ≡ countTo v (hasMark m begins) + length (w .pages)
-  pub weight : (x : ℕ)
-      → weightTo t m e x
-      ≡ weightTo t m v x + pick (eqb q x) (w .stay) 0 + pick (eqb r x) (w .carry) 0 + pageIn (countTo v (hasMark m begins)) (w .pages) x
+-- The nodes v + 1 to e, in a chain under a parent on page q and after a sibling on page r, come to w: so much stays on
+-- q, so much is carried to r, and the pages that begin are the next ones, in order.
+record Adds (t m : List ℕ) (v e q r : ℕ) (w : Weights) : Type 0 where
+  count : countTo e (hasMark m begins) ≡ countTo v (hasMark m begins) + length (w .pages)
+  weight : (x : ℕ)
+      → weightTo e t m x
+      ≡ weightTo v t m x + pick (eqb q x) (w .stay) 0 + pick (eqb r x) (w .carry) 0
+      + pageIn (countTo v (hasMark m begins)) (w .pages) x
 
 -- after a sibling in no run, nothing is carried
 carry-none : (c : Chain) (ms : List ℕ) → allowed false c ms ≡ true → weighed c ms .carry ≡ 0
@@ -104,8 +95,8 @@ module _ (t m : List ℕ) (v e₁ e₂ q r : ℕ) (a b : Weights) (none-carried 
   adds-count = simp length-append (omega (arith, below .count, after .count))
 
   adds-weight : (x : ℕ)
-      → weightTo t m e₂ x
-      ≡ weightTo t m v x + pick (eqb (pageOf t m (suc v)) x) (weightAt t (suc v) + a .stay + b .carry) 0
+      → weightTo e₂ t m x
+      ≡ weightTo v t m x + pick (eqb (pageOf t m (suc v)) x) (weightAt t (suc v) + a .stay + b .carry) 0
       + pick (eqb q x) (b .stay) 0
       + pageIn (countTo (suc v) (hasMark m begins)) (a .pages ++ b .pages) x
   adds-weight x =
@@ -116,7 +107,7 @@ module _ (t m : List ℕ) (v e₁ e₂ q r : ℕ) (a b : Weights) (none-carried 
       ap (λ y. pageIn y (b .pages) x) (below .count) in
       omega (
         arith,
-        weightTo-suc t m v x,
+        weightTo-suc v t m x,
         below .weight x,
         after .weight x,
         pick-add here (weightAt t (suc v) + a .stay) (b .carry),
@@ -168,7 +159,8 @@ module _ (t m : List ℕ) (v e₁ e₂ q r : ℕ) (a b : Weights) (none-carried 
       page : pageOf t m (suc v) ≡ suc (countTo v (hasMark m begins))
       page = pageOf-begins t m (suc v) (omega arith) begun ∙ more
 
-  adds-continues : markAt m (suc v) ≡ 2 → pageOf t m (prevAt t (suc v)) ≡ r → Adds t m v e₂ q r (joined 2 (weightAt t (suc v)) a b)
+  adds-continues : markAt m (suc v) ≡ 2 → pageOf t m (prevAt t (suc v)) ≡ r
+      → Adds t m v e₂ q r (joined 2 (weightAt t (suc v)) a b)
   unfolding joined
   adds-continues k same =
       record {
@@ -183,8 +175,10 @@ module _ (t m : List ℕ) (v e₁ e₂ q r : ℕ) (a b : Weights) (none-carried 
       page = pageOf-continues t m (suc v) (omega arith) (eq-eqb (markAt m (suc v)) 2 k) ∙ same
 
   -- whatever its mark is, if it is allowed
-  adds-node : (run : Bool) (k : ℕ) → markAt m (suc v) ≡ k → allowedMark run k ≡ true → pageOf t m (parentAt t (suc v)) ≡ q
-      → pageOf t m (prevAt t (suc v)) ≡ r → (runs k ≡ false → b .carry ≡ 0) → Adds t m v e₂ q r (joined k (weightAt t (suc v)) a b)
+  adds-node : (run : Bool) (k : ℕ) → markAt m (suc v) ≡ k → allowedMark run k ≡ true
+      → pageOf t m (parentAt t (suc v)) ≡ q
+      → pageOf t m (prevAt t (suc v)) ≡ r → (runs k ≡ false → b .carry ≡ 0)
+      → Adds t m v e₂ q r (joined k (weightAt t (suc v)) a b)
   unfolding allowedMark runs
   adds-node run zero e ok up back last = adds-stays e up (last refl)
   adds-node run (suc zero) e ok up back last = adds-begins e
@@ -192,7 +186,8 @@ module _ (t m : List ℕ) (v e₁ e₂ q r : ℕ) (a b : Weights) (none-carried 
   adds-node run (suc (suc (suc k))) e ok up back last = absurd (false≢true ok)
 
 module _ {t : List ℕ} (s : SoundFacts t) (m : List ℕ) (long : length m ≡ nodeCount t) where
-  chain-adds : {v e u : ℕ} {c : Chain} → Numbered t v u c e → (run : Bool) (q r : ℕ) → (1 ≤ u → pageOf t m (parentAt t u) ≡ q)
+  chain-adds : {v e u : ℕ} {c : Chain} → Numbered t v u c e → (run : Bool) (q r : ℕ)
+      → (1 ≤ u → pageOf t m (parentAt t u) ≡ q)
       → (1 ≤ u → pageOf t m (prevAt t u) ≡ r) → e ≤ nodeCount t → allowed run c (drop v m) ≡ true
       → Adds t m v e q r (weighed c (drop v m))
   unfolding weighed pageIn

@@ -1,7 +1,7 @@
--- Feasible plans by number and by shape: the judge finds nothing just where node 1 has mark 1, the marks of the tree are allowed and
--- every page by shape is within the limit; the verdict is then page count and root weight.
--- Defines Judged, ShapePlan. Proves feasible-parts, feasible-judged, judged-feasible, judged-verdict, judge-feasible, feasible-judge;
--- heavy-bridge, judged-bridge; shape-judged (from FeasibleShape). Assumes nothing.
+-- Feasible plans by number and by shape: the judge finds nothing just where node 1 has mark 1, the marks of the tree
+-- are allowed and every page by shape is within the limit; the verdict is then page count and root weight.
+-- Defines Judged, ShapePlan. Proves feasible-parts, feasible-judged, judged-feasible, judged-verdict, judge-feasible,
+-- feasible-judge; heavy-bridge, judged-bridge; shape-judged (from FeasibleShape). Assumes nothing.
 use Prim.Native.Nat.{ℕ, zero, suc, _-_, _≤_}
 use native.Mathlib.Omega.{arith}
 use mathlib.Core.Bool.{true, false, not}
@@ -59,21 +59,25 @@ pub record Judged (t m : List ℕ) : Type 0 where
   pub marked : badMark t m ≡ Nowhere
   pub light : heavyPage t m ≡ Nowhere
 
-pub feasible-parts : (t m : List ℕ) → feasiblePlan t m ≡ true → (acceptedTree t ≡ true) × (passes (markChecks t m) ≡ true)
+pub feasible-parts : (t m : List ℕ) → feasiblePlan t m ≡ true → (acceptedTree t ≡ true)
+    × (passes (markChecks t m) ≡ true)
 unfolding feasiblePlan judgeChecks acceptedTree
 feasible-parts t m e = passes-both (treeChecks t) (markChecks t m) e
 
-pub feasible-judged : (t m : List ℕ) → feasiblePlan t m ≡ true → Judged t m
+pub marks-judged : (t m : List ℕ) → AcceptedFacts t → passes (markChecks t m) ≡ true → Judged t m
 unfolding Pass markChecks badMarks markRefused pageRefused
-feasible-judged t m e =
-    let parts = feasible-parts t m e in
-    let p = pass-all (markChecks t m) .0 (parts .1) in
+marks-judged t m a e =
+    let p = pass-all (markChecks t m) .0 e in
     record {
-      tree = accepted-facts t (parts .0);
+      tree = a;
       long = eqb-true (length m) (nodeCount t) (not-false _ (when-nowhere _ (nodeCount t) (p .0)));
       marked = p .1 .0;
       light = p .1 .1 .0;
     }
+
+pub feasible-judged : (t m : List ℕ) → feasiblePlan t m ≡ true → Judged t m
+feasible-judged t m e =
+    let parts = feasible-parts t m e in marks-judged t m (accepted-facts t (parts .0)) (parts .1)
 
 pub judged-feasible : {t m : List ℕ} → acceptedTree t ≡ true → Judged t m → feasiblePlan t m ≡ true
 unfolding Pass feasiblePlan judgeChecks acceptedTree markChecks badMarks markRefused pageRefused
@@ -84,7 +88,8 @@ judged-feasible {t} {m} e j =
 
 pub judged-verdict : {t m : List ℕ} → Judged t m → verdictOf t m ≡ Feasible (pageCount t m) (pageWeight t m 1)
 unfolding verdictOf
-judged-verdict {t} {m} j = atPlace-nowhere (badMark t m) _ _ (j .marked) ∙ atPlace-nowhere (heavyPage t m) _ _ (j .light)
+judged-verdict {t} {m} j = atPlace-nowhere (badMark t m) _ _ (j .marked) ∙ atPlace-nowhere (heavyPage t m) _ _
+    (j .light)
 
 -- ---- The judge's answer
 
@@ -107,14 +112,16 @@ pub record ShapePlan (t m : List ℕ) : Type 0 where
   pub within : AllWithin (limitOf t) (weighed (treeOf t) m .pages)
 
 module _ {t : List ℕ} (s : SoundFacts t) (m : List ℕ) (long : length m ≡ nodeCount t) where
-  pub heavy-bridge : allowed false (treeOf t) m ≡ true → (heavyPage t m ≡ Nowhere) ↔ AllWithin (limitOf t) (weighed (treeOf t) m .pages)
+  pub heavy-bridge : allowed false (treeOf t) m ≡ true → (heavyPage t m ≡ Nowhere) ↔ AllWithin (limitOf t)
+      (weighed (treeOf t) m .pages)
   unfolding heavyPage
   heavy-bridge ok = (
     λ e. all-within (limitOf t) (weighed (treeOf t) m .pages)
         (λ p low high.
         rw (← weight-bridge s m long ok p low)
         (ltb-false (limitOf t) (pageWeight t m p)
-        (firstTo-nowhere (pageCount t m) (λ p. ltb (limitOf t) (pageWeight t m p)) e p low (omega (arith, count-bridge s m long ok))))),
+        (firstTo-nowhere (pageCount t m) (λ p. ltb (limitOf t) (pageWeight t m p)) e p low
+        (omega (arith, count-bridge s m long ok))))),
     λ h. firstTo-none (pageCount t m) (λ p. ltb (limitOf t) (pageWeight t m p))
         (λ p low high.
         le-ltb (limitOf t) (pageWeight t m p)
@@ -138,7 +145,8 @@ module _ {t : List ℕ} (a : AcceptedFacts t) (m : List ℕ) (long : length m �
   )
 
 -- what the judge finds of a plan by shape
-pub shape-judged : {t : List ℕ} → AcceptedFacts t → (m : List ℕ) (root : ℕ) → FeasibleShape (limitOf t) (treeOf t) m root
+pub shape-judged : {t : List ℕ} → AcceptedFacts t → (m : List ℕ) (root : ℕ) → FeasibleShape (limitOf t) (treeOf t) m
+    root
     → Judged t m
 unfolding markAt
 shape-judged {t} a m root f =

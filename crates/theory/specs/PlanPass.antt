@@ -1,18 +1,22 @@
--- The page and the parent of a node by one step back, with no bound on the steps: what a pass over the nodes in their order computes.
--- Defines stepBack. Proves pageOf-none, pageOf-step, pageOf-le, parentAt-step; and sumTo-most (a bound of a sum). Assumes nothing.
-use Prim.Native.Nat.{ℕ, zero, suc, _-_, _*_, _≤_, _<_}
+-- The page and the parent of a node by one step back, with no bound on the steps, and the weights of the pages up to a
+-- node: what a pass over the nodes in their order computes.
+-- Defines stepBack, weightTo. Proves pageOf-none, pageOf-step, pageOf-le, weightTo-suc, parentAt-step. Assumes nothing.
+use Prim.Native.Nat.{ℕ, zero, suc, _+_, _-_, _≤_, _<_}
 use native.Mathlib.Omega.{arith}
-use mathlib.Core.Bool.{Bool, true, false}
+use native.Mathlib.Nat.{eq-or-lt-of-le, eq-zero-or-pos}
 use mathlib.Core.Path.{_≡_, refl, sym, _∙_, ap}
+use mathlib.Core.Logic.{_⊎_, inl, inr}
 use mathlib.Core.List.{List}
 use lib.Dec.{eqb}
-use borrow.Author.Tests.{eqb-true, eqb-false}
+use borrow.Author.Tests.{eq-eqb, ne-eqb}
 use Rattle.model.specs.Basics.{pick, sumTo, countTo}
-use Rattle.model.specs.Table.{nodeCount, firstAt}
+use Rattle.model.specs.Table.{nodeCount, weightAt, firstAt}
 use Rattle.model.specs.Plan.{prevAt, parentAt, hasMark, begins, continues, pageFrom, pageOf}
-use Rattle.theory.specs.Ranges.{Upto, upto-less, upto-last, pick-true, pick-false, pick-both, sumTo-zero, sumTo-suc, countTo-zero, countTo-le}
+use Rattle.theory.specs.Ranges.{steps-enough, pick-true, pick-false, pick-both, sumTo-zero, sumTo-suc}
+use Rattle.theory.specs.Ranges.{countTo-zero, countTo-le}
 use Rattle.theory.specs.TableFacts.{SoundFacts}
-use Rattle.theory.specs.TableLinks.{first-step, prevAt-none, prevAt-less, parentAt-none, parentAt-one, parentAt-less, parentAt-later, parent-low, parent-first}
+use Rattle.theory.specs.TableLinks.{first-step, prevAt-none, prevAt-less, parentAt-none, parentAt-one}
+use Rattle.theory.specs.TableLinks.{parentAt-less, parentAt-later, parent-low, parent-first}
 
 -- ---- The step back
 
@@ -21,18 +25,15 @@ abbrev pub stepBack : List ℕ → List ℕ → ℕ → ℕ
 stepBack t m v = pick (hasMark m continues v) (prevAt t v) (parentAt t v)
 
 back-none : (t m : List ℕ) → stepBack t m 0 ≡ 0
-back-none t m = pick-both (λ u. u ≡ 0) (hasMark m continues 0) (prevAt t 0) (parentAt t 0) (prevAt-none t) (parentAt-none t)
+back-none t m =
+    pick-both (λ u. u ≡ 0) (hasMark m continues 0) (prevAt t 0) (parentAt t 0) (prevAt-none t) (parentAt-none t)
 
 pub back-less : (t m : List ℕ) (v : ℕ) → 1 ≤ v → stepBack t m v < v
 back-less t m v low =
-    pick-both (λ u. u < v) (hasMark m continues v) (prevAt t v) (parentAt t v) (prevAt-less t v low) (parentAt-less t v low)
+    pick-both (λ u. u < v) (hasMark m continues v) (prevAt t v) (parentAt t v) (prevAt-less t v low)
+    (parentAt-less t v low)
 
 -- ---- Pages
-
-pageFrom-suc : (f : ℕ) (t m : List ℕ) (v : ℕ)
-    → pageFrom (suc f) t m v ≡ pick (hasMark m begins v) (countTo v (hasMark m begins)) (pageFrom f t m (stepBack t m v))
-unfolding pageFrom
-pageFrom-suc f t m v = refl
 
 pageFrom-none : (f : ℕ) (t m : List ℕ) → pageFrom f t m 0 ≡ 0
 unfolding pageFrom
@@ -42,21 +43,12 @@ pageFrom-none (suc f) t m =
     (countTo-zero (hasMark m begins)) (ap (pageFrom f t m) (back-none t m) ∙ pageFrom-none f t m)
 
 -- the page is found with v steps or more
-pageFrom-enough : (f : ℕ) (t m : List ℕ) (v g : ℕ) → v ≤ f → v ≤ g → pageFrom f t m v ≡ pageFrom g t m v
-pageFrom-enough zero t m v g a b =
-    let none : v ≡ 0 = omega arith in rw none (pageFrom-none zero t m ∙ sym (pageFrom-none g t m))
-pageFrom-enough (suc f) t m v g a b = go v g a b (pageFrom-enough f t m)
-  where
-    go : (v g : ℕ) → v ≤ suc f → v ≤ g → ((u h : ℕ) → u ≤ f → u ≤ h → pageFrom f t m u ≡ pageFrom h t m u)
-        → pageFrom (suc f) t m v ≡ pageFrom g t m v
-    go zero g a b ih = pageFrom-none (suc f) t m ∙ sym (pageFrom-none g t m)
-    go (suc v) zero a b ih = absurd (omega arith)
-    go (suc v) (suc g) a b ih =
-        let less : stepBack t m (suc v) < suc v = back-less t m (suc v) (omega arith) in
-        pageFrom-suc f t m (suc v)
-        ∙ ap (pick (hasMark m begins (suc v)) (countTo (suc v) (hasMark m begins)))
-        (ih (stepBack t m (suc v)) g (omega arith) (omega arith))
-        ∙ sym (pageFrom-suc g t m (suc v))
+pageFrom-enough : (t m : List ℕ) (f g v : ℕ) → v ≤ f → v ≤ g → pageFrom f t m v ≡ pageFrom g t m v
+unfolding pageFrom
+pageFrom-enough t m =
+    steps-enough (λ f v. pageFrom f t m v) (stepBack t m) (back-less t m)
+    (λ f g. pageFrom-none f t m ∙ sym (pageFrom-none g t m))
+    (λ f g v e. ap (pick (hasMark m begins v) (countTo v (hasMark m begins))) e)
 
 pub pageOf-none : (t m : List ℕ) → pageOf t m 0 ≡ 0
 unfolding pageOf
@@ -65,20 +57,20 @@ pageOf-none t m = pageFrom-none 0 t m
 -- a node that begins a run is on a new page, and any other on the page of the node one step back
 pub pageOf-step : (t m : List ℕ) (v : ℕ) → 1 ≤ v
     → pageOf t m v ≡ pick (hasMark m begins v) (countTo v (hasMark m begins)) (pageOf t m (stepBack t m v))
-unfolding pageOf
+unfolding pageOf pageFrom
 pageOf-step t m zero low = absurd (omega arith)
 pageOf-step t m (suc v) low =
     let less : stepBack t m (suc v) < suc v = back-less t m (suc v) low in
-    pageFrom-suc v t m (suc v)
-    ∙ ap (pick (hasMark m begins (suc v)) (countTo (suc v) (hasMark m begins)))
-    (pageFrom-enough v t m (stepBack t m (suc v)) (stepBack t m (suc v)) (omega arith) (omega arith))
+    ap (pick (hasMark m begins (suc v)) (countTo (suc v) (hasMark m begins)))
+    (pageFrom-enough t m v (stepBack t m (suc v)) (stepBack t m (suc v)) (omega arith) (omega arith))
 
 pageFrom-le : (f : ℕ) (t m : List ℕ) (v : ℕ) → pageFrom f t m v ≤ v
 unfolding pageFrom
 pageFrom-le zero t m v = omega arith
 pageFrom-le (suc f) t m zero = omega (arith, pageFrom-none (suc f) t m)
 pageFrom-le (suc f) t m (suc v) =
-    pick-both (λ p. p ≤ suc v) (hasMark m begins (suc v)) (countTo (suc v) (hasMark m begins)) (pageFrom f t m (stepBack t m (suc v)))
+    pick-both (λ p. p ≤ suc v) (hasMark m begins (suc v)) (countTo (suc v) (hasMark m begins))
+    (pageFrom f t m (stepBack t m (suc v)))
     (countTo-le (suc v) (hasMark m begins))
     (omega (arith, pageFrom-le f t m (stepBack t m (suc v)), back-less t m (suc v) (omega arith)))
 
@@ -87,38 +79,38 @@ pub pageOf-le : (t m : List ℕ) (v : ℕ) → pageOf t m v ≤ v
 unfolding pageOf
 pageOf-le t m v = pageFrom-le v t m v
 
+-- ---- Weights
+
+-- the weight of those of the nodes 1 to v that the plan has on page p
+unfoldable pub weightTo : ℕ → List ℕ → List ℕ → ℕ → ℕ
+weightTo v t m p = sumTo v (λ u. pick (eqb (pageOf t m u) p) (weightAt t u) 0)
+
+pub weightTo-zero : (t m : List ℕ) (p : ℕ) → weightTo 0 t m p ≡ 0
+unfolding weightTo
+weightTo-zero t m p = sumTo-zero (λ u. pick (eqb (pageOf t m u) p) (weightAt t u) 0)
+
+pub weightTo-suc : (v : ℕ) (t m : List ℕ) (p : ℕ)
+    → weightTo (suc v) t m p ≡ weightTo v t m p + pick (eqb (pageOf t m (suc v)) p) (weightAt t (suc v)) 0
+unfolding weightTo
+weightTo-suc v t m p = sumTo-suc v (λ u. pick (eqb (pageOf t m u) p) (weightAt t u) 0)
+
 -- ---- Parents
 
 -- a node with no sibling before it comes just after its parent
 pub parentAt-step : {t : List ℕ} → SoundFacts t → (v : ℕ) → 1 ≤ v → v ≤ nodeCount t
     → parentAt t v ≡ pick (eqb (prevAt t v) 0) (v - 1) (parentAt t (prevAt t v))
-parentAt-step {t} s v low high = go (eqb (prevAt t v) 0) refl (eqb v 1) refl
+parentAt-step {t} s v low high = go (eq-zero-or-pos (prevAt t v))
   where
-    go : (b : Bool) → eqb (prevAt t v) 0 ≡ b → (c : Bool) → eqb v 1 ≡ c
+    before : prevAt t v ≡ 0 → (1 ≡ v) ⊎ (1 < v) → parentAt t v ≡ v - 1
+    before z (inl one) = ap (parentAt t) (sym one) ∙ parentAt-one t ∙ omega arith
+    before z (inr two) =
+        let first : firstAt t (parentAt t v) ≡ v = parent-first s v two high z in
+        let within : parentAt t v < v = parentAt-less t v low in
+        omega (arith, first-step s (parentAt t v) (parent-low s v two high) (omega arith) (omega arith))
+
+    go : (prevAt t v ≡ 0) ⊎ (1 ≤ prevAt t v)
         → parentAt t v ≡ pick (eqb (prevAt t v) 0) (v - 1) (parentAt t (prevAt t v))
-    go false q c r =
-        let other : prevAt t v ≡ 0 → ⊥ = eqb-false (prevAt t v) 0 q in
-        parentAt-later t v low (omega arith) ∙ sym (pick-false (eqb (prevAt t v) 0) (v - 1) (parentAt t (prevAt t v)) q)
-    go true q true r =
-        let one : v ≡ 1 = eqb-true v 1 r in
-        let z : parentAt t v ≡ v - 1 = ap (parentAt t) one ∙ parentAt-one t ∙ omega arith in
-        z ∙ sym (pick-true (eqb (prevAt t v) 0) (v - 1) (parentAt t (prevAt t v)) q)
-    go true q false r =
-        let other : v ≡ 1 → ⊥ = eqb-false v 1 r in
-        let first : firstAt t (parentAt t v) ≡ v = parent-first s v (omega arith) high (eqb-true (prevAt t v) 0 q) in
-        let step : firstAt t (parentAt t v) ≡ suc (parentAt t v) =
-        first-step s (parentAt t v) (parent-low s v (omega arith) high) (omega (arith, parentAt-less t v low)) (omega arith) in
-        let z : parentAt t v ≡ v - 1 = omega arith in
-        z ∙ sym (pick-true (eqb (prevAt t v) 0) (v - 1) (parentAt t (prevAt t v)) q)
-
--- ---- Sums
-
-pub sumTo-most : (n k : ℕ) (f : ℕ → ℕ) → Upto n (λ v. f v ≤ k) → sumTo n f ≤ n * k
-sumTo-most zero k f h = omega (arith, sumTo-zero f)
-sumTo-most (suc n) k f h =
-    omega (
-      arith,
-      sumTo-suc n f,
-      sumTo-most n k f (upto-less (λ v. f v ≤ k) n h),
-      upto-last (λ v. f v ≤ k) n h,
-    )
+    go (inl z) = before z (eq-or-lt-of-le low) ∙ sym (pick-true (eqb (prevAt t v) 0) _ _ (eq-eqb (prevAt t v) 0 z))
+    go (inr one) =
+        parentAt-later t v low one
+        ∙ sym (pick-false (eqb (prevAt t v) 0) _ _ (ne-eqb (prevAt t v) 0 (λ z. omega arith)))

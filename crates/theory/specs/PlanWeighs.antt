@@ -1,7 +1,6 @@
--- The marks of a node, from the marks of its children and of the siblings after it: what they weigh is put together from what these
--- weigh. For any planner that lays marks from the root down.
--- Defines Weighs. Proves weighed-front and allowed-front (marks after a chain's own are not looked at), weighs-end, weighs-stays,
--- weighs-begins, weighs-continues, node-page. Assumes nothing.
+-- The marks of a node, from the marks of its children and of the siblings after it: what they weigh is put together
+-- from what these weigh. For any planner that lays marks from the root down.
+-- Defines Weighs. Proves weighs-end, weighs-stays, weighs-begins, weighs-continues, node-page. Assumes nothing.
 use Prim.Native.Nat.{ℕ, suc, _+_, _≤_}
 use mathlib.Core.Path.{_≡_, refl}
 use mathlib.Core.Bool.{Bool, true, false}
@@ -12,23 +11,32 @@ use lib.Seq.{drop-append-le, drop-at}
 use Rattle.model.specs.Table.{Chain, end, node}
 use Rattle.theory.specs.PlanShape.{size, runs, allowedMark, allowed, joined, weighed, AllWithin}
 
-pub weighed-front : (c : Chain) (ms ns : List ℕ) → size c ≤ length ms → weighed c (ms ++ ns) ≡ weighed c ms
+weighed-front : (c : Chain) (ms ns : List ℕ) → size c ≤ length ms → weighed c (ms ++ ns) ≡ weighed c ms
 unfolding size weighed
 weighed-front end ms ns h = refl
 weighed-front (node w l kids next) [] ns h = absurd (omega arith)
 weighed-front (node w l kids next) (k ∷ ms) ns h =
     let kept : size next ≤ length (drop (size kids) ms) = simp length-drop (omega arith) in
-    rw (weighed-front kids ms ns (omega arith), drop-append-le (size kids) ms ns (omega arith), weighed-front next (drop (size kids) ms) ns kept)
+    rw (
+      weighed-front kids ms ns (omega arith),
+      drop-append-le (size kids) ms ns (omega arith),
+      weighed-front next (drop (size kids) ms) ns kept,
+    )
 
-pub allowed-front : (after : Bool) (c : Chain) (ms ns : List ℕ) → size c ≤ length ms → allowed after c (ms ++ ns) ≡ allowed after c ms
+allowed-front : (after : Bool) (c : Chain) (ms ns : List ℕ) → size c ≤ length ms
+    → allowed after c (ms ++ ns) ≡ allowed after c ms
 unfolding size allowed
 allowed-front after end ms ns h = refl
 allowed-front after (node w l kids next) [] ns h = absurd (omega arith)
 allowed-front after (node w l kids next) (k ∷ ms) ns h =
     let kept : size next ≤ length (drop (size kids) ms) = simp length-drop (omega arith) in
-    rw (allowed-front false kids ms ns (omega arith), drop-append-le (size kids) ms ns (omega arith), allowed-front (runs k) next (drop (size kids) ms) ns kept)
+    rw (
+      allowed-front false kids ms ns (omega arith),
+      drop-append-le (size kids) ms ns (omega arith),
+      allowed-front (runs k) next (drop (size kids) ms) ns kept,
+    )
 
-pub all-within-append : (K : ℕ) (ps qs : List ℕ) → AllWithin K ps → AllWithin K qs → AllWithin K (ps ++ qs)
+all-within-append : (K : ℕ) (ps qs : List ℕ) → AllWithin K ps → AllWithin K qs → AllWithin K (ps ++ qs)
 unfolding AllWithin
 all-within-append K [] qs p q = q
 all-within-append K (x ∷ ps) qs p q = (p .0, all-within-append K ps qs (p .1) q)
@@ -43,8 +51,8 @@ unfolding AllWithin
 all-within-right K [] qs h = h
 all-within-right K (p ∷ ps) qs h = all-within-right K ps qs (h .1)
 
--- The marks ms of a chain are allowed, weigh this much for the parent's page and for the run before, and begin this many pages, each
--- within K.
+-- The marks ms of a chain are allowed, weigh this much for the parent's page and for the run before, and begin this
+-- many pages, each within K.
 pub record Weighs (K : ℕ) (after : Bool) (c : Chain) (ms : List ℕ) (stay carry pages : ℕ) : Type 0 where
   pub sized : length ms ≡ size c
   pub fine : allowed after c ms ≡ true
@@ -55,10 +63,12 @@ pub record Weighs (K : ℕ) (after : Bool) (c : Chain) (ms : List ℕ) (stay car
 
 pub weighs-end : (K : ℕ) (after : Bool) → Weighs K after end [] 0 0 0
 unfolding size allowed weighed AllWithin
-weighs-end K after = record { sized = refl; fine = refl; stays-is = refl; carry-is = refl; pages-are = refl; within = tt }
+weighs-end K after =
+    record { sized = refl; fine = refl; stays-is = refl; carry-is = refl; pages-are = refl; within = tt }
 
 module _ (w l : ℕ) (kids next : Chain) (ms ns : List ℕ) where
-  node-sized : (k : ℕ) → length ms ≡ size kids → length ns ≡ size next → length (k ∷ (ms ++ ns)) ≡ size (node w l kids next)
+  node-sized : (k : ℕ) → length ms ≡ size kids → length ns ≡ size next
+      → length (k ∷ (ms ++ ns)) ≡ size (node w l kids next)
   unfolding size
   node-sized k p q = simp length-append (omega arith)
 
@@ -79,7 +89,8 @@ module _ (w l : ℕ) (kids next : Chain) (ms ns : List ℕ) where
 
   -- the page that a node begins
   pub node-page : length ms ≡ size kids
-      → getD (weighed (node w l kids next) (1 ∷ (ms ++ ns)) .pages) 0 0 ≡ w + weighed kids ms .stay + weighed next ns .carry
+      → getD (weighed (node w l kids next) (1 ∷ (ms ++ ns)) .pages) 0 0
+      ≡ w + weighed kids ms .stay + weighed next ns .carry
   unfolding joined
   node-page s = rw (node-weighed 1 s)
 
@@ -89,7 +100,8 @@ module _ (w l : ℕ) (kids next : Chain) (ms ns : List ℕ) where
       → AllWithin K (weighed kids ms .pages ++ weighed next ns .pages)
   node-within K p q = all-within-append K (weighed kids ms .pages) (weighed next ns .pages) p q
 
-  pub weighs-stays : {K a ca pa b cb pb : ℕ} (after : Bool) → Weighs K false kids ms a ca pa → Weighs K false next ns b cb pb
+  pub weighs-stays : {K a ca pa b cb pb : ℕ} (after : Bool) → Weighs K false kids ms a ca pa
+      → Weighs K false next ns b cb pb
       → Weighs K after (node w l kids next) (0 ∷ (ms ++ ns)) (w + a + b) 0 (pa + pb)
   unfolding allowedMark runs joined
   weighs-stays {K} after p q =

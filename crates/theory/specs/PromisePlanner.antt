@@ -1,7 +1,7 @@
--- What the planners' entries promise beside their equations, from the answer and what is left: each accepts, with a feasible plan (plan-promise,
--- best-plan), and the best planner's plan is the lowest there is (best-promise).
--- Proves lent-passes, passes-lent (right buffers are checks that pass), planned-done, planned-refused (what a planner leaves), plan-passes (a
--- planner that answers 0 was lent an accepted tree and right buffers). Assumes nothing.
+-- What the planners' entries promise beside their equations, from the answer and what is left: each accepts, with a
+-- feasible plan (plan-promise, best-plan), and the best planner's plan is the lowest there is (best-promise).
+-- Proves lent-passes, passes-lent (right buffers are checks that pass), planned-done, planned-refused (what a planner
+-- leaves), plan-passes (a planner that answers 0 was lent an accepted tree and right buffers). Assumes nothing.
 use Prim.Native.Nat.{ℕ}
 use mathlib.Core.Path.{_≡_, sym, ap, _∙_}
 use mathlib.Core.Bool.{true, false, not}
@@ -15,14 +15,17 @@ use Rattle.model.specs.Table.{Chain, nodeCount, limitOf, treeOf}
 use Rattle.model.specs.Plan.{pageCount, pageWeight}
 use Rattle.model.specs.Runs.{runsOf}
 use Rattle.model.specs.Steps.{bestMarks}
-use Rattle.model.specs.Refusals.{badMarks, shortScratch, scratchWords, treeChecks, lentChecks, planChecks, passes, acceptedTree}
-use Rattle.model.specs.Refusals.{feasiblePlan, answerOf, accepted, firstOf, readTree, judgePlan, Planned, planned, planBest}
+use Rattle.model.specs.Refusals.{badMarks, shortScratch, scratchWords, treeChecks, lentChecks, planChecks, passes}
+use Rattle.model.specs.Refusals.{acceptedTree}
+use Rattle.model.specs.Refusals.{feasiblePlan, answerOf, accepted, firstOf, readTree, judgePlan, Planned, planned}
+use Rattle.model.specs.Refusals.{planBest}
 use Rattle.model.specs.Demand.{Lowest, PlanLent, PlanPromise, BestPromise}
 use Rattle.model.specs.declared.Answer.{Answer}
 use Rattle.model.specs.declared.Verdict.the-variants.{Feasible}
 use Rattle.theory.specs.Ranges.{pick-true, pick-false, when-false, when-nowhere}
 use Rattle.theory.specs.Bools.{bool-cases}
-use Rattle.theory.specs.Checks.{Pass, pass-all, passes-both, both-pass, firstOf-all, accepted-pass, plan-never, lent-plain}
+use Rattle.theory.specs.Checks.{Pass, pass-all, passes-both, both-pass, firstOf-all, accepted-pass, plan-never}
+use Rattle.theory.specs.Checks.{lent-plain}
 use Rattle.theory.specs.TableFacts.{AcceptedFacts, accepted-facts}
 use Rattle.theory.specs.PlanFeasible.{Judged, judged-feasible, feasible-judge}
 use Rattle.theory.specs.PromiseWeight.{weight-promise, seven-tree}
@@ -103,37 +106,50 @@ module _ (steps : ℕ → Chain → List ℕ) (t m s : List ℕ) where
     unfolding readTree planChecks acceptedTree
     seven-same = ⊎-elim accepts refuses (bool-cases (passes (planChecks t m s)))
       where
-        accepts : passes (planChecks t m s) ≡ true → (planned steps t m s .answer .number ≡ 7) ↔ (readTree t .number ≡ 7)
+        accepts : passes (planChecks t m s) ≡ true → (planned steps t m s .answer .number ≡ 7)
+            ↔ (readTree t .number ≡ 7)
         accepts e = (
           λ h. absurd (omega (arith, ap (λ (a : Answer). a .number) (done-answer e))),
-          λ h. absurd (omega (arith, ap (λ (a : Answer). a .number) (firstOf-all (treeChecks t) accepted (plan-parts t m s e .0)))),
+          λ h. absurd (omega (
+            arith,
+            ap (λ (a : Answer). a .number) (firstOf-all (treeChecks t) accepted
+                (plan-parts t m s e .0)),
+          )),
         )
 
-        refuses : passes (planChecks t m s) ≡ false → (planned steps t m s .answer .number ≡ 7) ↔ (readTree t .number ≡ 7)
+        refuses : passes (planChecks t m s) ≡ false → (planned steps t m s .answer .number ≡ 7)
+            ↔ (readTree t .number ≡ 7)
         refuses e =
             let q = ap (λ (p : Planned). p .answer .number) (planned-refused e) in
             let tree = seven-tree t (lentChecks t m s) accepted (lent-plain t m s .1) (λ h. omega arith) in
             (λ h. tree .0 (sym q ∙ h), λ h. q ∙ tree .1 h)
 
-    pub plan-promise : PlanPromise t m s (planned steps t m s .answer) (planned steps t m s .marks) (planned steps t m s .scratch)
+    pub plan-promise : PlanPromise t m s (planned steps t m s .answer) (planned steps t m s .marks)
+        (planned steps t m s .scratch)
     plan-promise =
         record {
           accepts =
               λ r.
               let e = lent-passes t m s r in
               rw (planned-done e) (feasible-judge t made (made-feasible e), made-feasible e);
-          kept = λ h. ⊎-elim (λ e. absurd (h (ap (λ (a : Answer). a .number) (done-answer e)))) left (bool-cases (passes (planChecks t m s)));
+          kept = λ h. ⊎-elim (λ e. absurd (h (ap (λ (a : Answer). a .number) (done-answer e)))) left
+              (bool-cases (passes (planChecks t m s)));
           weight = weight-promise t (planned steps t m s .answer) seven-same;
         }
       where
         left : passes (planChecks t m s) ≡ false → (planned steps t m s .marks ≡ m) × (planned steps t m s .scratch ≡ s)
-        left e = (ap (λ (p : Planned). p .marks) (planned-refused e), ap (λ (p : Planned). p .scratch) (planned-refused e))
+        left e = (
+          ap (λ (p : Planned). p .marks) (planned-refused e),
+          ap (λ (p : Planned). p .scratch)
+              (planned-refused e),
+        )
 
 -- ---- The best planner
 
 module _ (t m s : List ℕ) where
   best-low : PlanLent t m s
-      → (P : ℕ) × (W : ℕ) × (planBest t m s .answer ≡ answerOf (Feasible P W)) × Lowest t P W (runsOf t (planBest t m s .marks))
+      → (P : ℕ) × (W : ℕ) × (planBest t m s .answer ≡ answerOf (Feasible P W))
+      × Lowest t P W (runsOf t (planBest t m s .marks))
   best-low r =
       let a : AcceptedFacts t = accepted-facts t (r .tree) in
       let done = planned-done bestMarks t m s (lent-passes t m s r) in (

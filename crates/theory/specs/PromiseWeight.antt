@@ -1,6 +1,6 @@
 -- Refusal 7 of every entry is the tree reader's, and exact: demand 3's last sentence, as the entries promise it.
--- Proves weight-promise, seven-tree (checks after the tree's that never give 7 leave it to the tree's), read-weight, judge-weight,
--- write-weight. Assumes nothing.
+-- Proves weight-promise, seven-tree (checks after the tree's that never give 7 leave it to the tree's), read-weight,
+-- judge-weight, write-weight. Assumes nothing.
 use Prim.Native.Nat.{ℕ}
 use native.Mathlib.Omega.{arith}
 use mathlib.Core.Path.{_≡_, refl, sym, _∙_, ap}
@@ -16,7 +16,8 @@ use Rattle.model.specs.declared.Verdict.{Verdict}
 use Rattle.model.specs.declared.Verdict.the-variants.{Feasible, Failed}
 use Rattle.model.specs.declared.Answer.{Answer}
 use Rattle.model.specs.declared.Edition.{Edition}
-use Rattle.theory.specs.Checks.{Never, firstOf-pass, firstOf-stop, firstOf-all, never-append, never-first, mark-plain, film-plain}
+use Rattle.theory.specs.Checks.{Never, firstOf-pass, firstOf-stop, firstOf-all, never-append, never-first}
+use Rattle.theory.specs.Checks.{mark-plain, film-plain}
 use Rattle.theory.specs.RunsHeld.{refused-unheld, seven-refused}
 
 -- an entry that answers 7 just where the tree reader does
@@ -31,13 +32,16 @@ pub seven-tree : (t : List ℕ) (cs : List Check) (a : Answer) → Never 7 cs �
 unfolding readTree
 seven-tree t cs a never other = go (passes (treeChecks t)) refl
   where
-    go : (b : Bool) → passes (treeChecks t) ≡ b → (firstOf (treeChecks t ++ cs) a .number ≡ 7) ↔ (firstOf (treeChecks t) accepted .number ≡ 7)
+    go : (b : Bool) → passes (treeChecks t) ≡ b → (firstOf (treeChecks t ++ cs) a .number ≡ 7)
+        ↔ (firstOf (treeChecks t) accepted .number ≡ 7)
     go true e = (
-      λ h. absurd (other (never-first 7 cs a never (sym (ap (λ (x : Answer). x .number) (firstOf-pass (treeChecks t) cs a e)) ∙ h) .1)),
+      λ h. absurd (other (never-first 7 cs a never
+          (sym (ap (λ (x : Answer). x .number) (firstOf-pass (treeChecks t) cs a e)) ∙ h) .1)),
       λ h. absurd (omega (arith, ap (λ (x : Answer). x .number) (firstOf-all (treeChecks t) accepted e))),
     )
     go false e =
-        let q = ap (λ (x : Answer). x .number) (firstOf-stop (treeChecks t) cs a accepted e) in (λ h. sym q ∙ h, λ h. q ∙ h)
+        let q = ap (λ (x : Answer). x .number) (firstOf-stop (treeChecks t) cs a accepted e) in
+        (λ h. sym q ∙ h, λ h. q ∙ h)
 
 -- no verdict has number 7
 verdict-never-seven : (v : Verdict) → answerOf v .number ≡ 7 → ⊥
@@ -53,7 +57,8 @@ module _ (t m : List ℕ) where
   unfolding judgePlan judgeChecks
   judge-weight =
       weight-promise t (judgePlan t m)
-      (seven-tree t (markChecks t m) (answerOf (verdictOf t m)) (mark-plain t m .1) (verdict-never-seven (verdictOf t m)))
+      (seven-tree t (markChecks t m) (answerOf (verdictOf t m)) (mark-plain t m .1)
+      (verdict-never-seven (verdictOf t m)))
 
   pub write-weight : (e : Edition) (out : List ℕ) → WeightPromise t (writeArchive e t m out .answer)
   unfolding writeArchive writeChecks judgeChecks

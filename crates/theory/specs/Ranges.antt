@@ -1,18 +1,20 @@
--- Laws of a choice by a test, of a place, and of the numbers 1 to n summed, counted, searched and listed. `Upto n P` says P of
--- each of 1 to n. Assumes nothing.
+-- Laws of a choice by a test, of a place, of two numbers in order, of what goes by earlier numbers, and of the numbers
+-- 1 to n summed, counted, searched and listed. `Upto n P` says P of each of 1 to n. Assumes nothing.
 use Prim.Native.Nat.{ℕ, zero, suc, _+_, _≤_, _<_}
 use native.Mathlib.Omega.{arith}
+use native.Mathlib.Nat.{eq-or-lt-of-le, le-suc-iff, eq-zero-or-pos}
 use mathlib.Core.Bool.{Bool, true, false, true≢false, false≢true}
 use mathlib.Core.Path.{_≡_, refl, sym, _∙_, ap}
-use mathlib.Core.Logic.{_⊎_, inl, inr}
+use mathlib.Core.Logic.{_⊎_, inl, inr, ⊎-elim}
 use mathlib.Core.List.{List, [], _∷_, _++_}
 use lib.ListN.{length, getD, length-append, List·getD-append}
 use lib.Seq.{getD-append-seam}
-use lib.Dec.{leb, ltb}
-use borrow.Author.Tests.{leb-true, leb-false, ltb-true, ltb-false}
+use lib.Dec.{leb}
+use borrow.Author.Tests.{leb-true, leb-false}
 use Rattle.model.specs.Basics.{pick, when, atPlace, sumTo, countTo, firstTo, lastTo, listTo}
 use Rattle.model.specs.declared.Place.{Place}
 use Rattle.model.specs.declared.Place.the-variants.{At, Nowhere}
+use Rattle.theory.specs.Bools.{bool-cases}
 
 -- ---- Choices and places
 
@@ -53,7 +55,7 @@ unfolding when
 when-nowhere true p e = absurd (at-nowhere p e)
 when-nowhere false p e = refl
 
-pub when-at : (b : Bool) (p q : ℕ) → when b p ≡ At q → (b ≡ true) × (p ≡ q)
+when-at : (b : Bool) (p q : ℕ) → when b p ≡ At q → (b ≡ true) × (p ≡ q)
 unfolding when
 when-at true p q e = (refl, at-same e)
 when-at false p q e = absurd (at-nowhere q (sym e))
@@ -71,34 +73,44 @@ pub place-cases : (o : Place) → ((p : ℕ) × (o ≡ At p)) ⊎ (o ≡ Nowhere
 place-cases (At p) = inl (p, refl)
 place-cases Nowhere = inr refl
 
--- ---- The numbers 1 to n
+-- ---- Numbers in order
 
--- two numbers in order
 pub order-cases : (a b : ℕ) → (a < b) ⊎ ((a ≡ b) ⊎ (b < a))
-order-cases a b = go (ltb a b) refl (ltb b a) refl
+order-cases a b =
+    ⊎-elim (λ e. ⊎-elim (λ q. inr (inl q)) inl (eq-or-lt-of-le (leb-true a b e))) (λ e. inr (inr (leb-false a b e)))
+    (bool-cases (leb a b))
+
+-- what holds of a number where it holds of all earlier ones holds of every number
+pub by-earlier {ℓ} : (P : ℕ → Type ℓ) → ((v : ℕ) → ((u : ℕ) → u < v → P u) → P v) → (v : ℕ) → P v
+by-earlier P turn v = upto (suc v) v (omega arith)
   where
-    go : (x : Bool) → ltb a b ≡ x → (y : Bool) → ltb b a ≡ y → (a < b) ⊎ ((a ≡ b) ⊎ (b < a))
-    go true e y h = inl (ltb-true a b e)
-    go false e true h = inr (inr (ltb-true b a h))
-    go false e false h = inr (inl (omega (arith, ltb-false a b e, ltb-false b a h)))
+    upto : (f u : ℕ) → u < f → P u
+    upto zero u h = absurd (omega arith)
+    upto (suc f) u h = turn u (λ w less. upto f w (omega arith))
+
+-- what is found by steps back from v is found with v steps or more
+pub steps-enough {ℓ} : {X : Type ℓ} (found : ℕ → ℕ → X) (back : ℕ → ℕ) → ((v : ℕ) → 1 ≤ v → back v < v)
+    → ((f g : ℕ) → found f 0 ≡ found g 0)
+    → ((f g v : ℕ) → found f (back v) ≡ found g (back v) → found (suc f) v ≡ found (suc g) v)
+    → (f g v : ℕ) → v ≤ f → v ≤ g → found f v ≡ found g v
+steps-enough found back less none turn zero g v a b = let z : v ≡ 0 = omega arith in rw z (none 0 g)
+steps-enough found back less none turn (suc f) zero v a b = let z : v ≡ 0 = omega arith in rw z (none (suc f) 0)
+steps-enough found back less none turn (suc f) (suc g) zero a b = none (suc f) (suc g)
+steps-enough found back less none turn (suc f) (suc g) (suc v) a b =
+    let l : back (suc v) < suc v = less (suc v) (omega arith) in
+    turn f g (suc v) (steps-enough found back less none turn f g (back (suc v)) (omega arith) (omega arith))
+
+-- ---- The numbers 1 to n
 
 abbrev pub Upto {ℓ} : ℕ → (ℕ → Type ℓ) → Type ℓ
 Upto n P = (v : ℕ) → 1 ≤ v → v ≤ n → P v
 
 pub upto-suc : (n v : ℕ) → v ≤ suc n → (v ≤ n) ⊎ (v ≡ suc n)
-upto-suc n v h = go (leb v n) refl
-  where
-    go : (b : Bool) → leb v n ≡ b → (v ≤ n) ⊎ (v ≡ suc n)
-    go true e = inl (leb-true v n e)
-    go false e = let l : n < v = leb-false v n e in inr (omega arith)
+upto-suc n v h = le-suc-iff .0 h
 
 -- what holds of 1 to n and of n + 1 holds of 1 to n + 1, and back
-pub upto-add {ℓ} : (P : ℕ → Type ℓ) (n : ℕ) → Upto n P → P (suc n) → Upto (suc n) P
-upto-add P n below last v low high = go (upto-suc n v high)
-  where
-    go : (v ≤ n) ⊎ (v ≡ suc n) → P v
-    go (inl h) = below v low h
-    go (inr e) = rw e last
+upto-add {ℓ} : (P : ℕ → Type ℓ) (n : ℕ) → Upto n P → P (suc n) → Upto (suc n) P
+upto-add P n below last v low high = ⊎-elim (below v low) (λ e. rw e last) (upto-suc n v high)
 
 pub upto-less {ℓ} : (P : ℕ → Type ℓ) (n : ℕ) → Upto (suc n) P → Upto n P
 upto-less P n h v low high = h v low (omega arith)
@@ -174,11 +186,9 @@ countTo-none (suc n) p h =
 
 pub countTo-full : (n : ℕ) (p : ℕ → Bool) → countTo n p ≡ n → Upto n (λ v. p v ≡ true)
 countTo-full zero p e = λ v low high. absurd (omega arith)
-countTo-full (suc n) p e = go (p (suc n)) refl (countTo-full n p)
-  where
-    go : (b : Bool) → p (suc n) ≡ b → (countTo n p ≡ n → Upto n (λ v. p v ≡ true)) → Upto (suc n) (λ v. p v ≡ true)
-    go true q ih = upto-add (λ v. p v ≡ true) n (ih (omega (arith, countTo-yes n p q))) q
-    go false q ih = absurd (omega (arith, countTo-no n p q, countTo-le n p))
+countTo-full (suc n) p e =
+    ⊎-elim (λ q. upto-add (λ v. p v ≡ true) n (countTo-full n p (omega (arith, countTo-yes n p q))) q)
+    (λ q. absurd (omega (arith, countTo-no n p q, countTo-le n p))) (bool-cases (p (suc n)))
 
 -- ---- The first that passes
 
@@ -190,7 +200,7 @@ pub firstTo-suc : (n : ℕ) (p : ℕ → Bool) → firstTo (suc n) p ≡ atPlace
 unfolding firstTo
 firstTo-suc n p = refl
 
-pub firstTo-found : (n v : ℕ) (p : ℕ → Bool) → firstTo n p ≡ At v → firstTo (suc n) p ≡ At v
+firstTo-found : (n v : ℕ) (p : ℕ → Bool) → firstTo n p ≡ At v → firstTo (suc n) p ≡ At v
 firstTo-found n v p e = firstTo-suc n p ∙ atPlace-at (firstTo n p) v At (when (p (suc n)) (suc n)) e
 
 pub firstTo-further : (n : ℕ) (p : ℕ → Bool) → firstTo n p ≡ Nowhere → firstTo (suc n) p ≡ when (p (suc n)) (suc n)
@@ -212,12 +222,12 @@ firstTo-none (suc n) p h =
 
 pub firstTo-nowhere : (n : ℕ) (p : ℕ → Bool) → firstTo n p ≡ Nowhere → Upto n (λ v. p v ≡ false)
 firstTo-nowhere zero p e = λ v low high. absurd (omega arith)
-firstTo-nowhere (suc n) p e = go (firstTo n p) refl (firstTo-nowhere n p)
-  where
-    go : (o : Place) → firstTo n p ≡ o → (firstTo n p ≡ Nowhere → Upto n (λ v. p v ≡ false)) → Upto (suc n) (λ v. p v ≡ false)
-    go (At v) q ih = absurd (at-nowhere v (sym (firstTo-found n v p q) ∙ e))
-    go Nowhere q ih =
-        upto-add (λ v. p v ≡ false) n (ih q) (when-nowhere (p (suc n)) (suc n) (sym (firstTo-further n p q) ∙ e))
+firstTo-nowhere (suc n) p e =
+    ⊎-elim (λ f. absurd (at-nowhere (f .0) (sym (firstTo-found n (f .0) p (f .1)) ∙ e)))
+    (λ q.
+    upto-add (λ v. p v ≡ false) n (firstTo-nowhere n p q)
+    (when-nowhere (p (suc n)) (suc n) (sym (firstTo-further n p q) ∙ e)))
+    (place-cases (firstTo n p))
 
 -- v is the first of 1 to n that passes
 pub record First (n : ℕ) (p : ℕ → Bool) (v : ℕ) : Type 0 where
@@ -251,16 +261,15 @@ firstTo-first n v p f = go (firstTo n p) refl
   where
     go : (o : Place) → firstTo n p ≡ o → firstTo n p ≡ At v
     go Nowhere e = absurd (true≢false (sym (f .passed) ∙ firstTo-nowhere n p e v (f .low) (f .high)))
-    go (At u) e = e ∙ ap At (same (leb u v) refl (leb v u) refl)
+    go (At u) e = e ∙ ap At (same (order-cases u v))
       where
         g : First n p u
         g = firstTo-at n u p e
 
-        same : (b : Bool) → leb u v ≡ b → (c : Bool) → leb v u ≡ c → u ≡ v
-        same true d true d′ = let h : u ≤ v = leb-true u v d in let k : v ≤ u = leb-true v u d′ in omega arith
-        same true d false d′ =
-            let h : u < v = leb-false v u d′ in absurd (true≢false (sym (g .passed) ∙ f .before u (g .low) h))
-        same false d c d′ = let h : v < u = leb-false u v d in absurd (true≢false (sym (f .passed) ∙ g .before v (f .low) h))
+        same : (u < v) ⊎ ((u ≡ v) ⊎ (v < u)) → u ≡ v
+        same (inl h) = absurd (true≢false (sym (g .passed) ∙ f .before u (g .low) h))
+        same (inr (inl q)) = q
+        same (inr (inr h)) = absurd (true≢false (sym (f .passed) ∙ g .before v (f .low) h))
 
 -- ---- The last that passes
 
@@ -280,24 +289,20 @@ lastTo-no n p e = lastTo-suc n p ∙ pick-false (p (suc n)) (suc n) (lastTo n p)
 
 pub lastTo-le : (n : ℕ) (p : ℕ → Bool) → lastTo n p ≤ n
 lastTo-le zero p = omega (arith, lastTo-zero p)
-lastTo-le (suc n) p = go (p (suc n)) refl (lastTo-le n p)
-  where
-    go : (b : Bool) → p (suc n) ≡ b → lastTo n p ≤ n → lastTo (suc n) p ≤ suc n
-    go true q ih = omega (arith, lastTo-yes n p q)
-    go false q ih = omega (arith, lastTo-no n p q)
+lastTo-le (suc n) p =
+    rw (lastTo-suc n p)
+    (pick-both (λ k. k ≤ suc n) (p (suc n)) (suc n) (lastTo n p) (omega arith) (omega (arith, lastTo-le n p)))
 
 pub lastTo-none : (n : ℕ) (p : ℕ → Bool) → Upto n (λ v. p v ≡ false) → lastTo n p ≡ 0
 lastTo-none zero p h = lastTo-zero p
 lastTo-none (suc n) p h =
     lastTo-no n p (upto-last (λ v. p v ≡ false) n h) ∙ lastTo-none n p (upto-less (λ v. p v ≡ false) n h)
 
-pub lastTo-nothing : (n : ℕ) (p : ℕ → Bool) → lastTo n p ≡ 0 → Upto n (λ v. p v ≡ false)
+lastTo-nothing : (n : ℕ) (p : ℕ → Bool) → lastTo n p ≡ 0 → Upto n (λ v. p v ≡ false)
 lastTo-nothing zero p e = λ v low high. absurd (omega arith)
-lastTo-nothing (suc n) p e = go (p (suc n)) refl (lastTo-nothing n p)
-  where
-    go : (b : Bool) → p (suc n) ≡ b → (lastTo n p ≡ 0 → Upto n (λ v. p v ≡ false)) → Upto (suc n) (λ v. p v ≡ false)
-    go true q ih = absurd (omega (arith, lastTo-yes n p q))
-    go false q ih = upto-add (λ v. p v ≡ false) n (ih (sym (lastTo-no n p q) ∙ e)) q
+lastTo-nothing (suc n) p e =
+    ⊎-elim (λ q. absurd (omega (arith, lastTo-yes n p q)))
+    (λ q. upto-add (λ v. p v ≡ false) n (lastTo-nothing n p (sym (lastTo-no n p q) ∙ e)) q) (bool-cases (p (suc n)))
 
 -- v is the last of 1 to n that passes
 pub record Last (n : ℕ) (p : ℕ → Bool) (v : ℕ) : Type 0 where
@@ -320,41 +325,37 @@ lastTo-at (suc n) v p e low = go (p (suc n)) refl (lastTo-at n v p)
           low = low;
           high = omega (arith, f .high);
           passed = f .passed;
-          after = λ u l h. upto-add (λ w. v < w → p w ≡ false) n (λ w a b c. f .after w c b) (λ c. q) u (omega arith) h l;
+          after =
+              λ u l h. upto-add (λ w. v < w → p w ≡ false) n (λ w a b c. f .after w c b) (λ c. q) u (omega arith) h l;
         }
 
 -- the last one that passes is found
 pub lastTo-last : (n v : ℕ) (p : ℕ → Bool) → Last n p v → lastTo n p ≡ v
-lastTo-last n v p f = go (leb 1 (lastTo n p)) refl
+lastTo-last n v p f = go (eq-zero-or-pos u)
   where
-    go : (b : Bool) → leb 1 (lastTo n p) ≡ b → lastTo n p ≡ v
-    go true e = same (leb u v) refl (leb v u) refl
+    u : ℕ
+    u = lastTo n p
+
+    go : (u ≡ 0) ⊎ (1 ≤ u) → u ≡ v
+    go (inl z) = absurd (true≢false (sym (f .passed) ∙ lastTo-nothing n p z v (f .low) (f .high)))
+    go (inr one) = same (order-cases u v)
       where
-        u : ℕ
-        u = lastTo n p
-
         g : Last n p u
-        g = lastTo-at n u p refl (leb-true 1 u e)
+        g = lastTo-at n u p refl one
 
-        same : (b : Bool) → leb u v ≡ b → (c : Bool) → leb v u ≡ c → u ≡ v
-        same true d true d′ = let h : u ≤ v = leb-true u v d in let k : v ≤ u = leb-true v u d′ in omega arith
-        same true d false d′ =
-            let h : u < v = leb-false v u d′ in absurd (true≢false (sym (f .passed) ∙ g .after v h (f .high)))
-        same false d c d′ =
-            let h : v < u = leb-false u v d in absurd (true≢false (sym (g .passed) ∙ f .after u h (g .high)))
-    go false e =
-        let l : lastTo n p < 1 = leb-false 1 (lastTo n p) e in
-        let z : lastTo n p ≡ 0 = omega arith in
-        absurd (true≢false (sym (f .passed) ∙ lastTo-nothing n p z v (f .low) (f .high)))
+        same : (u < v) ⊎ ((u ≡ v) ⊎ (v < u)) → u ≡ v
+        same (inl h) = absurd (true≢false (sym (f .passed) ∙ g .after v h (f .high)))
+        same (inr (inl q)) = q
+        same (inr (inr h)) = absurd (true≢false (sym (g .passed) ∙ f .after u h (g .high)))
 
 -- the only one that passes is found
-pub lastTo-only : (n v : ℕ) (p : ℕ → Bool) → 1 ≤ v → v ≤ n → p v ≡ true → Upto n (λ u. p u ≡ true → u ≡ v) → lastTo n p ≡ v
+pub lastTo-only : (n v : ℕ) (p : ℕ → Bool) → 1 ≤ v → v ≤ n → p v ≡ true → Upto n (λ u. p u ≡ true → u ≡ v)
+    → lastTo n p ≡ v
 lastTo-only n v p low high pass only =
-    lastTo-last n v p (record { low = low; high = high; passed = pass; after = λ u l h. go u l h (p u) refl })
+    lastTo-last n v p (record { low = low; high = high; passed = pass; after = none })
   where
-    go : (u : ℕ) → v < u → u ≤ n → (b : Bool) → p u ≡ b → p u ≡ false
-    go u l h true e = absurd (omega (arith, only u (omega arith) h e))
-    go u l h false e = e
+    none : (u : ℕ) → v < u → u ≤ n → p u ≡ false
+    none u l h = ⊎-elim (λ e. absurd (omega (arith, only u (omega arith) h e))) (λ e. e) (bool-cases (p u))
 
 -- ---- Lists
 
@@ -373,23 +374,22 @@ listTo-cong (suc n) f g h =
     let last : f (suc n) ≡ g (suc n) = upto-last (λ v. f v ≡ g v) n h in
     rw (listTo-suc n f, listTo-suc n g, before, last)
 
-pub append-nil {ℓ} : {X : Type ℓ} (l : List X) → l ++ [] ≡ l
-append-nil [] = refl
-append-nil (x ∷ l) = ap (λ r. x ∷ r) (append-nil l)
-
 pub length-listTo {ℓ} : {X : Type ℓ} (n : ℕ) (f : ℕ → X) → length (listTo n (λ v. f v ∷ [])) ≡ n
 length-listTo zero f = rw (listTo-zero (λ v. f v ∷ []))
 length-listTo (suc n) f =
     rw (listTo-suc n (λ v. f v ∷ []), length-append) (omega (arith, length-listTo n f))
 
-pub getD-listTo {ℓ} : {X : Type ℓ} (n i : ℕ) (f : ℕ → X) (d : X) → i < n → getD (listTo n (λ v. f v ∷ [])) i d ≡ f (suc i)
+pub getD-listTo {ℓ} : {X : Type ℓ} (n i : ℕ) (f : ℕ → X) (d : X) → i < n
+    → getD (listTo n (λ v. f v ∷ [])) i d ≡ f (suc i)
 getD-listTo zero i f d h = absurd (omega arith)
-getD-listTo {X = X} (suc n) i f d h = rw (listTo-suc n (λ v. f v ∷ [])) (go (upto-suc n (suc i) h) (getD-listTo n i f d))
+getD-listTo {X = X} (suc n) i f d h =
+    rw (listTo-suc n (λ v. f v ∷ [])) (go (upto-suc n (suc i) h) (getD-listTo n i f d))
   where
     xs : List X
     xs = listTo n (λ v. f v ∷ [])
 
-    go : (suc i ≤ n) ⊎ (suc i ≡ suc n) → (i < n → getD xs i d ≡ f (suc i)) → getD (xs ++ (f (suc n) ∷ [])) i d ≡ f (suc i)
+    go : (suc i ≤ n) ⊎ (suc i ≡ suc n) → (i < n → getD xs i d ≡ f (suc i))
+        → getD (xs ++ (f (suc n) ∷ [])) i d ≡ f (suc i)
     go (inl l) ih =
         let fits : i < length xs = rw (length-listTo n f) l in List·getD-append xs (f (suc n) ∷ []) d i fits ∙ ih l
     go (inr e) ih =

@@ -1,6 +1,6 @@
 -- Sequences of runs: what a run is, what `holds` says as plain facts, which run a node is in, and on whose page it is.
--- Defines RunFacts, Inside, FoundRun, HoldFacts. Proves that the first and the last say what isRun and holds say, and the laws of
--- runWith and homeOf that name no bound on the steps. Assumes nothing.
+-- Defines RunFacts, Inside, FoundRun, HoldFacts. Proves that the first and the last say what isRun and holds say, and
+-- the laws of runWith and homeOf that name no bound on the steps. Assumes nothing.
 use Prim.Native.Nat.{ℕ, zero, suc, _≤_, _<_}
 use native.Mathlib.Omega.{arith}
 use mathlib.Core.Bool.{Bool, true, false, _&&_, true≢false}
@@ -8,14 +8,16 @@ use mathlib.Core.Path.{_≡_, refl, sym, _∙_, ap}
 use mathlib.Core.List.{List, [], _∷_, List·Memᴰ·head, List·Memᴰ·tail, List·Memᴰ·not-nil}
 use lib.Dec.{eqb, leb}
 use borrow.Author.Tests.{eqb-true, eq-eqb, leb-true, le-leb}
-use Rattle.model.specs.Basics.{countTo, every}
+use Rattle.model.specs.Basics.{atPlace, countTo, every}
 use Rattle.model.specs.Table.{nodeCount}
 use Rattle.model.specs.Plan.{parentAt}
-use Rattle.model.specs.Runs.{Run, comesAfter, isRun, isMember, rootRun, isRootRun, countOf, inOneAtMost, holds, runWith, homeFrom, homeOf}
+use Rattle.model.specs.Runs.{Run, comesAfter, isRun, isMember, rootRun, isRootRun, countOf, inOneAtMost, holds, runWith}
+use Rattle.model.specs.Runs.{homeFrom, homeOf}
 use Rattle.model.specs.declared.Place.{Place}
 use Rattle.model.specs.declared.Place.the-variants.{At, Nowhere}
 use Rattle.theory.specs.Bools.{both-true}
-use Rattle.theory.specs.Ranges.{Upto, pick-true, pick-false, at-nowhere, at-same, atPlace-at, atPlace-nowhere, countTo-all, countTo-full}
+use Rattle.theory.specs.Ranges.{Upto, by-earlier, steps-enough, pick-true, pick-false, at-nowhere, at-same}
+use Rattle.theory.specs.Ranges.{atPlace-at, atPlace-nowhere, countTo-all, countTo-full}
 use Rattle.theory.specs.TableFacts.{SoundFacts}
 use Rattle.theory.specs.TableLinks.{parentAt-none, parentAt-less, parent-low}
 use Rattle.theory.specs.SiblingChains.{After, here, reach-le, comesAfter-after, after-comesAfter}
@@ -28,7 +30,7 @@ pub record RunFacts (t : List ℕ) (r : Run) : Type 0 where
   pub high : r .first ≤ nodeCount t
   pub after : After t (r .first) (r .last)
 
-pub run-facts : (t : List ℕ) (r : Run) → isRun t r ≡ true → RunFacts t r
+run-facts : (t : List ℕ) (r : Run) → isRun t r ≡ true → RunFacts t r
 unfolding isRun
 run-facts t r e =
     let c = both-true (leb 1 (r .first) && leb (r .first) (nodeCount t)) (comesAfter t (r .first) (r .last)) e in
@@ -53,7 +55,7 @@ member-inside t v r e =
     (comesAfter-after t (r .first) v (b .0), comesAfter-after t v (r .last) (b .1))
 
 module _ {t : List ℕ} (s : SoundFacts t) where
-  pub facts-run : (r : Run) → RunFacts t r → isRun t r ≡ true
+  facts-run : (r : Run) → RunFacts t r → isRun t r ≡ true
   unfolding isRun
   facts-run r f =
       rw (
@@ -79,15 +81,17 @@ module _ {t : List ℕ} (s : SoundFacts t) where
 
 -- ---- The run that a node is in
 
-pub runWith-nil : (t : List ℕ) (v : ℕ) → runWith t [] v ≡ Nowhere
+runWith-nil : (t : List ℕ) (v : ℕ) → runWith t [] v ≡ Nowhere
 unfolding runWith
 runWith-nil t v = refl
 
-pub runWith-yes : (t : List ℕ) (r : Run) (rs : List Run) (v : ℕ) → isMember t v r ≡ true → runWith t (r ∷ rs) v ≡ At (r .first)
+runWith-yes : (t : List ℕ) (r : Run) (rs : List Run) (v : ℕ) → isMember t v r ≡ true
+    → runWith t (r ∷ rs) v ≡ At (r .first)
 unfolding runWith
 runWith-yes t r rs v e = pick-true (isMember t v r) (At (r .first)) (runWith t rs v) e
 
-pub runWith-no : (t : List ℕ) (r : Run) (rs : List Run) (v : ℕ) → isMember t v r ≡ false → runWith t (r ∷ rs) v ≡ runWith t rs v
+runWith-no : (t : List ℕ) (r : Run) (rs : List Run) (v : ℕ) → isMember t v r ≡ false
+    → runWith t (r ∷ rs) v ≡ runWith t rs v
 unfolding runWith
 runWith-no t r rs v e = pick-false (isMember t v r) (At (r .first)) (runWith t rs v) e
 
@@ -108,7 +112,8 @@ runWith-found t (r ∷ rs) v u e = go (isMember t v r) refl (runWith-found t rs 
         let f : FoundRun t rs v u = ih (sym (runWith-no t r rs v q) ∙ e) in
         record { run = f .run; listed = List·Memᴰ·tail (f .listed); member = f .member; first = f .first }
 
-pub runWith-none : (t : List ℕ) (rs : List Run) (v : ℕ) → runWith t rs v ≡ Nowhere → (r : Run) → Mem r rs → isMember t v r ≡ false
+pub runWith-none : (t : List ℕ) (rs : List Run) (v : ℕ) → runWith t rs v ≡ Nowhere → (r : Run) → Mem r rs
+    → isMember t v r ≡ false
 runWith-none t [] v e r h = absurd (List·Memᴰ·not-nil h)
 runWith-none t (x ∷ rs) v e r h = go (isMember t v x) refl h (runWith-none t rs v)
   where
@@ -118,7 +123,8 @@ runWith-none t (x ∷ rs) v e r h = go (isMember t v x) refl h (runWith-none t r
     go false q (List·Memᴰ·head p) ih = ap (isMember t v) p ∙ q
     go false q (List·Memᴰ·tail m) ih = ih (sym (runWith-no t x rs v q) ∙ e) r m
 
-pub none-runWith : (t : List ℕ) (rs : List Run) (v : ℕ) → ((r : Run) → Mem r rs → isMember t v r ≡ false) → runWith t rs v ≡ Nowhere
+pub none-runWith : (t : List ℕ) (rs : List Run) (v : ℕ) → ((r : Run) → Mem r rs → isMember t v r ≡ false)
+    → runWith t rs v ≡ Nowhere
 none-runWith t [] v h = runWith-nil t v
 none-runWith t (x ∷ rs) v h =
     runWith-no t x rs v (h x (List·Memᴰ·head refl)) ∙ none-runWith t rs v (λ r m. h r (List·Memᴰ·tail m))
@@ -141,10 +147,14 @@ mem-of e h = rw e h
 pub holds-facts : (t : List ℕ) (rs : List Run) → holds t rs ≡ true → HoldFacts t rs
 unfolding holds
 holds-facts t rs e =
-    let c = both-true (every (isRun t) rs && leb 1 (countOf isRootRun rs)) (eqb (countTo (nodeCount t) (inOneAtMost t rs)) (nodeCount t)) e in
+    let c =
+    both-true (every (isRun t) rs && leb 1 (countOf isRootRun rs))
+    (eqb (countTo (nodeCount t) (inOneAtMost t rs)) (nodeCount t)) e in
     let b = both-true (every (isRun t) rs) (leb 1 (countOf isRootRun rs)) (c .0) in
     let one = countOf-find isRootRun rs (leb-true 1 (countOf isRootRun rs) (b .1)) in
-    let all = countTo-full (nodeCount t) (inOneAtMost t rs) (eqb-true (countTo (nodeCount t) (inOneAtMost t rs)) (nodeCount t) (c .1)) in
+    let all =
+    countTo-full (nodeCount t) (inOneAtMost t rs)
+    (eqb-true (countTo (nodeCount t) (inOneAtMost t rs)) (nodeCount t) (c .1)) in
     record {
       each = λ r h. run-facts t r (every-all (isRun t) rs (b .0) r h);
       root = mem-of (root-is (one .0) (one .2)) (one .1);
@@ -158,13 +168,15 @@ module _ {t : List ℕ} (s : SoundFacts t) where
       rw (
         all-every (isRun t) rs (λ r m. facts-run s r (h .each r m)),
         le-leb 1 (countOf isRootRun rs) (countOf-some isRootRun rs rootRun (h .root) refl),
-        countTo-all (nodeCount t) (inOneAtMost t rs) (λ v low high. le-leb (countOf (isMember t v) rs) 1 (h .once v low high)),
+        countTo-all (nodeCount t) (inOneAtMost t rs)
+            (λ v low high. le-leb (countOf (isMember t v) rs) 1 (h .once v low high)),
       )
       (eq-eqb (nodeCount t) (nodeCount t) refl)
 
   module _ (rs : List Run) (h : HoldFacts t rs) where
     -- two runs with a common node are the same
-    pub runs-apart : (v : ℕ) (r r′ : Run) → Mem r rs → Mem r′ rs → isMember t v r ≡ true → isMember t v r′ ≡ true → r ≡ r′
+    pub runs-apart : (v : ℕ) (r r′ : Run) → Mem r rs → Mem r′ rs → isMember t v r ≡ true → isMember t v r′ ≡ true
+        → r ≡ r′
     runs-apart v r r′ m m′ e e′ =
         let range = member-range s v r (h .each r m) (member-inside t v r e) in
         countOf-one (isMember t v) rs r r′ (h .once v (range .0) (range .1)) m m′ e e′
@@ -191,75 +203,56 @@ module _ {t : List ℕ} (s : SoundFacts t) where
 
 -- ---- The page that a node is on
 
-homeFrom-run : (f : ℕ) (t : List ℕ) (rs : List Run) (v u : ℕ) → runWith t rs v ≡ At u → homeFrom (suc f) t rs v ≡ u
-unfolding homeFrom
-homeFrom-run f t rs v u e = atPlace-at (runWith t rs v) u (λ w. w) (homeFrom f t rs (parentAt t v)) e
-
-homeFrom-up : (f : ℕ) (t : List ℕ) (rs : List Run) (v : ℕ) → runWith t rs v ≡ Nowhere
-    → homeFrom (suc f) t rs v ≡ homeFrom f t rs (parentAt t v)
-unfolding homeFrom
-homeFrom-up f t rs v e = atPlace-nowhere (runWith t rs v) (λ w. w) (homeFrom f t rs (parentAt t v)) e
-
-homeFrom-zero : (t : List ℕ) (rs : List Run) (v : ℕ) → homeFrom 0 t rs v ≡ 0
-unfolding homeFrom
-homeFrom-zero t rs v = refl
-
 module _ (t : List ℕ) (rs : List Run) (z : runWith t rs 0 ≡ Nowhere) where
   homeFrom-none : (f : ℕ) → homeFrom f t rs 0 ≡ 0
-  homeFrom-none zero = homeFrom-zero t rs 0
-  homeFrom-none (suc f) = homeFrom-up f t rs 0 z ∙ ap (homeFrom f t rs) (parentAt-none t) ∙ homeFrom-none f
+  unfolding homeFrom
+  homeFrom-none zero = refl
+  homeFrom-none (suc f) =
+      atPlace-nowhere (runWith t rs 0) (λ u. u) (homeFrom f t rs (parentAt t 0)) z
+      ∙ ap (homeFrom f t rs) (parentAt-none t) ∙ homeFrom-none f
 
   -- the page is found with v steps or more
   homeFrom-enough : (f g v : ℕ) → v ≤ f → v ≤ g → homeFrom f t rs v ≡ homeFrom g t rs v
-  homeFrom-enough zero g v a b = let n : v ≡ 0 = omega arith in rw n (homeFrom-none 0 ∙ sym (homeFrom-none g))
-  homeFrom-enough (suc f) zero v a b = let n : v ≡ 0 = omega arith in rw n (homeFrom-none (suc f) ∙ sym (homeFrom-none 0))
-  homeFrom-enough (suc f) (suc g) zero a b = homeFrom-none (suc f) ∙ sym (homeFrom-none (suc g))
-  homeFrom-enough (suc f) (suc g) (suc v) a b = go (runWith t rs (suc v)) refl (homeFrom-enough f g (parentAt t (suc v)))
-    where
-      less : parentAt t (suc v) < suc v
-      less = parentAt-less t (suc v) (omega arith)
-
-      go : (o : Place) → runWith t rs (suc v) ≡ o
-          → (parentAt t (suc v) ≤ f → parentAt t (suc v) ≤ g → homeFrom f t rs (parentAt t (suc v)) ≡ homeFrom g t rs (parentAt t (suc v)))
-          → homeFrom (suc f) t rs (suc v) ≡ homeFrom (suc g) t rs (suc v)
-      go (At u) q ih = homeFrom-run f t rs (suc v) u q ∙ sym (homeFrom-run g t rs (suc v) u q)
-      go Nowhere q ih =
-          homeFrom-up f t rs (suc v) q ∙ ih (omega (arith, less)) (omega (arith, less)) ∙ sym (homeFrom-up g t rs (suc v) q)
+  unfolding homeFrom
+  homeFrom-enough =
+      steps-enough (λ f v. homeFrom f t rs v) (parentAt t) (parentAt-less t)
+      (λ f g. homeFrom-none f ∙ sym (homeFrom-none g))
+      (λ f g v e. ap (atPlace (runWith t rs v) (λ u. u)) e)
 
   -- a node in a run is on that run's page, any other on its parent's page
   pub home-run : (v u : ℕ) → 1 ≤ v → runWith t rs v ≡ At u → homeOf t rs v ≡ u
-  unfolding homeOf
+  unfolding homeOf homeFrom
   home-run zero u low e = absurd (omega arith)
-  home-run (suc v) u low e = homeFrom-run v t rs (suc v) u e
+  home-run (suc v) u low e =
+      atPlace-at (runWith t rs (suc v)) u (λ w. w) (homeFrom v t rs (parentAt t (suc v))) e
 
   pub home-up : (v : ℕ) → 1 ≤ v → runWith t rs v ≡ Nowhere → homeOf t rs v ≡ homeOf t rs (parentAt t v)
-  unfolding homeOf
+  unfolding homeOf homeFrom
   home-up zero low e = absurd (omega arith)
   home-up (suc v) low e =
-      homeFrom-up v t rs (suc v) e
-      ∙ homeFrom-enough v (parentAt t (suc v)) (parentAt t (suc v)) (omega (arith, parentAt-less t (suc v) low)) (omega arith)
+      atPlace-nowhere (runWith t rs (suc v)) (λ w. w) (homeFrom v t rs (parentAt t (suc v))) e
+      ∙ homeFrom-enough v (parentAt t (suc v)) (parentAt t (suc v)) (omega (arith, parentAt-less t (suc v) low))
+      (omega arith)
 
 -- the first node of a page is the first of a run
 module _ {t : List ℕ} (s : SoundFacts t) (rs : List Run) (h : HoldFacts t rs) where
-  home-upto : (f v : ℕ) → v ≤ f → 1 ≤ v → v ≤ nodeCount t → (r : Run) × Mem r rs × (r .first ≡ homeOf t rs v)
-  home-upto zero v bound low high = absurd (omega arith)
-  home-upto (suc f) v bound low high = go (runWith t rs v) refl (home-upto f)
+  abbrev HomeRun : ℕ → Type 0
+  HomeRun v = 1 ≤ v → v ≤ nodeCount t → (r : Run) × Mem r rs × (r .first ≡ homeOf t rs v)
+
+  pub home-first : (v : ℕ) → HomeRun v
+  home-first = by-earlier HomeRun (λ v earlier low high. go v low high earlier (runWith t rs v) refl)
     where
       z : runWith t rs 0 ≡ Nowhere
       z = runWith-zero s rs h
 
-      go : (o : Place) → runWith t rs v ≡ o
-          → ((u : ℕ) → u ≤ f → 1 ≤ u → u ≤ nodeCount t → (r : Run) × Mem r rs × (r .first ≡ homeOf t rs u))
+      go : (v : ℕ) → 1 ≤ v → v ≤ nodeCount t → ((u : ℕ) → u < v → HomeRun u) → (o : Place) → runWith t rs v ≡ o
           → (r : Run) × Mem r rs × (r .first ≡ homeOf t rs v)
-      go (At u) q ih =
+      go v low high earlier (At u) q =
           let found : FoundRun t rs v u = runWith-found t rs v u q in
           (found .run, found .listed, found .first ∙ sym (home-run t rs z v u low q))
-      go Nowhere q ih =
+      go v low high earlier Nowhere q =
           let other : v ≡ 1 → ⊥ = λ e. at-nowhere 1 (sym (runWith-root s rs h) ∙ ap (runWith t rs) (sym e) ∙ q) in
           let two : 2 ≤ v = omega (arith, other) in
           let less : parentAt t v < v = parentAt-less t v low in
-          let up = ih (parentAt t v) (omega arith) (parent-low s v two high) (omega arith) in
+          let up = earlier (parentAt t v) less (parent-low s v two high) (omega arith) in
           (up .0, up .1, up .2 ∙ sym (home-up t rs z v low q))
-
-  pub home-first : (v : ℕ) → 1 ≤ v → v ≤ nodeCount t → (r : Run) × Mem r rs × (r .first ≡ homeOf t rs v)
-  home-first v low high = home-upto v v (omega arith) low high

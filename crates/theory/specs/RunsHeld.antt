@@ -1,6 +1,7 @@
--- Plans and sequences of sibling runs say the same, both ways, for a table of sound form; and refusal 7 is exact: a table of sound form
--- is refused for weight just where no sequence of runs holds its tree within the page limit.
--- Defines PlanRuns, RunsPlan. Proves plan-runs, runs-plan, accepted-held, refused-unheld, seven-refused. Assumes nothing.
+-- Plans and sequences of sibling runs say the same, both ways, for a table of sound form; and refusal 7 is exact: a
+-- table of sound form is refused for weight just where no sequence of runs holds its tree within the page limit.
+-- Defines PlanRuns, RunsPlan. Proves plan-runs, runs-plan, accepted-held, refused-unheld, seven-refused. Assumes
+-- nothing.
 use Prim.Native.Nat.{ℕ, _-_, _≤_}
 use native.Mathlib.Omega.{arith}
 use mathlib.Core.Bool.{Bool, true, false, not, _&&_, true≢false, false≢true}
@@ -12,9 +13,11 @@ use lib.Dec.{eqb, leb, ltb}
 use borrow.Author.Tests.{eqb-true, eqb-false, eq-eqb, ne-eqb, leb-true, le-ltb, not-true}
 use Rattle.model.specs.Basics.{pick, countTo}
 use Rattle.model.specs.Table.{nodeCount, limitOf, weightAt}
-use Rattle.model.specs.Plan.{begins, continues, markAt, hasMark, goodMark, badMark, pageOf, pageCount, pageWeight, heavyPage}
+use Rattle.model.specs.Plan.{begins, continues, markAt, hasMark, goodMark, badMark, pageOf, pageCount, pageWeight}
+use Rattle.model.specs.Plan.{heavyPage}
 use Rattle.model.specs.Runs.{Run, countOf, holds, homeOf, runWeight, withinLimit, runCount, rootWeight, runsOf}
-use Rattle.model.specs.Refusals.{formChecks, weightChecks, treeChecks, passes, soundForm, acceptedTree, refusedForWeight}
+use Rattle.model.specs.Refusals.{formChecks, weightChecks, treeChecks, passes, soundForm, acceptedTree}
+use Rattle.model.specs.Refusals.{refusedForWeight}
 use Rattle.model.specs.Refusals.{firstOf, accepted, readTree}
 use Rattle.model.specs.Demand.{HeldWithin}
 use Rattle.model.specs.declared.Place.the-variants.{Nowhere}
@@ -23,12 +26,14 @@ use Rattle.theory.specs.Ranges.{Upto, pick-true, pick-false, sumTo-cong,
 use Rattle.theory.specs.Sums.{sumTo-only, sumTo-one}
 use Rattle.theory.specs.TableFacts.{SoundFacts, sound-facts, accepted-facts, sound-accepted}
 use Rattle.theory.specs.Bools.{both-true}
-use Rattle.theory.specs.Checks.{passes-append, firstOf-pass, firstOf-stop, firstOf-all, never-first, form-plain, weight-seven}
+use Rattle.theory.specs.Checks.{passes-append, firstOf-pass, firstOf-stop, firstOf-all, never-first, form-plain}
+use Rattle.theory.specs.Checks.{weight-seven}
 use Rattle.theory.specs.PlanPages.{bad-none, good-first, good-later, pageOf-begins}
 use Rattle.theory.specs.Lists.{every-all}
 use Rattle.theory.specs.RunsFacts.{HoldFacts, holds-facts, home-first}
 use Rattle.theory.specs.RunsMarked.{length-runsOf}
-use Rattle.theory.specs.RunsSame.{SameRuns, sameRun, same-home, same-weight, same-root, same-limit, same-length, same-times}
+use Rattle.theory.specs.RunsSame.{SameRuns, sameRun, same-home, same-weight, same-root, same-limit, same-length}
+use Rattle.theory.specs.RunsSame.{same-times}
 use Rattle.theory.specs.RunsOfPlan.{runs-facts, runs-hold, root-weight, within-heavy}
 use Rattle.theory.specs.RunsToPlan.{marksOf, marks-length, marks-good, runs-of-marks, one-plan}
 
@@ -52,8 +57,8 @@ plan-runs {t} s m good =
 
 -- ---- The plan of a sequence
 
--- the one plan with the runs of a sequence, each as often: as many pages, the same homes and weights, no heavy page exactly where
--- the sequence is within the limit
+-- the one plan with the runs of a sequence, each as often: as many pages, the same homes and weights, no heavy page
+-- exactly where the sequence is within the limit
 pub record RunsPlan (t : List ℕ) (rs : List Run) : Type 0 where
   pub marks : List ℕ
   pub long : length marks ≡ nodeCount t
@@ -115,12 +120,15 @@ module _ {t : List ℕ} (s : SoundFacts t) where
       go : (v : ℕ) → 1 ≤ v → v ≤ nodeCount t → (b : Bool) → eqb v 1 ≡ b → goodMark t (ones (nodeCount t)) v ≡ true
       go v low high true q =
           let one : v ≡ 1 = eqb-true v 1 q in
-          ap (goodMark t (ones (nodeCount t))) one ∙ good-first t (ones (nodeCount t)) ∙ ones-begin 1 (omega arith) (s .count-low)
+          ap (goodMark t (ones (nodeCount t))) one ∙ good-first t (ones (nodeCount t)) ∙ ones-begin 1 (omega arith)
+          (s .count-low)
       go v low high false q =
           let other : v ≡ 1 → ⊥ = eqb-false v 1 q in
-          let one : markAt (ones (nodeCount t)) v ≡ 1 = eqb-true (markAt (ones (nodeCount t)) v) 1 (ones-begin v low high) in
+          let one : markAt (ones (nodeCount t)) v ≡ 1 =
+          eqb-true (markAt (ones (nodeCount t)) v) 1 (ones-begin v low high) in
           good-later t (ones (nodeCount t)) v (omega (arith, other))
-          ∙ pick-false (hasMark (ones (nodeCount t)) continues v) _ _ (ne-eqb (markAt (ones (nodeCount t)) v) 2 (λ z. omega arith))
+          ∙ pick-false (hasMark (ones (nodeCount t)) continues v) _ _ (ne-eqb (markAt (ones (nodeCount t)) v) 2
+          (λ z. omega arith))
           ∙ rw (ne-eqb (markAt (ones (nodeCount t)) v) 0 (λ z. omega arith)) (ones-begin v low high)
 
   ones-page : (v : ℕ) → 1 ≤ v → v ≤ nodeCount t → pageOf t (ones (nodeCount t)) v ≡ v
@@ -166,7 +174,8 @@ module _ {t : List ℕ} (s : SoundFacts t) where
       let home = home-first s rs (holds-facts t rs (w .held)) v low high in
       let r : Run = home .0 in
       let page : runWeight t rs r ≤ limitOf t =
-      leb-true (runWeight t rs r) (limitOf t) (every-all (λ r. leb (runWeight t rs r) (limitOf t)) rs (w .within) r (home .1)) in
+      leb-true (runWeight t rs r) (limitOf t) (every-all (λ r. leb (runWeight t rs r) (limitOf t)) rs (w .within) r
+      (home .1)) in
       let here : pick (eqb (homeOf t rs v) (r .first)) (weightAt t v) 0 ≡ weightAt t v =
       pick-true (eqb (homeOf t rs v) (r .first)) (weightAt t v) 0 (eq-eqb (homeOf t rs v) (r .first) (sym (home .2))) in
       let part : pick (eqb (homeOf t rs v) (r .first)) (weightAt t v) 0 ≤ runWeight t rs r =
@@ -189,8 +198,11 @@ module _ {t : List ℕ} (s : SoundFacts t) where
 pub refused-unheld : (t : List ℕ) → (refusedForWeight t ≡ true) ↔ ((soundForm t ≡ true) × (HeldWithin t → ⊥))
 unfolding refusedForWeight
 refused-unheld t = (
-  λ e. let b = both-true (soundForm t) (not (acceptedTree t)) e in
-      (b .0, λ w. true≢false (sym (accepted-held (sound-facts t (b .0)) (b .0) .1 w) ∙ not-true (acceptedTree t) (b .1))),
+  λ e. let b = both-true (soundForm t) (not (acceptedTree t)) e in (
+    b .0,
+    λ w. true≢false (sym (accepted-held (sound-facts t (b .0)) (b .0) .1 w) ∙ not-true (acceptedTree t)
+        (b .1)),
+  ),
   λ b. rw (b .0) (go (b .0) (b .1) (acceptedTree t) refl),
 )
   where
@@ -209,19 +221,27 @@ seven-refused t = go (passes (formChecks t)) refl (passes (weightChecks t)) refl
     same = passes-append (formChecks t) (weightChecks t)
 
     go : (b : Bool) → passes (formChecks t) ≡ b → (c : Bool) → passes (weightChecks t) ≡ c
-        → (firstOf (treeChecks t) accepted .number ≡ 7) ↔ ((passes (formChecks t) && not (passes (treeChecks t))) ≡ true)
+        → (firstOf (treeChecks t) accepted .number ≡ 7) ↔ ((passes (formChecks t) && not (passes (treeChecks t)))
+        ≡ true)
     go true e true h = (
-      λ z. absurd (omega (arith, ap (λ (x : Answer). x .number) (firstOf-all (treeChecks t) accepted (same ∙ rw (e, h))))),
+      λ z. absurd (omega (
+        arith,
+        ap (λ (x : Answer). x .number) (firstOf-all (treeChecks t) accepted
+            (same ∙ rw (e, h))),
+      )),
       λ z. absurd (false≢true (sym (rw (same, e, h)) ∙ z)),
     )
     go true e false h = (
       λ z. rw (same, e, h),
-      λ z. ap (λ (x : Answer). x .number) (firstOf-pass (formChecks t) (weightChecks t) accepted e) ∙ weight-seven t accepted h,
+      λ z. ap (λ (x : Answer). x .number) (firstOf-pass (formChecks t) (weightChecks t) accepted e)
+          ∙ weight-seven t accepted h,
     )
     go false e c h = (
       λ z. absurd
           (true≢false
-          (sym (never-first 7 (formChecks t) accepted (form-plain t .1) (sym (ap (λ (x : Answer). x .number) (firstOf-stop (formChecks t) (weightChecks t) accepted accepted e)) ∙ z) .0)
+          (sym (never-first 7 (formChecks t) accepted (form-plain t .1)
+          (sym (ap (λ (x : Answer). x .number) (firstOf-stop (formChecks t) (weightChecks t) accepted accepted e))
+          ∙ z) .0)
           ∙ e)),
       λ z. absurd (false≢true (sym (rw e) ∙ z)),
     )

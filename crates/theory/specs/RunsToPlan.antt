@@ -1,12 +1,13 @@
--- The plan of a sequence of runs that holds the tree: its marks are good, its runs are those of the sequence, and it is the only plan
--- with those runs.
--- Defines markIn, marksOf. Proves marks-length, marks-good, runs-of-marks (the same runs), marks-of-runs (a plan is the plan of its
--- runs), one-plan. Assumes nothing.
+-- The plan of a sequence of runs that holds the tree: its marks are good, its runs are those of the sequence, and it is
+-- the only plan with those runs.
+-- Defines markOfRuns, marksOf. Proves marks-length, marks-good, runs-of-marks (the same runs), one-plan. Assumes
+-- nothing.
 use Prim.Native.Nat.{ℕ, zero, suc, _-_, _≤_, _<_}
 use native.Mathlib.Omega.{arith}
+use native.Mathlib.Nat.{eq-or-lt-of-le}
 use mathlib.Core.Bool.{Bool, true, false, not, _&&_, _||_, true≢false, false≢true}
 use mathlib.Core.Path.{_≡_, refl, sym, _∙_, ap}
-use mathlib.Core.Logic.{_⊎_, inl, inr}
+use mathlib.Core.Logic.{_⊎_, inl, inr, ⊎-elim}
 use mathlib.Core.List.{List, [], _∷_}
 use lib.ListN.{length, getD}
 use lib.Seq.{ext-getD}
@@ -18,87 +19,95 @@ use Rattle.model.specs.Plan.{prevAt, begins, continues, stays, markAt, hasMark,
 use Rattle.model.specs.Runs.{Run, runWith, runsOf}
 use Rattle.model.specs.declared.Place.{Place}
 use Rattle.model.specs.declared.Place.the-variants.{At, Nowhere}
-use Rattle.theory.specs.Ranges.{pick-true, pick-false, atPlace-at, atPlace-nowhere, listTo-cong, length-listTo, getD-listTo}
+use Rattle.theory.specs.Bools.{bool-cases, either-true}
+use Rattle.theory.specs.Ranges.{pick-true, pick-false, atPlace-at, atPlace-nowhere, listTo-cong, length-listTo}
+use Rattle.theory.specs.Ranges.{getD-listTo}
 use Rattle.theory.specs.TableFacts.{SoundFacts}
-use Rattle.theory.specs.TableLinks.{next-later, next-le, next-prev, prevAt-next}
-use Rattle.theory.specs.PlanPages.{bad-none, good-node, good-first, good-later, root-begins}
-use Rattle.theory.specs.SiblingChains.{here, step, After, reach-trans, reach-one, reach-le, reach-prev}
+use Rattle.theory.specs.TableLinks.{next-later, next-le, next-prev}
+use Rattle.theory.specs.PlanPages.{bad-none, good-node, good-first, good-later, not-root}
+use Rattle.theory.specs.SiblingChains.{here, step, After, reach-trans, reach-one, reach-prev-one, reach-le}
+use Rattle.theory.specs.SiblingChains.{reach-prev}
 use Rattle.theory.specs.Lists.{Mem, From}
-use Rattle.theory.specs.RunsFacts.{RunFacts, run-path, Inside, member-inside, member-range, inside-member, first-member, FoundRun, runWith-found, HoldFacts, runs-apart, runWith-at, runWith-root}
+use Rattle.theory.specs.RunsFacts.{RunFacts, run-path, Inside, member-inside, member-range, inside-member}
+use Rattle.theory.specs.RunsFacts.{first-member, FoundRun, runWith-found, HoldFacts, runs-apart, runWith-at}
+use Rattle.theory.specs.RunsFacts.{runWith-root}
 use Rattle.theory.specs.RunsSame.{SameRuns, same-runWith}
-use Rattle.theory.specs.RunsMarked.{Goes, Headed, headed, runAt, inRun-begins, inRun-continues, ends-runLast, neither-inRun}
+use Rattle.theory.specs.RunsMarked.{Goes, FirstInRun, first-in-run, planRun, inRun-begins, inRun-continues}
+use Rattle.theory.specs.RunsMarked.{ends-runLast, neither-inRun}
 use Rattle.theory.specs.RunsOfPlan.{runs-facts, runs-mem, mem-from, runWith-goes, runWith-out}
 
 -- 1 for the first node of a run, 2 for any other node of one, else 0
-unfoldable pub markIn : List ℕ → List Run → ℕ → ℕ
-markIn t rs v = atPlace (runWith t rs v) (λ u. pick (eqb u v) begins continues) stays
+unfoldable pub markOfRuns : List ℕ → List Run → ℕ → ℕ
+markOfRuns t rs v = atPlace (runWith t rs v) (λ u. pick (eqb u v) begins continues) stays
 
 unfoldable pub marksOf : List ℕ → List Run → List ℕ
-marksOf t rs = listTo (nodeCount t) (λ v. markIn t rs v ∷ [])
+marksOf t rs = listTo (nodeCount t) (λ v. markOfRuns t rs v ∷ [])
 
 -- ---- Its marks
 
-markIn-at : (t : List ℕ) (rs : List Run) (v u : ℕ) → runWith t rs v ≡ At u → markIn t rs v ≡ pick (eqb u v) 1 2
-unfolding markIn
-markIn-at t rs v u e = atPlace-at (runWith t rs v) u (λ u. pick (eqb u v) 1 2) 0 e
+markOfRuns-at : (t : List ℕ) (rs : List Run) (v u : ℕ) → runWith t rs v ≡ At u → markOfRuns t rs v ≡ pick (eqb u v) 1 2
+unfolding markOfRuns
+markOfRuns-at t rs v u e = atPlace-at (runWith t rs v) u (λ u. pick (eqb u v) 1 2) 0 e
 
-pub markIn-first : (t : List ℕ) (rs : List Run) (v u : ℕ) → runWith t rs v ≡ At u → u ≡ v → markIn t rs v ≡ 1
-markIn-first t rs v u e q = markIn-at t rs v u e ∙ pick-true (eqb u v) 1 2 (eq-eqb u v q)
+markOfRuns-first : (t : List ℕ) (rs : List Run) (v u : ℕ) → runWith t rs v ≡ At u → u ≡ v → markOfRuns t rs v ≡ 1
+markOfRuns-first t rs v u e q = markOfRuns-at t rs v u e ∙ pick-true (eqb u v) 1 2 (eq-eqb u v q)
 
-pub markIn-other : (t : List ℕ) (rs : List Run) (v u : ℕ) → runWith t rs v ≡ At u → (u ≡ v → ⊥) → markIn t rs v ≡ 2
-markIn-other t rs v u e q = markIn-at t rs v u e ∙ pick-false (eqb u v) 1 2 (ne-eqb u v q)
+markOfRuns-other : (t : List ℕ) (rs : List Run) (v u : ℕ) → runWith t rs v ≡ At u → (u ≡ v → ⊥) → markOfRuns t rs v ≡ 2
+markOfRuns-other t rs v u e q = markOfRuns-at t rs v u e ∙ pick-false (eqb u v) 1 2 (ne-eqb u v q)
 
-pub markIn-none : (t : List ℕ) (rs : List Run) (v : ℕ) → runWith t rs v ≡ Nowhere → markIn t rs v ≡ 0
-unfolding markIn
-markIn-none t rs v e = atPlace-nowhere (runWith t rs v) (λ u. pick (eqb u v) 1 2) 0 e
+markOfRuns-none : (t : List ℕ) (rs : List Run) (v : ℕ) → runWith t rs v ≡ Nowhere → markOfRuns t rs v ≡ 0
+unfolding markOfRuns
+markOfRuns-none t rs v e = atPlace-nowhere (runWith t rs v) (λ u. pick (eqb u v) 1 2) 0 e
 
 -- what a node's mark says of its run
-data Marked (t : List ℕ) (rs : List Run) (v : ℕ) : Type 0 where
-  leads : runWith t rs v ≡ At v → markIn t rs v ≡ 1 → Marked t rs v
-  follows : (u : ℕ) → runWith t rs v ≡ At u → (u ≡ v → ⊥) → markIn t rs v ≡ 2 → Marked t rs v
-  outside : runWith t rs v ≡ Nowhere → markIn t rs v ≡ 0 → Marked t rs v
+data MarkCase (t : List ℕ) (rs : List Run) (v : ℕ) : Type 0 where
+  run-first : runWith t rs v ≡ At v → markOfRuns t rs v ≡ 1 → MarkCase t rs v
+  run-later : (u : ℕ) → runWith t rs v ≡ At u → (u ≡ v → ⊥) → markOfRuns t rs v ≡ 2 → MarkCase t rs v
+  run-none : runWith t rs v ≡ Nowhere → markOfRuns t rs v ≡ 0 → MarkCase t rs v
 
-marked : (t : List ℕ) (rs : List Run) (v : ℕ) → Marked t rs v
-marked t rs v = go (runWith t rs v) refl
+mark-case : (t : List ℕ) (rs : List Run) (v : ℕ) → MarkCase t rs v
+mark-case t rs v = go (runWith t rs v) refl
   where
-    go : (o : Place) → runWith t rs v ≡ o → Marked t rs v
-    go Nowhere e = outside e (markIn-none t rs v e)
+    go : (o : Place) → runWith t rs v ≡ o → MarkCase t rs v
+    go Nowhere e = run-none e (markOfRuns-none t rs v e)
     go (At u) e = by (eqb u v) refl
       where
-        by : (b : Bool) → eqb u v ≡ b → Marked t rs v
-        by true q = let same : u ≡ v = eqb-true u v q in leads (e ∙ ap At same) (markIn-first t rs v u e same)
-        by false q = follows u e (eqb-false u v q) (markIn-other t rs v u e (eqb-false u v q))
+        by : (b : Bool) → eqb u v ≡ b → MarkCase t rs v
+        by true q = let same : u ≡ v = eqb-true u v q in run-first (e ∙ ap At same) (markOfRuns-first t rs v u e same)
+        by false q = run-later u e (eqb-false u v q) (markOfRuns-other t rs v u e (eqb-false u v q))
 
 pub marks-length : (t : List ℕ) (rs : List Run) → length (marksOf t rs) ≡ nodeCount t
 unfolding marksOf
-marks-length t rs = length-listTo (nodeCount t) (markIn t rs)
+marks-length t rs = length-listTo (nodeCount t) (markOfRuns t rs)
 
-getD-marks : (t : List ℕ) (rs : List Run) (i : ℕ) → i < nodeCount t → getD (marksOf t rs) i 0 ≡ markIn t rs (suc i)
+getD-marks : (t : List ℕ) (rs : List Run) (i : ℕ) → i < nodeCount t → getD (marksOf t rs) i 0 ≡ markOfRuns t rs (suc i)
 unfolding marksOf
-getD-marks t rs i h = getD-listTo (nodeCount t) i (markIn t rs) 0 h
+getD-marks t rs i h = getD-listTo (nodeCount t) i (markOfRuns t rs) 0 h
 
 markAt-suc : (m : List ℕ) (i : ℕ) → markAt m (suc i) ≡ getD m i 0
 unfolding markAt
 markAt-suc m i = let e : suc i - 1 ≡ i = omega arith in ap (λ k. getD m k 0) e
 
-pub marks-at : (t : List ℕ) (rs : List Run) (v : ℕ) → 1 ≤ v → v ≤ nodeCount t → markAt (marksOf t rs) v ≡ markIn t rs v
+marks-at : (t : List ℕ) (rs : List Run) (v : ℕ) → 1 ≤ v → v ≤ nodeCount t → markAt (marksOf t rs) v ≡ markOfRuns t rs v
 marks-at t rs zero low high = absurd (omega arith)
 marks-at t rs (suc i) low high = markAt-suc (marksOf t rs) i ∙ getD-marks t rs i high
 
 -- sequences that put each node in the same run have the same plan
-pub marks-same : (t : List ℕ) (rs rs′ : List Run) → ((v : ℕ) → runWith t rs v ≡ runWith t rs′ v) → marksOf t rs ≡ marksOf t rs′
-unfolding marksOf markIn
+marks-same : (t : List ℕ) (rs rs′ : List Run) → ((v : ℕ) → runWith t rs v ≡ runWith t rs′ v)
+    → marksOf t rs ≡ marksOf t rs′
+unfolding marksOf markOfRuns
 marks-same t rs rs′ h =
-    listTo-cong (nodeCount t) (λ v. markIn t rs v ∷ []) (λ v. markIn t rs′ v ∷ [])
+    listTo-cong (nodeCount t) (λ v. markOfRuns t rs v ∷ []) (λ v. markOfRuns t rs′ v ∷ [])
     (λ v low high. ap (λ o. atPlace o (λ u. pick (eqb u v) 1 2) 0 ∷ []) (h v))
 
 -- ---- The plan of a sequence that holds the tree
 
 module _ {t : List ℕ} (s : SoundFacts t) (rs : List Run) (h : HoldFacts t rs) where
-  mark-is : (v k : ℕ) → 1 ≤ v → v ≤ nodeCount t → markIn t rs v ≡ k → hasMark (marksOf t rs) k v ≡ true
+  mark-is : (v k : ℕ) → 1 ≤ v → v ≤ nodeCount t → markOfRuns t rs v ≡ k → hasMark (marksOf t rs) k v ≡ true
   mark-is v k low high e = eq-eqb (markAt (marksOf t rs) v) k (marks-at t rs v low high ∙ e)
 
-  mark-not : (v k j : ℕ) → 1 ≤ v → v ≤ nodeCount t → markIn t rs v ≡ k → (k ≡ j → ⊥) → hasMark (marksOf t rs) j v ≡ false
+  mark-not : (v k j : ℕ) → 1 ≤ v → v ≤ nodeCount t → markOfRuns t rs v ≡ k → (k ≡ j → ⊥)
+      → hasMark (marksOf t rs) j v ≡ false
   mark-not v k j low high e other =
       ne-eqb (markAt (marksOf t rs) v) j (λ q. other (sym (marks-at t rs v low high ∙ e) ∙ q))
 
@@ -107,75 +116,68 @@ module _ {t : List ℕ} (s : SoundFacts t) (rs : List Run) (h : HoldFacts t rs) 
   first-begins r n =
       let f : RunFacts t r = h .each r n in
       mark-is (r .first) 1 (f .low) (f .high)
-      (markIn-first t rs (r .first) (r .first) (runWith-at s rs h (r .first) r n (first-member s r f)) refl)
+      (markOfRuns-first t rs (r .first) (r .first) (runWith-at s rs h (r .first) r n (first-member s r f)) refl)
 
-  other-continues : (r : Run) (v : ℕ) → Mem r rs → Inside t v r → (r .first ≡ v → ⊥) → hasMark (marksOf t rs) continues v ≡ true
+  other-continues : (r : Run) (v : ℕ) → Mem r rs → Inside t v r → (r .first ≡ v → ⊥)
+      → hasMark (marksOf t rs) continues v ≡ true
   other-continues r v n i other =
       let f : RunFacts t r = h .each r n in
       let range = member-range s v r f i in
       mark-is v 2 (range .0) (range .1)
-      (markIn-other t rs v (r .first) (runWith-at s rs h v r n (inside-member s v r f i)) other)
+      (markOfRuns-other t rs v (r .first) (runWith-at s rs h v r n (inside-member s v r f i)) other)
 
   member-inRun : (r : Run) (v : ℕ) → Mem r rs → Inside t v r → inRun (marksOf t rs) v ≡ true
-  member-inRun r v n i = go (eqb (r .first) v) refl
-    where
-      go : (b : Bool) → eqb (r .first) v ≡ b → inRun (marksOf t rs) v ≡ true
-      go true q =
-          ap (inRun (marksOf t rs)) (sym (eqb-true (r .first) v q))
-          ∙ inRun-begins (marksOf t rs) (r .first) (first-begins r n)
-      go false q = inRun-continues (marksOf t rs) v (other-continues r v n i (eqb-false (r .first) v q))
+  member-inRun r v n i =
+      ⊎-elim (λ q. rw (← eqb-true (r .first) v q) (inRun-begins (marksOf t rs) (r .first) (first-begins r n)))
+      (λ q. inRun-continues (marksOf t rs) v (other-continues r v n i (eqb-false (r .first) v q)))
+      (bool-cases (eqb (r .first) v))
 
   -- a member that is not the first comes just after a member
-  record Behind (r : Run) (v : ℕ) : Type 0 where
+  record PrevInRun (r : Run) (v : ℕ) : Type 0 where
     low : 1 ≤ prevAt t v
     inside : Inside t (prevAt t v) r
 
-  behind : (r : Run) (v : ℕ) → Mem r rs → Inside t v r → (r .first ≡ v → ⊥) → Behind r v
-  behind r v n i other = go (reach-prev s (i .0) (f .low) (f .high))
+  prev-in-run : (r : Run) (v : ℕ) → Mem r rs → Inside t v r → (r .first ≡ v → ⊥) → PrevInRun r v
+  prev-in-run r v n i other = go (reach-prev s (i .0) (f .low) (f .high))
     where
       f : RunFacts t r
       f = h .each r n
 
-      go : (r .first ≡ v) ⊎ ((1 ≤ prevAt t v) × Unit {0} × After t (r .first) (prevAt t v)) → Behind r v
+      go : (r .first ≡ v) ⊎ ((1 ≤ prevAt t v) × Unit {0} × After t (r .first) (prevAt t v)) → PrevInRun r v
       go (inl e) = absurd (other e)
       go (inr b) =
-          let next : nextAt t (prevAt t v) ≡ v = prevAt-next t v (b .0) in
-          let one : After t (prevAt t v) (nextAt t (prevAt t v)) = reach-one (omega (arith, next, member-range s v r f i .0)) tt in
-          record { low = b .0; inside = (b .2, reach-trans (rw next at one) (i .1)) }
+          let one : After t (prevAt t v) v = reach-prev-one t v (member-range s v r f i .0) (b .0) tt in
+          record { low = b .0; inside = (b .2, reach-trans one (i .1)) }
 
   -- its marks are good
   good-mark : (v : ℕ) → 1 ≤ v → v ≤ nodeCount t → goodMark t (marksOf t rs) v ≡ true
-  good-mark v low high = go (eqb v 1) refl
+  good-mark v low high = go (eq-or-lt-of-le low)
     where
-      go : (b : Bool) → eqb v 1 ≡ b → goodMark t (marksOf t rs) v ≡ true
-      go true q =
-          ap (goodMark t (marksOf t rs)) (eqb-true v 1 q)
+      go : (1 ≡ v) ⊎ (1 < v) → goodMark t (marksOf t rs) v ≡ true
+      go (inl q) =
+          ap (goodMark t (marksOf t rs)) (sym q)
           ∙ good-first t (marksOf t rs)
-          ∙ mark-is 1 1 (omega arith) (s .count-low) (markIn-first t rs 1 1 (runWith-root s rs h) refl)
-      go false q = good-later t (marksOf t rs) v two ∙ by (marked t rs v)
+          ∙ mark-is 1 1 (omega arith) (s .count-low) (markOfRuns-first t rs 1 1 (runWith-root s rs h) refl)
+      go (inr two) = good-later t (marksOf t rs) v two ∙ by (mark-case t rs v)
         where
-          other : v ≡ 1 → ⊥
-          other = eqb-false v 1 q
-
-          two : 2 ≤ v
-          two = omega (arith, other)
-
-          by : Marked t rs v
+          by : MarkCase t rs v
               → pick (hasMark (marksOf t rs) continues v)
               (not (eqb (prevAt t v) 0) && inRun (marksOf t rs) (prevAt t v))
               (hasMark (marksOf t rs) stays v || hasMark (marksOf t rs) begins v)
               ≡ true
-          by (leads e k) =
+          by (run-first e k) =
               pick-false (hasMark (marksOf t rs) continues v) _ _ (mark-not v 1 2 low high k (λ z. omega arith))
               ∙ rw (mark-not v 1 0 low high k (λ z. omega arith)) (mark-is v 1 low high k)
-          by (outside e k) =
+          by (run-none e k) =
               pick-false (hasMark (marksOf t rs) continues v) _ _ (mark-not v 0 2 low high k (λ z. omega arith))
               ∙ rw (mark-is v 0 low high k)
-          by (follows u e apart k) =
+          by (run-later u e apart k) =
               let found : FoundRun t rs v u = runWith-found t rs v u e in
-              let b : Behind (found .run) v =
-              behind (found .run) v (found .listed) (member-inside t v (found .run) (found .member)) (λ z. apart (sym (found .first) ∙ z)) in
-              let some : not (eqb (prevAt t v) 0) ≡ true = ap not (ne-eqb (prevAt t v) 0 (λ z. omega (arith, b .low))) in
+              let i : Inside t v (found .run) = member-inside t v (found .run) (found .member) in
+              let b : PrevInRun (found .run) v =
+              prev-in-run (found .run) v (found .listed) i (λ z. apart (sym (found .first) ∙ z)) in
+              let some : not (eqb (prevAt t v) 0) ≡ true =
+              ap not (ne-eqb (prevAt t v) 0 (λ z. omega (arith, b .low))) in
               pick-true (hasMark (marksOf t rs) continues v) _ _ (mark-is v 2 low high k)
               ∙ rw (some, member-inRun (found .run) (prevAt t v) (found .listed) (b .inside))
 
@@ -197,8 +199,9 @@ module _ {t : List ℕ} (s : SoundFacts t) (rs : List Run) (h : HoldFacts t rs) 
       (goes-on r (nextAt t u) n from q a (next-le s u low high))
 
   -- and stop there
-  goes-no-further : (r : Run) → Mem r rs → 1 ≤ nextAt t (r .last) → hasMark (marksOf t rs) continues (nextAt t (r .last)) ≡ true → ⊥
-  goes-no-further r n a e = by (marked t rs v)
+  goes-no-further : (r : Run) → Mem r rs → 1 ≤ nextAt t (r .last)
+      → hasMark (marksOf t rs) continues (nextAt t (r .last)) ≡ true → ⊥
+  goes-no-further r n a e = by (mark-case t rs v)
     where
       f : RunFacts t r
       f = h .each r n
@@ -215,16 +218,17 @@ module _ {t : List ℕ} (s : SoundFacts t) (rs : List Run) (h : HoldFacts t rs) 
       high : v ≤ nodeCount t
       high = next-le s (r .last) low (top .1)
 
-      is-two : markIn t rs v ≡ 2
+      is-two : markOfRuns t rs v ≡ 2
       is-two = sym (marks-at t rs v a high) ∙ eqb-true (markAt (marksOf t rs) v) 2 e
 
-      by : Marked t rs v → ⊥
-      by (leads q k) = omega (arith, is-two, k)
-      by (outside q k) = omega (arith, is-two, k)
-      by (follows u q apart k) =
+      by : MarkCase t rs v → ⊥
+      by (run-first q k) = omega (arith, is-two, k)
+      by (run-none q k) = omega (arith, is-two, k)
+      by (run-later u q apart k) =
           let found : FoundRun t rs v u = runWith-found t rs v u q in
           let i : Inside t v (found .run) = member-inside t v (found .run) (found .member) in
-          let b : Behind (found .run) v = behind (found .run) v (found .listed) i (λ z. apart (sym (found .first) ∙ z)) in
+          let b : PrevInRun (found .run) v =
+          prev-in-run (found .run) v (found .listed) i (λ z. apart (sym (found .first) ∙ z)) in
           let prev : prevAt t v ≡ r .last = next-prev s (r .last) v low (top .1) a refl in
           let mine : Inside t (r .last) (found .run) = rw prev at (b .inside) in
           let same : found .run ≡ r =
@@ -235,10 +239,10 @@ module _ {t : List ℕ} (s : SoundFacts t) (rs : List Run) (h : HoldFacts t rs) 
           omega (arith, reach-le s back a high .0, next-later s (r .last) low (top .1) a)
 
   -- the run that the marks go to from its first node is the run
-  run-again : (r : Run) → Mem r rs → runAt t (marksOf t rs) (r .first) ≡ r
+  run-again : (r : Run) → Mem r rs → planRun t (marksOf t rs) (r .first) ≡ r
   run-again r n =
       let f : RunFacts t r = h .each r n in
-      run-path {r = runAt t (marksOf t rs) (r .first)} {r′ = r} refl
+      run-path {r = planRun t (marksOf t rs) (r .first)} {r′ = r} refl
       (ends-runLast s (marksOf t rs) (r .first) (r .last) (f .low) (f .high)
       (record { goes = goes-on r (r .first) n here (f .after) (f .low) (f .high); stops = goes-no-further r n }))
 
@@ -252,57 +256,56 @@ module _ {t : List ℕ} (s : SoundFacts t) (rs : List Run) (h : HoldFacts t rs) 
             (runs-mem s (marksOf t rs) marks-good (r .first) (h .each r n .low) (h .each r n .high) (first-begins r n));
       }
     where
-      go : (r : Run) → From (hasMark (marksOf t rs) begins) (runAt t (marksOf t rs)) (nodeCount t) r → Mem r rs
-      go r c = by (marked t rs u)
+      go : (r : Run) → From (hasMark (marksOf t rs) begins) (planRun t (marksOf t rs)) (nodeCount t) r → Mem r rs
+      go r c = by (mark-case t rs u)
         where
           u : ℕ
           u = c .number
 
-          is-one : markIn t rs u ≡ 1
+          is-one : markOfRuns t rs u ≡ 1
           is-one = sym (marks-at t rs u (c .low) (c .high)) ∙ eqb-true (markAt (marksOf t rs) u) 1 (c .passed)
 
-          by : Marked t rs u → Mem r rs
-          by (follows w q apart k) = absurd (omega (arith, is-one, k))
-          by (outside q k) = absurd (omega (arith, is-one, k))
-          by (leads q k) =
+          by : MarkCase t rs u → Mem r rs
+          by (run-later w q apart k) = absurd (omega (arith, is-one, k))
+          by (run-none q k) = absurd (omega (arith, is-one, k))
+          by (run-first q k) =
               let found : FoundRun t rs u u = runWith-found t rs u u q in
               let same : r ≡ found .run =
-              c .same ∙ ap (runAt t (marksOf t rs)) (sym (found .first)) ∙ run-again (found .run) (found .listed) in
+              c .same ∙ ap (planRun t (marksOf t rs)) (sym (found .first)) ∙ run-again (found .run) (found .listed) in
               rw same (found .listed)
 
 -- ---- The plan of a plan's runs
 
 module _ {t : List ℕ} (s : SoundFacts t) (m : List ℕ) (good : badMark t m ≡ Nowhere) where
   -- a good mark that is neither 1 nor 2 is 0
-  stays-zero : (v : ℕ) → 1 ≤ v → v ≤ nodeCount t → hasMark m begins v ≡ false → hasMark m continues v ≡ false → markAt m v ≡ 0
+  stays-zero : (v : ℕ) → 1 ≤ v → v ≤ nodeCount t → hasMark m begins v ≡ false → hasMark m continues v ≡ false
+      → markAt m v ≡ 0
   stays-zero v low high e e′ =
-      let other : v ≡ 1 → ⊥ = λ q. true≢false (sym (root-begins s m good) ∙ ap (hasMark m begins) (sym q) ∙ e) in
-      let two : 2 ≤ v = omega (arith, other) in
-      let test : (hasMark m stays v || hasMark m begins v) ≡ true =
-      sym (pick-false (hasMark m continues v) _ _ e′) ∙ sym (good-later t m v two) ∙ good-node s m good v low high in
-      go (hasMark m stays v) refl test
-    where
-      go : (b : Bool) → hasMark m stays v ≡ b → (b || hasMark m begins v) ≡ true → markAt m v ≡ 0
-      go true q k = eqb-true (markAt m v) 0 q
-      go false q k = absurd (false≢true (sym e ∙ k))
+      let two : 2 ≤ v = not-root s m good v low e in
+      ⊎-elim (eqb-true (markAt m v) 0) (λ q. absurd (false≢true (sym e ∙ q)))
+      (either-true (hasMark m stays v) (hasMark m begins v)
+      (sym (pick-false (hasMark m continues v) _ _ e′) ∙ sym (good-later t m v two) ∙ good-node s m good v low high))
 
-  mark-again : (v : ℕ) → 1 ≤ v → v ≤ nodeCount t → markIn t (runsOf t m) v ≡ markAt m v
+  mark-again : (v : ℕ) → 1 ≤ v → v ≤ nodeCount t → markOfRuns t (runsOf t m) v ≡ markAt m v
   mark-again v low high = go (hasMark m begins v) refl (hasMark m continues v) refl
     where
-      go : (b : Bool) → hasMark m begins v ≡ b → (c : Bool) → hasMark m continues v ≡ c → markIn t (runsOf t m) v ≡ markAt m v
+      go : (b : Bool) → hasMark m begins v ≡ b → (c : Bool) → hasMark m continues v ≡ c
+          → markOfRuns t (runsOf t m) v ≡ markAt m v
       go true q c q′ =
-          markIn-first t (runsOf t m) v v (runWith-goes s m good v v low high q here) refl ∙ sym (eqb-true (markAt m v) 1 q)
+          markOfRuns-first t (runsOf t m) v v (runWith-goes s m good v v low high q here) refl
+          ∙ sym (eqb-true (markAt m v) 1 q)
       go false q true q′ =
-          let d : Headed t m v = headed s m good v low high (inRun-continues m v q′) in
-          let top : d .head ≤ nodeCount t = omega (arith, d .high) in
-          let other : d .head ≡ v → ⊥ = λ e. true≢false (sym (d .mark) ∙ ap (hasMark m begins) e ∙ q) in
-          markIn-other t (runsOf t m) v (d .head) (runWith-goes s m good (d .head) v (d .low) top (d .mark) (d .goes)) other
+          let d : FirstInRun t m v = first-in-run s m good v low high (inRun-continues m v q′) in
+          let top : d .first ≤ nodeCount t = omega (arith, d .high) in
+          let other : d .first ≡ v → ⊥ = λ e. true≢false (sym (d .mark) ∙ ap (hasMark m begins) e ∙ q) in
+          markOfRuns-other t (runsOf t m) v (d .first)
+          (runWith-goes s m good (d .first) v (d .low) top (d .mark) (d .goes)) other
           ∙ sym (eqb-true (markAt m v) 2 q′)
       go false q false q′ =
-          markIn-none t (runsOf t m) v (runWith-out s m good v (neither-inRun m v q q′))
+          markOfRuns-none t (runsOf t m) v (runWith-out s m good v (neither-inRun m v q q′))
           ∙ sym (stays-zero v low high q q′)
 
-  pub marks-of-runs : length m ≡ nodeCount t → marksOf t (runsOf t m) ≡ m
+  marks-of-runs : length m ≡ nodeCount t → marksOf t (runsOf t m) ≡ m
   marks-of-runs long =
       ext-getD 0 (marksOf t (runsOf t m)) m (marks-length t (runsOf t m) ∙ sym long)
       (λ i fits.

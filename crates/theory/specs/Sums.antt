@@ -1,14 +1,15 @@
--- Laws of sums of 1 to n beyond those of Ranges: sums by rows and by columns, a sum with one term, one term of a sum, the terms of a
--- choice. Assumes nothing.
-use Prim.Native.Nat.{ℕ, zero, suc, _+_, _≤_}
+-- Laws of sums of 1 to n beyond those of Ranges: a sum with one term, one term of a sum, a bound of all terms, the
+-- terms of a choice. Assumes nothing.
+use Prim.Native.Nat.{ℕ, zero, suc, _+_, _*_, _≤_}
 use native.Mathlib.Omega.{arith}
 use mathlib.Core.Bool.{Bool, true, false}
-use mathlib.Core.Path.{_≡_, refl, sym, _∙_, ap}
-use mathlib.Core.Logic.{_⊎_, inl, inr}
+use mathlib.Core.Path.{_≡_, refl, ap}
+use mathlib.Core.Logic.{⊎-elim}
 use lib.Dec.{eqb}
 use borrow.Author.Tests.{eq-eqb, ne-eqb}
 use Rattle.model.specs.Basics.{pick, sumTo}
-use Rattle.theory.specs.Ranges.{pick-true, pick-false, upto-suc, sumTo-zero, sumTo-suc, sumTo-cong, sumTo-add, sumTo-none}
+use Rattle.theory.specs.Ranges.{Upto, pick-true, pick-false, upto-suc, upto-less, upto-last, sumTo-zero}
+use Rattle.theory.specs.Ranges.{sumTo-suc, sumTo-none}
 
 -- ---- Choices of numbers
 
@@ -24,43 +25,37 @@ pick-none false = refl
 
 -- ---- Sums
 
--- rows first or columns first
-pub sumTo-swap : (m n : ℕ) (f : ℕ → ℕ → ℕ) → sumTo m (λ p. sumTo n (f p)) ≡ sumTo n (λ v. sumTo m (λ p. f p v))
-sumTo-swap zero n f =
-    sumTo-zero (λ p. sumTo n (f p)) ∙ sym (sumTo-none n (λ v. sumTo 0 (λ p. f p v)) (λ v low high. sumTo-zero (λ p. f p v)))
-sumTo-swap (suc m) n f =
-    omega (
-      arith,
-      sumTo-suc m (λ p. sumTo n (f p)),
-      sumTo-swap m n f,
-      sumTo-add n (λ v. sumTo m (λ p. f p v)) (f (suc m)),
-      sumTo-cong n (λ v. sumTo (suc m) (λ p. f p v)) (λ v. sumTo m (λ p. f p v) + f (suc m) v)
-          (λ v low high. sumTo-suc m (λ p. f p v)),
-    )
-
 -- all but one of the terms are 0
 pub sumTo-only : (n q x : ℕ) → 1 ≤ q → q ≤ n → sumTo n (λ p. pick (eqb q p) x 0) ≡ x
 sumTo-only zero q x low high = absurd (omega arith)
-sumTo-only (suc n) q x low high = go (upto-suc n q high) (sumTo-only n q x low)
-  where
-    step : sumTo (suc n) (λ p. pick (eqb q p) x 0) ≡ sumTo n (λ p. pick (eqb q p) x 0) + pick (eqb q (suc n)) x 0
-    step = sumTo-suc n (λ p. pick (eqb q p) x 0)
-
-    go : (q ≤ n) ⊎ (q ≡ suc n) → (q ≤ n → sumTo n (λ p. pick (eqb q p) x 0) ≡ x) → sumTo (suc n) (λ p. pick (eqb q p) x 0) ≡ x
-    go (inl h) ih = omega (arith, step, ih h, pick-false (eqb q (suc n)) x 0 (ne-eqb q (suc n) (λ e. omega arith)))
-    go (inr e) ih =
-        omega (
-          arith,
-          step,
-          pick-true (eqb q (suc n)) x 0 (eq-eqb q (suc n) e),
-          sumTo-none n (λ p. pick (eqb q p) x 0) (λ p l h. pick-false (eqb q p) x 0 (ne-eqb q p (λ e′. omega arith))),
-        )
+sumTo-only (suc n) q x low high =
+    let more = sumTo-suc n (λ p. pick (eqb q p) x 0) in
+    ⊎-elim
+    (λ h.
+    omega (arith, more, sumTo-only n q x low h, pick-false (eqb q (suc n)) x 0 (ne-eqb q (suc n) (λ e. omega arith))))
+    (λ e.
+    omega (
+      arith,
+      more,
+      pick-true (eqb q (suc n)) x 0 (eq-eqb q (suc n) e),
+      sumTo-none n (λ p. pick (eqb q p) x 0) (λ p l h. pick-false (eqb q p) x 0 (ne-eqb q p (λ e′. omega arith))),
+    ))
+    (upto-suc n q high)
 
 -- one number of a sum
 pub sumTo-one : (n v : ℕ) (f : ℕ → ℕ) → 1 ≤ v → v ≤ n → f v ≤ sumTo n f
 sumTo-one zero v f low high = absurd (omega arith)
-sumTo-one (suc n) v f low high = go (upto-suc n v high) (sumTo-one n v f low)
-  where
-    go : (v ≤ n) ⊎ (v ≡ suc n) → (v ≤ n → f v ≤ sumTo n f) → f v ≤ sumTo (suc n) f
-    go (inl l) ih = omega (arith, ih l, sumTo-suc n f)
-    go (inr e) ih = omega (arith, sumTo-suc n f, ap f e)
+sumTo-one (suc n) v f low high =
+    ⊎-elim (λ l. omega (arith, sumTo-one n v f low l, sumTo-suc n f)) (λ e. omega (arith, sumTo-suc n f, ap f e))
+    (upto-suc n v high)
+
+-- all terms are k at most
+pub sumTo-most : (n k : ℕ) (f : ℕ → ℕ) → Upto n (λ v. f v ≤ k) → sumTo n f ≤ n * k
+sumTo-most zero k f h = omega (arith, sumTo-zero f)
+sumTo-most (suc n) k f h =
+    omega (
+      arith,
+      sumTo-suc n f,
+      sumTo-most n k f (upto-less (λ v. f v ≤ k) n h),
+      upto-last (λ v. f v ≤ k) n h,
+    )

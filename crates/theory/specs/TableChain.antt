@@ -1,6 +1,7 @@
 -- The chain that starts at a node of a table, by the node's number.
--- Defines chainAt, NodeAt (a node, the chain of its children and that of the siblings after it, with their numbers). Proves chain-is,
--- chain-none, node-at (each node of a table of sound form is so), next-smaller and link-within. Assumes nothing.
+-- Defines chainAt, NodeAt (a node, the chain of its children and that of the siblings after it, with their numbers).
+-- Proves chain-is, chain-none, node-at (each node of a table of sound form is so), next-smaller and link-within.
+-- Assumes nothing.
 use Prim.Native.Nat.{ℕ, suc, _≤_, _<_}
 use native.Mathlib.Omega.{arith}
 use mathlib.Core.Path.{_≡_, sym, _∙_, ap₂}
@@ -8,7 +9,8 @@ use mathlib.Core.List.{List}
 use Rattle.model.specs.Table.{nodeCount, limitOf, weightAt, labelAt, firstAt, nextAt, Chain, end, node, chainFrom}
 use Rattle.theory.specs.PlanShape.{size, EachWithin}
 use Rattle.theory.specs.TableFacts.{SoundFacts, AcceptedFacts}
-use Rattle.theory.specs.TableNumbered.{Numbered, none, some, size-node, numbered-size, numbered-le, numbered-chain, numbered-within, Between, between-join, sound-tree}
+use Rattle.theory.specs.TableNumbered.{Numbered, none, some, size-node, numbered-size, numbered-le}
+use Rattle.theory.specs.TableNumbered.{numbered-chain, numbered-within, Between, between-join, sound-tree}
 
 unfoldable pub chainAt : List ℕ → ℕ → Chain
 chainAt t v = chainFrom (nodeCount t) t v
@@ -59,5 +61,6 @@ module _ {t : List ℕ} where
       rw (a .shape)
       (omega (arith, size-node (weightAt t u) (labelAt t u) (chainAt t (firstAt t u)) (chainAt t (nextAt t u))))
 
-  pub link-within : AcceptedFacts t → {m v e : ℕ} {c : Chain} → Numbered t m v c e → e ≤ nodeCount t → EachWithin (limitOf t) c
+  pub link-within : AcceptedFacts t → {m v e : ℕ} {c : Chain} → Numbered t m v c e → e ≤ nodeCount t
+      → EachWithin (limitOf t) c
   link-within a r h = numbered-within (limitOf t) r (λ u low high. a .light u (omega arith) (omega arith))

@@ -1,6 +1,7 @@
 -- What a table of sound form is, as plain facts, and what an accepted one is besides.
--- Defines SoundFacts, AcceptedFacts. Proves that they say what the parts of the list of checks say: head-facts, sound-facts, facts-sound,
--- light-passes; accepted-parts, sound-accepted, accepted-facts, facts-accepted. Assumes nothing.
+-- Defines SoundFacts, AcceptedFacts. Proves that they say what the parts of the list of checks say: head-facts,
+-- sound-facts, facts-sound, light-passes; accepted-parts, sound-accepted, accepted-facts, facts-accepted. Assumes
+-- nothing.
 use Prim.Native.Nat.{ℕ, _+_, _*_, _≤_}
 use native.Mathlib.Omega.{arith}
 use mathlib.Core.Bool.{Bool, true, false, not, _||_}
@@ -12,11 +13,13 @@ use lib.Dec.{eqb, ltb}
 use borrow.Author.Tests.{eqb-true, eqb-false, eq-eqb, ne-eqb, ltb-false, le-ltb, not-false}
 use Rattle.model.specs.Basics.{firstTo}
 use Rattle.model.specs.Table.{maxNodes, maxLimit, nodeCount, limitOf, weightAt, nextAt, tableBytes, walkFrom, walkPlace}
-use Rattle.model.specs.Refusals.{passes, headChecks, nodeChecks, weightChecks, formChecks, treeChecks, soundForm, acceptedTree}
+use Rattle.model.specs.Refusals.{passes, headChecks, nodeChecks, weightChecks, formChecks, treeChecks, soundForm}
+use Rattle.model.specs.Refusals.{acceptedTree}
 use Rattle.model.specs.Refusals.{shortTable, badCount, badLimit, badLength, noWeight, badWalk, heavyNode}
 use Rattle.model.specs.declared.Place.the-variants.{At, Nowhere}
 use Rattle.theory.specs.Bools.{both-false}
-use Rattle.theory.specs.Ranges.{Upto, pick-true, pick-false, when-false, when-nowhere, at-nowhere, firstTo-none, firstTo-nowhere}
+use Rattle.theory.specs.Ranges.{Upto, pick-true, pick-false, when-false, when-nowhere, at-nowhere, firstTo-none}
+use Rattle.theory.specs.Ranges.{firstTo-nowhere}
 use Rattle.theory.specs.Checks.{Pass, pass-all, passes-both, both-pass}
 
 pub record SoundFacts (t : List ℕ) : Type 0 where
@@ -53,12 +56,14 @@ walk-alone t e = go (eqb (nextAt t 1) 0) refl
     go false q =
         absurd
         (at-nowhere 0
-        (sym (pick-false (eqb (nextAt t 1) 0) (walkFrom (2 * nodeCount t + 2) t (nodeCount t) 0 (1 ∷ [])) (At 0) q) ∙ e))
+        (sym (pick-false (eqb (nextAt t 1) 0) (walkFrom (2 * nodeCount t + 2) t (nodeCount t) 0 (1 ∷ [])) (At 0) q)
+        ∙ e))
 
 walk-is : (t : List ℕ) → nextAt t 1 ≡ 0 → walkPlace t ≡ walkFrom (2 * nodeCount t + 2) t (nodeCount t) 0 (1 ∷ [])
 unfolding walkPlace
 walk-is t z =
-    pick-true (eqb (nextAt t 1) 0) (walkFrom (2 * nodeCount t + 2) t (nodeCount t) 0 (1 ∷ [])) (At 0) (eq-eqb (nextAt t 1) 0 z)
+    pick-true (eqb (nextAt t 1) 0) (walkFrom (2 * nodeCount t + 2) t (nodeCount t) 0 (1 ∷ [])) (At 0)
+    (eq-eqb (nextAt t 1) 0 z)
 
 pub head-facts : (t : List ℕ) → passes (headChecks t) ≡ true
     → ((1 ≤ nodeCount t) × (nodeCount t ≤ maxNodes)) × ((1 ≤ limitOf t) × (limitOf t ≤ maxLimit))
@@ -68,7 +73,8 @@ head-facts t e =
     let p = pass-all (headChecks t) .0 e in (
       out-of-range (nodeCount t) maxNodes (when-nowhere _ (nodeCount t) (p .1 .0)),
       out-of-range (limitOf t) maxLimit (when-nowhere _ (limitOf t) (p .1 .1 .0)),
-      eqb-true (length t) (tableBytes (nodeCount t)) (not-false _ (when-nowhere _ (tableBytes (nodeCount t)) (p .1 .1 .1 .0))),
+      eqb-true (length t) (tableBytes (nodeCount t))
+          (not-false _ (when-nowhere _ (tableBytes (nodeCount t)) (p .1 .1 .1 .0))),
     )
 
 pub sound-facts : (t : List ℕ) → soundForm t ≡ true → SoundFacts t
@@ -124,7 +130,8 @@ unfolding Pass weightChecks heavyNode
 light-passes t = (
   λ e v low high.
       ltb-false (limitOf t) (weightAt t v)
-      (firstTo-nowhere (nodeCount t) (λ u. ltb (limitOf t) (weightAt t u)) (pass-all (weightChecks t) .0 e .0) v low high),
+      (firstTo-nowhere (nodeCount t) (λ u. ltb (limitOf t) (weightAt t u)) (pass-all (weightChecks t) .0 e .0) v low
+      high),
   λ h. pass-all (weightChecks t) .1 (
     firstTo-none (nodeCount t) (λ v. ltb (limitOf t) (weightAt t v))
         (λ v low high. le-ltb (limitOf t) (weightAt t v) (h v low high)),

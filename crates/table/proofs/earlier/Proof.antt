@@ -9,7 +9,8 @@ enum-told : tie.Need-enum-told
 enum-told c = search needs
 
 returns : tie.Need-returns
-returns c = c .refuse .ensures ∙ sym (atPlace-at (c .before .before .before .before .args .place) _ _ _ (c .before .before .place .given .1))
+returns c = c .refuse .ensures ∙ sym (atPlace-at (c .before .before .before .before .args .place) _ _ _
+    (c .before .before .place .given .1))
 
 returns-2 : tie.Need-returns-2
 returns-2 c = sym (atPlace-nowhere (c .before .before .args .place) _ _ (c .enum-told .given .1))

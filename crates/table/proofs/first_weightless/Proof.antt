@@ -7,7 +7,7 @@ use Rattle.model.specs.Basics.{firstTo}
 use Rattle.model.specs.Table.{weightAt}
 use Rattle.model.specs.declared.Place.the-variants.{Nowhere}
 use Rattle.theory.specs.Ranges.{firstTo-zero}
-use Rattle.table.proofs.First.{pass, pass-all, find}
+use Rattle.theory.specs.Search.{search-on, search-found, search-none}
 use borrow.Author.Needs.{needs}
 use Rattle.table.proofs.first_weightless.Statement.{statement}
 use Rattle.table.proofs.first_weightless.Tie as tie
@@ -24,15 +24,16 @@ loop-holds c = (search needs, firstTo-zero _)
 returns : tie.Need-returns Inv-loop μ-loop
 returns c =
     let l = c .before .before .before .loop in
-    sym (find _ (l .v) (l .inv .1) _ (c .before .before .loop-test .taken) (eq-eqb _ _ (sym (c .before .weight-at .ensures) ∙ c .if1 .taken)))
+    sym (search-found _ (l .v) (l .inv .1) _ (c .before .before .loop-test .taken)
+    (eq-eqb _ _ (sym (c .before .weight-at .ensures) ∙ c .if1 .taken)))
 
 loop-again : tie.Need-loop-again Inv-loop μ-loop
 loop-again c =
     let l = c .before .before .before .loop in
-    (search needs, pass _ (l .v) (l .inv .1) (ne-eqb _ _ (λ e. c .if1 .left (c .before .weight-at .ensures ∙ e))))
+    (search needs, search-on _ (l .v) (l .inv .1) (ne-eqb _ _ (λ e. c .if1 .left (c .before .weight-at .ensures ∙ e))))
 
 returns-2 : tie.Need-returns-2 Inv-loop μ-loop
-returns-2 c = pass-all _ _ (c .before .loop .inv .1) _ (c .before .loop .inv .0) (c .loop-test .left)
+returns-2 c = search-none _ _ (c .before .loop .inv .1) _ (c .before .loop .inv .0) (c .loop-test .left)
 
 pub first-weightless-spec : {M : Type 1} → statement M
 first-weightless-spec =

@@ -21,7 +21,8 @@ both : (t : List ℕ) {r : Answer} → r ≡ readTree t → (r ≡ readTree t) �
 both t e = (e, rw e (read-weight t))
 
 -- the head's answer, and the table, where the nodes are looked at
-head-is : (c : tie.After-read-head) → c .read-head .result .number ≡ headAnswer (now (c .before .before .args .table)) .number
+head-is : (c : tie.After-read-head) → c .read-head .result .number
+    ≡ headAnswer (now (c .before .before .args .table)) .number
 unfolding headAnswer
 head-is c = ap (λ (a : Answer). a .number) (c .read-head .ensures)
 
@@ -29,7 +30,8 @@ returns : tie.Need-returns
 unfolding headAnswer
 returns c =
     let h = c .before .before in
-    both _ (h .read-head .ensures ∙ head-refuses (now (h .before .before .args .table)) (λ e. c .if1 .taken (head-is h ∙ e)))
+    both _ (h .read-head .ensures ∙ head-refuses (now (h .before .before .args .table))
+    (λ e. c .if1 .taken (head-is h ∙ e)))
 
 walk-place-requires : tie.Need-walk-place-requires
 walk-place-requires c κs =

@@ -11,7 +11,8 @@ mul-result-2 : tie.Need-mul-result-2
 mul-result-2 c =
     let k : ℕ = c .args .limit in
     let v : ℕ = c .args .v in
-    let fits : v * (2 * (k + 1)) ≤ maxNodes * (2 * (maxLimit + 1)) = mul-le-mul {n₁ = v} {m₁ = 2 * (k + 1)} {n₂ = maxNodes} {m₂ = 2 * (maxLimit + 1)} (omega arith) (omega arith) in
+    let fits : v * (2 * (k + 1)) ≤ maxNodes * (2 * (maxLimit + 1)) =
+    mul-le-mul {n₁ = v} {m₁ = 2 * (k + 1)} {n₂ = maxNodes} {m₂ = 2 * (maxLimit + 1)} (omega arith) (omega arith) in
     search needs
 
 pub block-at-spec : {M : Type 1} → statement M

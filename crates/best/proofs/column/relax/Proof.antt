@@ -7,13 +7,15 @@ use Prim.Native.Nat.{_+_, _-_, _≤_}
 use lib.ListN.{getD, length-set}
 use Rattle.model.specs.Table.{maxLimit}
 use Rattle.best.specs.Cells.{lower}
-use Rattle.best.specs.CellsFront.{cellIn, Sweeping, sweep-none, sweep-end}
+use Rattle.best.specs.CellsArrays.{cellIn, Sweeping, sweep-none, sweep-end}
 use mathlib.Core.Logic.{inl, inr, ⊎-elim}
 use Rattle.best.proofs.ColumnSweeps.{relax-word, relax-turn}
 
 abbrev Inv-loop : tie.InvT-loop
 Inv-loop words₀ here before start limit added len s₀ words s =
-    (start ≤ s) × (s ≤ maxLimit + 1) × Sweeping limit start here s (λ u. lower (getD words₀ (before + u) 0 + added) len (cellIn words₀ limit here u)) words₀ words
+    (start ≤ s) × (s ≤ maxLimit + 1)
+    × Sweeping limit start here s (λ u. lower (getD words₀ (before + u) 0 + added) len (cellIn words₀ limit here u))
+    words₀ words
 
 abbrev μ-loop : tie.MeasureT-loop
 μ-loop words₀ here before start limit added len s₀ words s = limit + 1 - s
@@ -31,15 +33,17 @@ add-word-2 c =
     omega (arith, same, fits)
 
 slice-write-words-2 : tie.Need-slice-write-words-2 Inv-loop μ-loop
-slice-write-words-2 c = simp length-set (omega (arith, c .before .before .before .before .before .before .loop .inv .2 .long))
+slice-write-words-2 c =
+    simp length-set (omega (arith, c .before .before .before .before .before .before .loop .inv .2 .long))
 
 loop-again : tie.Need-loop-again Inv-loop μ-loop
 loop-again c =
-    let l = c .before .before .before .before .before .before in
+    let i = c .before .before .before .before .before in
+    let l = i .before in
     let b = l .before in (
       omega arith,
       omega arith,
-      relax-turn _ _ _ _ _ _ _ (b .pre .2) (b .pre .3) (c .before .before .before .before .before .loop-test .taken) _ _ (l .loop .inv .2) _ _
+      relax-turn _ _ _ _ _ _ _ (b .pre .2) (b .pre .3) (i .loop-test .taken) _ _ (l .loop .inv .2) _ _
           (⊎-elim (λ w. inl (w .0 .taken, w .1)) (λ w. inr (w .0 .left, w .1)) (c .before .if1 .came))
           (⊎-elim (λ w. inl (w .0 .taken, w .1)) (λ w. inr (w .0 .left, w .1)) (c .if2 .came)),
     )

@@ -7,13 +7,14 @@ use Prim.Native.Nat.{_+_, _-_, _≤_}
 use lib.ListN.{getD, length-set}
 use Rattle.model.specs.Table.{maxLimit}
 use Rattle.best.specs.Cells.{stayCell}
-use Rattle.best.specs.CellsFront.{Sweeping, sweep-none, sweep-end}
+use Rattle.best.specs.CellsArrays.{Sweeping, sweep-none, sweep-end}
 use mathlib.Core.Logic.{inl, inr, ⊎-elim}
 use Rattle.best.proofs.ColumnSweeps.{stay-turn}
 
 abbrev Inv-loop : tie.InvT-loop
 Inv-loop words₀ here before start limit rest s₀ words s =
-    (start ≤ s) × (s ≤ maxLimit + 1) × Sweeping limit start here s (λ u. stayCell limit u rest (getD words₀ (before + (u + rest)) 0)) words₀ words
+    (start ≤ s) × (s ≤ maxLimit + 1)
+    × Sweeping limit start here s (λ u. stayCell limit u rest (getD words₀ (before + (u + rest)) 0)) words₀ words
 
 abbrev μ-loop : tie.MeasureT-loop
 μ-loop words₀ here before start limit rest s₀ words s = limit + 1 - s

@@ -6,12 +6,14 @@ use Prim.Native.Nat.{_+_, _-_, _*_, _≤_, _<_}
 use mathlib.Core.Path.{_≡_, sym, _∙_, ap}
 use native.Mathlib.Omega.{arith}
 use Rattle.best.specs.CellsRun.{countsOf}
-use Rattle.best.specs.ReduceLevel.{levelFrom}
-use Rattle.best.specs.CellsLay.{levelling, levelling-start, levelling-down, levelling-stop, levelling-take, levelling-none}
+use Rattle.best.specs.CellsLevel.{levelFrom}
+use Rattle.best.specs.LayChoices.{levelling, levelling-start, levelling-down}
+use Rattle.best.specs.LayChoices.{levelling-stop, levelling-take, levelling-none}
 
 abbrev Inv-loop : tie.InvT-loop
 Inv-loop counts top total limit gain₀ left₀ times₀ sum₀ gain left times sum =
-    (gain ≤ top) × (times + left < 65536) × (levelFrom top (countsOf counts) limit total ≡ levelling gain left times (countsOf counts) limit sum)
+    (gain ≤ top) × (times + left < 65536)
+    × (levelFrom top (countsOf counts) limit total ≡ levelling gain left times (countsOf counts) limit sum)
 
 abbrev μ-loop : tie.MeasureT-loop
 μ-loop counts top total limit gain₀ left₀ times₀ sum₀ gain left times sum = gain * 65536 + left
@@ -19,7 +21,8 @@ abbrev μ-loop : tie.MeasureT-loop
 loop-holds : tie.Need-loop-holds Inv-loop μ-loop
 loop-holds c =
     let a = c .before .args in
-    (omega arith, omega (arith, c .before .pre .2 (a .top)), levelling-start (a .top) (countsOf (a .counts .now)) (a .limit) (a .total))
+    let begin = levelling-start (a .top) (countsOf (a .counts .now)) (a .limit) (a .total) in
+    (omega arith, omega (arith, c .before .pre .2 (a .top)), begin)
 
 loop-less : tie.Need-loop-less Inv-loop μ-loop
 loop-less c =
@@ -34,7 +37,8 @@ loop-again c =
       omega (arith, l .inv .0),
       omega (arith, c .before .before .before .before .before .pre .2 (l .gain - 1)),
       l .inv .2
-          ∙ ap (λ n. levelling (l .gain) n (l .times) (countsOf (a .counts .now)) (a .limit) (l .sum)) (c .before .if1 .taken)
+          ∙ ap (λ n. levelling (l .gain) n (l .times) (countsOf (a .counts .now)) (a .limit) (l .sum))
+          (c .before .if1 .taken)
           ∙ levelling-down (l .gain) (l .times) (countsOf (a .counts .now)) (a .limit) (l .sum) low,
     )
 
@@ -42,7 +46,10 @@ returns : tie.Need-returns Inv-loop μ-loop
 returns c =
     let l = c .before .before .before .loop in
     let a = c .before .before .before .before .before .args in
-    let is = l .inv .2 ∙ levelling-stop (l .gain) (l .left) (l .times) (countsOf (a .counts .now)) (a .limit) (l .sum) (omega arith) (omega arith) (c .if2 .taken) in
+    let stop =
+    levelling-stop (l .gain) (l .left) (l .times) (countsOf (a .counts .now)) (a .limit) (l .sum) (omega arith)
+    (omega arith) (c .if2 .taken) in
+    let is = l .inv .2 ∙ stop in
     (ap (λ x. x .gain) (sym is), ap (λ x. x .times) (sym is))
 
 add-times : tie.Need-add-times Inv-loop μ-loop
@@ -54,7 +61,9 @@ loop-again-2 c =
     let a = c .before .before .before .before .before .args in (
       l .inv .0,
       omega (arith, l .inv .1),
-      l .inv .2 ∙ levelling-take (l .gain) (l .left) (l .times) (countsOf (a .counts .now)) (a .limit) (l .sum) (omega arith) (omega arith) (c .if2 .left),
+      l .inv .2
+          ∙ levelling-take (l .gain) (l .left) (l .times) (countsOf (a .counts .now)) (a .limit) (l .sum) (omega arith)
+          (omega arith) (c .if2 .left),
     )
 
 returns-2 : tie.Need-returns-2 Inv-loop μ-loop

@@ -8,20 +8,9 @@ use mathlib.Core.Logic.{inl, inr, ⊎-elim}
 use lib.ListN.{length, getD}
 use native.Mathlib.Omega.{arith}
 use Rattle.model.specs.Table.{maxNodes}
-use Rattle.best.proofs.LayMarking.{
-  Marking,
-  Levelled,
-  count-less,
-  run-sums,
-  counts-small,
-  level-small,
-  marking-start,
-  marking-high,
-  marking-low,
-  marking-takes,
-  marking-turn,
-  marking-end,
-}
+use Rattle.best.proofs.LayMarking.{Marking, Levelled, count-less, sum-ready, counts-small, level-small}
+use Rattle.best.proofs.LayMarking.{marking-start, marking-high, marking-low, marking-takes, marking-turn}
+use Rattle.best.proofs.LayMarking.{marking-end}
 
 abbrev Inv-loop : tie.InvT-loop
 Inv-loop prevs rests gains marks₀ seconds₀ child len limit level before₀ left₀ next₀ marks seconds before left next =
@@ -30,10 +19,14 @@ Inv-loop prevs rests gains marks₀ seconds₀ child len limit level before₀ l
 abbrev μ-loop : tie.MeasureT-loop
 μ-loop prevs rests gains marks₀ seconds₀ child len limit level before₀ left₀ next₀ marks seconds before left next = left
 
+-- the state at entry
+abbrev entry : tie.At-loop Inv-loop μ-loop → tie.Start Inv-loop μ-loop
+entry l = l .before .before .before .before .before .before .before
+
 -- the level, from the sums of the run
 levelled : (d : tie.After-find-level Inv-loop μ-loop) → let a = d .before .before .before .before .before .args in
-    Levelled (a .limit) (a .child) (a .len) (a .rests .now) (a .gains .now) (a .prevs .now) (d .before .before .sum-run .last .1 .1 .1 .0)
-    (d .find-level .result .gain) (d .find-level .result .times)
+    Levelled (a .limit) (a .child) (a .len) (a .rests .now) (a .gains .now) (a .prevs .now)
+    (d .before .before .sum-run .last .1 .1 .1 .0) (d .find-level .result .gain) (d .find-level .result .times)
 levelled d =
     let x = d .before .before .sum-run in
     let b = d .before .before .before .before .before in
@@ -47,17 +40,17 @@ levelled d =
     }
 
 -- the member to be marked is a node
-high : (l : tie.At-loop Inv-loop μ-loop) → let a = l .before .before .before .before .before .before .before .args in
+high : (l : tie.At-loop Inv-loop μ-loop) → let a = entry l .args in
     (l .loop .next ≤ length (a .marks .now)) × (length (a .marks .now) ≤ maxNodes)
 high l =
-    let b = l .before .before .before .before .before .before .before in
+    let b = entry l in
     (marking-high (b .pre) (l .loop .inv), b .pre .short)
 
 low : (i : tie.In-loop Inv-loop μ-loop) → 1 ≤ i .before .loop .next
-low i = marking-low (i .before .before .before .before .before .before .before .before .pre) (i .before .loop .inv) (i .loop-test .taken)
+low i = marking-low (entry (i .before) .pre) (i .before .loop .inv) (i .loop-test .taken)
 
 sum-run-requires : tie.Need-sum-run-requires Inv-loop μ-loop
-sum-run-requires c κs = (run-sums (c .before .before .pre), refl)
+sum-run-requires c κs = (sum-ready (c .before .before .pre), refl)
 
 find-level-requires : tie.Need-find-level-requires Inv-loop μ-loop
 find-level-requires c κs =
@@ -84,7 +77,7 @@ element-copy-out-gain c = omega (arith, high (c .before) .0, high (c .before) .1
 sub-before : tie.Need-sub-before Inv-loop μ-loop
 sub-before c =
     let i = c .before .before .before in
-    marking-takes (i .before .before .before .before .before .before .before .before .pre) (i .before .loop .inv) (i .loop-test .taken) (c .if1 .taken)
+    marking-takes (entry (i .before) .pre) (i .before .loop .inv) (i .loop-test .taken) (c .if1 .taken)
 
 element-write-seconds : tie.Need-element-write-seconds Inv-loop μ-loop
 element-write-seconds c =
@@ -111,7 +104,7 @@ cast-next : tie.Need-cast-next Inv-loop μ-loop
 cast-next c =
     let i = c .before .before .before .before .before .before in
     let l = i .before in
-    let b = l .before .before .before .before .before .before .before in
+    let b = entry l in
     let less : getD (b .args .prevs .now) (l .loop .next) 0 < l .loop .next = b .pre .earlier (l .loop .next) (low i) in
     let h = high l in
     search needs
@@ -121,9 +114,11 @@ loop-again c =
     let i = c .before .before .before .before .before .before in
     let l = i .before in
     let d = l .before .before in
-    marking-turn (d .before .before .before .before .before .pre) (levelled d) (l .loop .inv) (i .loop-test .taken)
-    (c .before .before .before .if1 .before) (c .before .mark-of .result) (c .before .before .second-of .result)
-    (count-less _ (d .find-level .result .gain) (l .loop .before) _ (⊎-elim (λ w. inl (w .0 .taken, w .1)) (λ w. inr (w .0 .left, w .1)) (c .before .before .before .if1 .came)))
+    let x = c .before .before .before .if1 in
+    marking-turn (entry l .pre) (levelled d) (l .loop .inv) (i .loop-test .taken)
+    (x .before) (c .before .mark-of .result) (c .before .before .second-of .result)
+    (count-less _ (d .find-level .result .gain) (l .loop .before) _
+    (⊎-elim (λ w. inl (w .0 .taken, w .1)) (λ w. inr (w .0 .left, w .1)) (x .came)))
     (c .before .mark-of .ensures)
     (c .before .before .second-of .ensures)
 
@@ -133,7 +128,7 @@ same-length c = c .before .loop .inv .laid .long
 returns : tie.Need-returns Inv-loop μ-loop
 returns c =
     let d = c .before .before .before in
-    marking-end (d .before .before .before .before .before .pre) (levelled d) (c .before .loop .inv) (c .loop-test .left)
+    marking-end (entry (c .before) .pre) (levelled d) (c .before .loop .inv) (c .loop-test .left)
 
 pub lay-run-spec : {M : Type 1} → statement M
 lay-run-spec =

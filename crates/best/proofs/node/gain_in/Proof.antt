@@ -17,7 +17,9 @@ unfolding secondStart
 returns-2 c =
     let e = c .before .before .before in
     let a = e .before .before .args in
-    c .less2 .ensures ∙ ap (λ (x : ℕ). a .rest - x) (c .before .less .ensures) ∙ gain-found (a .gainful) (a .limit) (a .weight) (a .rest) _ (e .if1 .left)
+    c .less2 .ensures
+    ∙ ap (λ (x : ℕ). a .rest - x) (c .before .less .ensures)
+    ∙ gain-found (a .gainful) (a .limit) (a .weight) (a .rest) _ (e .if1 .left)
 
 pub gain-in-spec : {M : Type 1} → statement M
 gain-in-spec =

@@ -1,7 +1,7 @@
 -- `best::node::link_before` meets its contract. Assumes nothing.
 use Prim.Native.Nat.{_+_, _-_, _≤_}
 use native.Mathlib.Omega.{arith}
-use Rattle.best.proofs.NodeLinks.{Linking, linking-start, next-fits, linking-turn, linking-end}
+use Rattle.best.proofs.NodeLinks.{Linking, linking-start, link-fits, linking-turn, linking-end}
 use borrow.Author.Needs.{needs}
 use Rattle.best.proofs.node.link_before.Statement.{statement}
 use Rattle.best.proofs.node.link_before.Tie as tie
@@ -16,13 +16,17 @@ loop-holds : tie.Need-loop-holds Inv-loop μ-loop
 loop-holds c = (omega arith, linking-start _)
 
 array-write-prevs : tie.Need-array-write-prevs Inv-loop μ-loop
-array-write-prevs c = omega (arith, c .next-at .ensures, next-fits (c .before .before .before .before .before .pre) (c .before .before .loop .v + 1) (omega arith) (omega arith))
+array-write-prevs c =
+    let l = c .before .before in
+    let fits = link-fits (l .before .before .before .pre) (l .loop .v + 1) (omega arith) (omega arith) in
+    omega (arith, c .next-at .ensures, fits)
 
 loop-again : tie.Need-loop-again Inv-loop μ-loop
 loop-again c =
     let l = c .before .before .loop in
-    let e = c .before .before .before .before .before in
-    (omega arith, linking-turn (e .pre) (l .v) (c .next-at .result) (l .prevs) (omega arith) (c .next-at .ensures) (l .inv .1))
+    let p = c .before .before .before .before .before .pre in
+    let x = c .next-at in
+    (omega arith, linking-turn p (l .v) (x .result) (l .prevs) (omega arith) (x .ensures) (l .inv .1))
 
 returns : tie.Need-returns Inv-loop μ-loop
 returns c =

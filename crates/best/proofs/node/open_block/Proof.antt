@@ -4,7 +4,7 @@ use mathlib.Core.List.{[]}
 use native.Mathlib.Omega.{arith}
 use lib.ListN.{length-set}
 use Rattle.best.specs.Cells.{cellAt}
-use Rattle.best.specs.CellsFront.{Sweeping, sweep-none, sweep-end}
+use Rattle.best.specs.CellsArrays.{Sweeping, sweep-none, sweep-end}
 use Rattle.best.proofs.NodeColumns.{open-turn}
 use borrow.Author.Needs.{needs}
 use Rattle.best.proofs.node.open_block.Statement.{statement}
@@ -20,7 +20,7 @@ loop-holds : tie.Need-loop-holds Inv-loop μ-loop
 loop-holds c = (omega arith, sweep-none _ _ _ _ _)
 
 slice-write-words-2 : tie.Need-slice-write-words-2 Inv-loop μ-loop
-slice-write-words-2 c = let l = c .before .loop in simp length-set (omega (arith, l .inv .1 .long, c .before .before .pre .1))
+slice-write-words-2 c = simp length-set (omega (arith, c .before .loop .inv .1 .long, c .before .before .pre .1))
 
 loop-again : tie.Need-loop-again Inv-loop μ-loop
 loop-again c =

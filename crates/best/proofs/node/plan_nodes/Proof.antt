@@ -4,14 +4,14 @@ use mathlib.Core.Path.{_≡_, refl, _∙_}
 use native.Mathlib.Omega.{arith}
 use lib.ListN.{length}
 use Rattle.model.specs.Table.{slots, nodeCount}
-use Rattle.best.specs.CellsPlan.{Planned, planned-none}
+use Rattle.best.specs.CellsPlan.{NodesPlanned, planned-none}
 use borrow.Author.Needs.{needs}
 use Rattle.best.proofs.node.plan_nodes.Statement.{statement}
 use Rattle.best.proofs.node.plan_nodes.Tie as tie
 
 abbrev Inv-loop : tie.InvT-loop
 Inv-loop table gainful prevs rests₀ gains₀ lasts₀ words₀ v₀ rests gains lasts words v =
-    (v ≤ nodeCount table) × (length words ≡ length words₀) × Planned table gainful v rests gains prevs lasts words
+    (v ≤ nodeCount table) × (length words ≡ length words₀) × NodesPlanned table gainful v rests gains prevs lasts words
     × (length rests ≡ slots) × (length gains ≡ slots) × (length lasts ≡ slots)
 
 abbrev μ-loop : tie.MeasureT-loop
@@ -20,13 +20,15 @@ abbrev μ-loop : tie.MeasureT-loop
 loop-holds : tie.Need-loop-holds Inv-loop μ-loop
 loop-holds c =
     let b = c .before .before .before in
-    (omega (arith, c .node-count .ensures), refl, rw (c .node-count .ensures) (planned-none (b .args .gainful) _ (b .pre .0)), b .pre .1, b .pre .2, b .pre .3)
+    let n = c .node-count .ensures in
+    (omega (arith, n), refl, rw n (planned-none (b .args .gainful) _ (b .pre .0)), b .pre .1, b .pre .2, b .pre .3)
 
 loop-again : tie.Need-loop-again Inv-loop μ-loop
 loop-again c =
     let x = c .before .before .plan-node in
     let l = c .before .before .before .before .before .before .before .before .loop in
-    (omega (arith, l .inv .0), x .kept .1 .1 .1 .1 .1 .1 .0 ∙ l .inv .1, x .ensures .0, x .ensures .1, x .ensures .2, x .ensures .3)
+    let e = x .ensures in
+    (omega (arith, l .inv .0), x .kept .1 .1 .1 .1 .1 .1 .0 ∙ l .inv .1, e .0, e .1, e .2, e .3)
 
 returns : tie.Need-returns Inv-loop μ-loop
 returns c =

@@ -7,7 +7,7 @@ use borrow.Author.Tests.{lt-ltb, le-ltb}
 use Rattle.model.specs.Basics.{firstTo}
 use Rattle.model.specs.declared.Place.the-variants.{Nowhere}
 use Rattle.theory.specs.Ranges.{firstTo-zero}
-use Rattle.table.proofs.First.{pass, pass-all, find}
+use Rattle.theory.specs.Search.{search-on, search-found, search-none}
 use borrow.Author.Needs.{needs}
 use Rattle.judge.proofs.pages.first_heavy.Statement.{statement}
 use Rattle.judge.proofs.pages.first_heavy.Tie as tie
@@ -25,15 +25,15 @@ loop-holds c = (firstTo-zero _, search needs)
 returns : tie.Need-returns Inv-loop μ-loop
 returns c =
     let l = c .before .before .before .loop in
-    sym (find _ (l .p) (l .inv .0) _ (c .before .before .loop-test .taken) (lt-ltb _ _ (c .if1 .taken)))
+    sym (search-found _ (l .p) (l .inv .0) _ (c .before .before .loop-test .taken) (lt-ltb _ _ (c .if1 .taken)))
 
 loop-again : tie.Need-loop-again Inv-loop μ-loop
 loop-again c =
     let l = c .before .before .before .loop in
-    (pass _ (l .p) (l .inv .0) (le-ltb _ _ (c .if1 .left)), search needs)
+    (search-on _ (l .p) (l .inv .0) (le-ltb _ _ (c .if1 .left)), search needs)
 
 returns-2 : tie.Need-returns-2 Inv-loop μ-loop
-returns-2 c = pass-all _ _ (c .before .loop .inv .0) _ (c .before .loop .inv .1) (c .loop-test .left)
+returns-2 c = search-none _ _ (c .before .loop .inv .0) _ (c .before .loop .inv .1) (c .loop-test .left)
 
 pub first-heavy-spec : {M : Type 1} → statement M
 first-heavy-spec =

@@ -1,12 +1,11 @@
 -- `planner::common::clear` meets its contract: the words so far are 0, and the others as they were. Assumes nothing.
 use mathlib.Core.Path.{_≡_, ap, _∙_}
-use mathlib.Core.List.{List, _++_}
+use mathlib.Core.List.{List, _++_, append-nil}
 use Prim.Native.Nat.{ℕ, _-_, _≤_}
 use native.Mathlib.Omega.{arith}
 use lib.ListN.{length, drop, replicate, length-set, set}
 use lib.Seq.{drop-length}
 use borrow.Author.Fill.{fill-none, fill-more}
-use Rattle.theory.specs.Ranges.{append-nil}
 use denote.Ref.{now}
 use borrow.Author.Needs.{needs}
 use Rattle.planner.proofs.common.clear.Statement.{statement}

@@ -6,14 +6,16 @@ use native.Mathlib.Omega.{arith}
 use borrow.Author.Needs.{needs}
 use lib.ListN.{length, length-set}
 use Rattle.model.specs.Table.{slots, walkFrom}
-use Rattle.table.proofs.Pending.{pendingOf, fuel, walk-start, walk-whole, walk-short, turn-end, turn-met, turn-fails}
+use Rattle.table.proofs.Pending.{pendingOf, fuel, walk-start, walk-whole, walk-short, turn-end, turn-met}
+use Rattle.table.proofs.Pending.{turn-fails}
 use Rattle.table.proofs.walk.walk_from_root.Statement.{statement}
 use Rattle.table.proofs.walk.walk_from_root.Tie as tie
 
 abbrev Inv-loop : tie.InvT-loop
 Inv-loop table nodes pending₀ height₀ met₀ pending height met =
     (length pending ≡ slots) × (height ≤ met + 1) × (met ≤ nodes)
-    × (walkFrom (2 * nodes + 2) table nodes 0 (1 ∷ []) ≡ walkFrom (fuel nodes met height) table nodes met (pendingOf pending height))
+    × (walkFrom (2 * nodes + 2) table nodes 0 (1 ∷ []) ≡ walkFrom (fuel nodes met height) table nodes met
+    (pendingOf pending height))
 
 abbrev μ-loop : tie.MeasureT-loop
 μ-loop table nodes pending₀ height₀ met₀ pending height met = 2 * (nodes - met) + height
@@ -24,12 +26,14 @@ loop-holds c = (refl, omega arith, omega arith, walk-start _ _ _ refl)
 returns : tie.Need-returns Inv-loop μ-loop
 returns c =
     let l = c .before .before .before .loop in
-    sym (l .inv .3 ∙ turn-fails _ _ _ _ _ (c .before .before .loop-test .taken) (c .before .if1 .taken) (λ e h. omega arith))
+    sym (l .inv .3 ∙ turn-fails _ _ _ _ _ (c .before .before .loop-test .taken) (c .before .if1 .taken)
+    (λ e h. omega arith))
 
 returns-2 : tie.Need-returns-2 Inv-loop μ-loop
 returns-2 c =
     let l = c .before .before .before .before .loop in
-    sym (l .inv .3 ∙ turn-fails _ _ _ _ _ (c .before .before .before .loop-test .taken) (c .before .before .if1 .taken) (λ e h. c .if3 .taken e))
+    sym (l .inv .3 ∙ turn-fails _ _ _ _ _ (c .before .before .before .loop-test .taken)
+    (c .before .before .if1 .taken) (λ e h. c .if3 .taken e))
 
 loop-again : tie.Need-loop-again Inv-loop μ-loop
 loop-again c =
@@ -38,7 +42,8 @@ loop-again c =
       omega arith,
       omega arith,
       l .inv .3
-          ∙ turn-met _ _ _ _ _ (omega arith) _ _ _ refl (c .before .next-at .ensures) (c .first-at .ensures) (omega arith) (omega arith) (omega arith),
+          ∙ turn-met _ _ _ _ _ (omega arith) _ _ _ refl (c .before .next-at .ensures) (c .first-at .ensures)
+          (omega arith) (omega arith) (omega arith),
     )
 
 loop-again-2 : tie.Need-loop-again-2 Inv-loop μ-loop

@@ -18,7 +18,8 @@ returns c =
     let t = now (s .args .table) in
     c .walk-from-root .ensures
     ∙ ap (λ (n : ℕ). walkFrom (2 * n + 2) t n 0 (1 ∷ [])) (s .pre .0)
-    ∙ sym (pick-true (eqb (nextAt t 1) 0) _ _ (eq-eqb _ 0 (sym (c .before .before .next-at .ensures) ∙ c .before .if1 .taken)))
+    ∙ sym (pick-true (eqb (nextAt t 1) 0) _ _ (eq-eqb _ 0 (sym (c .before .before .next-at .ensures)
+    ∙ c .before .if1 .taken)))
 
 returns-2 : tie.Need-returns-2
 unfolding walkPlace

@@ -13,7 +13,8 @@ returns : tie.Need-returns
 unfolding fieldAt
 returns c =
     let a = c .before .before .before .before .args in
-    c .word-at .ensures ∙ ap (λ (u : ℕ). wordAt (now (a .table)) (2 + 4 * u + a .f)) (⊎-elim (λ w. omega arith) (λ w. omega arith) (c .before .before .if1 .came))
+    c .word-at .ensures ∙ ap (λ (u : ℕ). wordAt (now (a .table)) (2 + 4 * u + a .f))
+    (⊎-elim (λ w. omega arith) (λ w. omega arith) (c .before .before .if1 .came))
 
 pub field-at-spec : {M : Type 1} → statement M
 field-at-spec =

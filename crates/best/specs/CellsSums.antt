@@ -1,4 +1,4 @@
--- The sums over a run with one more member, and how many gains are told apart. Defines gainSlots, joined. Assumes nothing.
+-- The sums over a run with one more member, and a place for each gain. Defines gainSlots, joinedSums. Assumes nothing.
 use Prim.Native.Nat.{ℕ, _+_, max}
 use Rattle.model.specs.Table.{maxLimit}
 use Rattle.best.specs.declared.run.Sums.{Sums}
@@ -7,6 +7,6 @@ use Rattle.best.specs.declared.run.Sums.{Sums}
 abbrev pub gainSlots : ℕ
 gainSlots = maxLimit + 1
 
-abbrev pub joined : Sums → ℕ → ℕ → Sums
-joined s rest gain =
+abbrev pub joinedSums : Sums → ℕ → ℕ → Sums
+joinedSums s rest gain =
     record { len = s .len + 1; total = s .total + rest; gained = s .gained + gain; top = max (s .top) gain }

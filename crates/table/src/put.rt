@@ -1,7 +1,8 @@
 // Words put into a string of bytes. What would lie past its end is not put.
 ghost use mathlib.Core.Path.{_≡_};
 ghost use lib.ListN.{set};
-ghost use Rattle.archive.specs.Put.{putWord, putRecord};
+ghost use Prim.Native.Nat.{_+_, _<_};
+ghost use Rattle.theory.specs.Put.{putWord, putRecord};
 
 fn put_byte(out: &mut [u8], i: usize, b: u8)
     ensures { λ r. ⌜ now (out .exit) ≡ set (now (out .entry)) i b ⌝ }
@@ -21,12 +22,12 @@ pub fn put_word(out: &mut [u8], i: u32, w: u16)
 }
 
 // Four words, from word i on.
-pub fn put_record(out: &mut [u8], i: u16, a: u16, b: u16, c: u16, d: u16)
+pub fn put_record(out: &mut [u8], i: u32, a: u16, b: u16, c: u16, d: u16)
+    requires { ⌜ i + 3 < 4294967296 ⌝ }
     ensures { λ r. ⌜ now (out .exit) ≡ putRecord (now (out .entry)) i a b c d ⌝ }
 {
-    let at = i as u32;
-    put_word(out, at, a);
-    put_word(out, at + 1, b);
-    put_word(out, at + 2, c);
-    put_word(out, at + 3, d);
+    put_word(out, i, a);
+    put_word(out, i + 1, b);
+    put_word(out, i + 2, c);
+    put_word(out, i + 3, d);
 }

@@ -1,8 +1,8 @@
--- `archive::put::put_word` meets its contract. Assumes nothing.
-use Rattle.archive.specs.Put.{putWord}
+-- `table::put::put_word` meets its contract. Assumes nothing.
+use Rattle.theory.specs.Put.{putWord}
 use borrow.Author.Needs.{needs}
-use Rattle.archive.proofs.put.put_word.Statement.{statement}
-use Rattle.archive.proofs.put.put_word.Tie as tie
+use Rattle.table.proofs.put.put_word.Statement.{statement}
+use Rattle.table.proofs.put.put_word.Tie as tie
 
 returns : tie.Need-returns
 unfolding putWord

@@ -1,8 +1,8 @@
--- `archive::put::put_record` meets its contract. Assumes nothing.
-use Rattle.archive.specs.Put.{putRecord}
+-- `table::put::put_record` meets its contract. Assumes nothing.
+use Rattle.theory.specs.Put.{putRecord}
 use borrow.Author.Needs.{needs}
-use Rattle.archive.proofs.put.put_record.Statement.{statement}
-use Rattle.archive.proofs.put.put_record.Tie as tie
+use Rattle.table.proofs.put.put_record.Statement.{statement}
+use Rattle.table.proofs.put.put_record.Tie as tie
 
 returns : tie.Need-returns
 unfolding putRecord

@@ -5,25 +5,22 @@ use native.Mathlib.Omega.{arith}
 use native.Mathlib.Numerals.{add-one}
 use mathlib.Core.Bool.{true, false}
 use mathlib.Core.Path.{_≡_, refl, sym, _∙_, ap}
-use mathlib.Core.List.{List, [], _∷_, _++_, append-assoc}
+use mathlib.Core.List.{List, [], _∷_, _++_, append-assoc, append-nil}
 use lib.ListN.{length, getD, length-append}
 use Rattle.model.specs.Basics.{pick, countTo, listTo}
 use Rattle.model.specs.Table.{nodeCount, limitOf, weightAt, labelAt}
 use Rattle.model.specs.Plan.{begins, hasMark, parentAt, pageCount, pageWeight, runLast}
 use Rattle.model.specs.Runs.{Run, runsOf}
 use Rattle.model.specs.Archive.{nextPage, pageRecords, nextOnPage, nodeRecord, archiveOf, archiveBytes}
-use Rattle.theory.specs.Ranges.{Upto, listTo-zero, listTo-suc, listTo-cong, append-nil}
+use Rattle.theory.specs.Ranges.{Upto, listTo-zero, listTo-suc, listTo-cong}
 use Rattle.theory.specs.Chosen.{chosen, chosen-yes, chosen-no, length-chosen}
+use Rattle.theory.specs.RunsMarked.{planRun}
 use Rattle.theory.specs.ArchiveWords.{pageRow, length-pageRecords, pageRecords-snoc, length-fours}
 use Rattle.judge.specs.Rows.{Row}
 use Rattle.archive.specs.Put.{putRecord, Starts, starts-record, starts-all}
 
 unfoldable pub headWords : List ℕ → List ℕ → List ℕ
 headWords t m = nodeCount t ∷ limitOf t ∷ pageCount t m ∷ []
-
--- the run that node v begins
-abbrev pub planRun : List ℕ → List ℕ → ℕ → Run
-planRun t m v = record { first = v; last = runLast t m v }
 
 -- the runs begun by the nodes 1 to n
 abbrev pub runsUpto : List ℕ → List ℕ → ℕ → List Run

@@ -1,6 +1,7 @@
--- Marks laid node by node, in any order: where what becomes of each node's children is what its plan chose, the marks are those that
--- are laid from the root down.
--- Defines choicesBack, Along, LaidBelow. Proves choices-back-cons, choices-back-same, back-along, lay-numbered and laid-marks. Assumes nothing.
+-- Marks laid node by node, in any order: where what becomes of each node's children is what its plan chose, the
+-- marks are those that are laid from the root down.
+-- Defines choicesBack, Along, ChildrenLaid. Proves choices-back-cons, choices-back-same, back-along, lay-numbered
+-- and marks-laid. Assumes nothing.
 use Prim.Native.Nat.{ℕ, zero, suc, _+_, _-_, _≤_, _<_}
 use mathlib.Core.Path.{_≡_, refl, sym, _∙_, ap, ap₂}
 use mathlib.Core.Bool.{Bool, true, false}
@@ -19,8 +20,8 @@ use Rattle.theory.specs.TableFacts.{SoundFacts}
 use Rattle.theory.specs.TableNumbered.{Numbered, none, some, numbered-le, sound-tree}
 use Rattle.theory.specs.TableLinks.{prevAt-less, prevAt-next, parentAt-less, parent-first}
 use Rattle.theory.specs.TableChain.{chainAt, chain-is}
-use Rattle.best.specs.CellsFront.{backFrom, listBack, list-none, list-cons, list-same}
-use Rattle.best.specs.CellsNode.{Kin, prev-kin, afterAt}
+use Rattle.best.specs.CellsArrays.{backFrom, listBack, list-none, list-cons, list-same}
+use Rattle.best.specs.CellsNode.{ChildOrNone, prev-child, afterAt}
 
 -- what becomes of node u and of the siblings before it
 unfoldable pub choicesBack : List ℕ → (ℕ → Choice) → ℕ → List Choice
@@ -30,19 +31,21 @@ pub choices-back-none : (t : List ℕ) (ch : ℕ → Choice) → choicesBack t c
 unfolding choicesBack
 choices-back-none t ch = list-none ch (prevAt t)
 
-pub choices-back-cons : (t : List ℕ) (ch : ℕ → Choice) (u : ℕ) → 1 ≤ u → choicesBack t ch u ≡ ch u ∷ choicesBack t ch (prevAt t u)
+pub choices-back-cons : (t : List ℕ) (ch : ℕ → Choice) (u : ℕ) → 1 ≤ u
+    → choicesBack t ch u ≡ ch u ∷ choicesBack t ch (prevAt t u)
 unfolding choicesBack
 choices-back-cons t ch = list-cons ch (prevAt t) (prevAt-less t)
 
 -- it is the same where it is the same for each child of node v
 pub choices-back-same : (t : List ℕ) (ch ch′ : ℕ → Choice) (v : ℕ) → ((u : ℕ) → 1 ≤ u → parentAt t u ≡ v → ch u ≡ ch′ u)
-    → (u : ℕ) → Kin t v u → choicesBack t ch u ≡ choicesBack t ch′ u
+    → (u : ℕ) → ChildOrNone t v u → choicesBack t ch u ≡ choicesBack t ch′ u
 unfolding choicesBack
-choices-back-same t ch ch′ v same = list-same (Kin t v) step
+choices-back-same t ch ch′ v same = list-same (ChildOrNone t v) step
   where
-    step : (u : ℕ) → 1 ≤ u → Kin t v u → (ch u ≡ ch′ u) × (prevAt t u ≡ prevAt t u) × Kin t v (prevAt t u)
+    step : (u : ℕ) → 1 ≤ u → ChildOrNone t v u
+        → (ch u ≡ ch′ u) × (prevAt t u ≡ prevAt t u) × ChildOrNone t v (prevAt t u)
     step u low (inl e) = absurd (omega arith)
-    step u low (inr q) = (same u low (q .2), refl, prev-kin t v u low (q .1) (q .2))
+    step u low (inr q) = (same u low (q .2), refl, prev-child t v u low (q .1) (q .2))
 
 -- what becomes of the nodes from a link on
 pub data Along (t : List ℕ) (ch : ℕ → Choice) : ℕ → List Choice → Type 0 where
@@ -73,7 +76,7 @@ module _ {t : List ℕ} (s : SoundFacts t) (ch : ℕ → Choice) (v : ℕ) (low 
           let d : prevAt t u ≡ 0 → ⊥ = eqb-false (prevAt t u) 0 q in
           rw q (prevAt-next t u (omega arith))
 
-  back-along-from : (f u c : ℕ) (ds : List Choice) → u ≤ f → Kin t v u → afterAt t v u ≡ c → Along t ch c ds
+  back-along-from : (f u c : ℕ) (ds : List Choice) → u ≤ f → ChildOrNone t v u → afterAt t v u ≡ c → Along t ch c ds
       → Along t ch (firstAt t v) (reverseAux (backFrom f ch (prevAt t) u) ds)
   unfolding backFrom pick
   back-along-from zero zero c ds p k e a = rw (e) a
@@ -86,16 +89,17 @@ module _ {t : List ℕ} (s : SoundFacts t) (ch : ℕ → Choice) (v : ℕ) (low 
       let here : Along t ch (suc u) (ch (suc u) ∷ ds) = alongSome {v = suc u} {cs = ds} (q .0) (rw next a) in
       back-along-from f (prevAt t (suc u)) (suc u) (ch (suc u) ∷ ds)
       (omega (arith, prevAt-less t (suc u) (q .0)))
-      (prev-kin t v (suc u) (q .0) (q .1) (q .2))
+      (prev-child t v (suc u) (q .0) (q .1) (q .2))
       (link-before (suc u) (q .0) (q .1) (q .2))
       here
 
-  pub back-along : (u : ℕ) → Kin t v u → afterAt t v u ≡ 0 → Along t ch (firstAt t v) (reverse (choicesBack t ch u))
+  pub back-along : (u : ℕ) → ChildOrNone t v u → afterAt t v u ≡ 0
+      → Along t ch (firstAt t v) (reverse (choicesBack t ch u))
   unfolding choicesBack listBack
   back-along u k e = back-along-from u u 0 [] (omega arith) k e alongNone
 
 -- what becomes of the children of node u is what its plan chose
-pub record LaidBelow (t : List ℕ) (g : Bool) (ch : ℕ → Choice) (u : ℕ) : Type 0 where
+pub record ChildrenLaid (t : List ℕ) (g : Bool) (ch : ℕ → Choice) (u : ℕ) : Type 0 where
   pub chosen : List Choice
   pub along : Along t ch (firstAt t u) chosen
   pub same : choicesOf g (limitOf t) (weightAt t u) (chainAt t (firstAt t u)) (ch u .second) ≡ chosen
@@ -116,13 +120,15 @@ part-join : (a b c : ℕ) (l : List ℕ) → a ≤ b → b ≤ c → part a b l 
 part-join a b c l p q =
     let e : c - a ≡ (b - a) + (c - b) = omega arith in
     let f : a + (b - a) ≡ b = omega arith in
-    sym (ap (λ n. take n (drop a l)) e ∙ take-add (b - a) (c - b) (drop a l) ∙ ap (λ x. take (b - a) (drop a l) ++ take (c - b) x) (drop-drop (b - a) a l ∙ ap (λ n. drop n l) f))
+    sym (ap (λ n. take n (drop a l)) e ∙ take-add (b - a) (c - b) (drop a l)
+    ∙ ap (λ x. take (b - a) (drop a l) ++ take (c - b) x) (drop-drop (b - a) a l ∙ ap (λ n. drop n l) f))
 
 module _ (t : List ℕ) (g : Bool) (ch : ℕ → Choice) (marks : List ℕ) (long : length marks ≡ nodeCount t)
     (mark-is : (u : ℕ) → u < nodeCount t → getD marks u 0 ≡ ch (suc u) .mark)
-    (laid : (u : ℕ) → 1 ≤ u → u ≤ nodeCount t → LaidBelow t g ch u)
+    (laid : (u : ℕ) → 1 ≤ u → u ≤ nodeCount t → ChildrenLaid t g ch u)
   where
-    pub lay-numbered : {m v e : ℕ} {c : Chain} → Numbered t m v c e → e ≤ nodeCount t → (cs : List Choice) → Along t ch v cs
+    pub lay-numbered : {m v e : ℕ} {c : Chain} → Numbered t m v c e → e ≤ nodeCount t → (cs : List Choice)
+        → Along t ch v cs
         → layMarks g (limitOf t) c cs ≡ part m e marks
     unfolding layMarks
     lay-numbered {m} none h cs a = sym (part-empty m marks)
@@ -133,18 +139,21 @@ module _ (t : List ℕ) (g : Bool) (ch : ℕ → Choice) (marks : List ℕ) (lon
         let shape : chainAt t (firstAt t (suc m)) ≡ kids = chain-is k mid in
         let below = lay-numbered k mid (l .chosen) (l .along) in
         let after = lay-numbered s h (n .rest) (n .after) in
-        let chosen : choicesOf g (limitOf t) (weightAt t (suc m)) kids (ch (suc m) .second) ≡ l .chosen = rw shape at (l .same) in
+        let chosen : choicesOf g (limitOf t) (weightAt t (suc m)) kids (ch (suc m) .second) ≡ l .chosen =
+        rw shape at (l .same) in
         let first : part m e₂ marks ≡ getD marks m 0 ∷ part (suc m) e₂ marks =
-        part-cons m e₂ marks (omega (arith, numbered-le k, numbered-le s)) (omega (arith, numbered-le k, numbered-le s, long)) in
+        part-cons m e₂ marks (omega (arith, numbered-le k, numbered-le s))
+        (omega (arith, numbered-le k, numbered-le s, long)) in
         ap (layMarks g (limitOf t) (node (weightAt t (suc m)) (labelAt t (suc m)) kids next)) (n .shape)
         ∙ ap₂ (λ x y. ch (suc m) .mark ∷ (layMarks g (limitOf t) kids x ++ y)) chosen after
         ∙ ap (λ x. ch (suc m) .mark ∷ (x ++ part e₁ e₂ marks)) below
-        ∙ ap₂ _∷_ (sym (mark-is m (omega (arith, numbered-le k, numbered-le s)))) (part-join (suc m) e₁ e₂ marks (numbered-le k) (numbered-le s))
+        ∙ ap₂ _∷_ (sym (mark-is m (omega (arith, numbered-le k, numbered-le s))))
+        (part-join (suc m) e₁ e₂ marks (numbered-le k) (numbered-le s))
         ∙ sym first
 
-    pub laid-marks : SoundFacts t → ch 1 ≡ record { mark = begins; second = false } → nextAt t 1 ≡ 0
+    pub marks-laid : SoundFacts t → ch 1 ≡ record { mark = begins; second = false } → nextAt t 1 ≡ 0
         → layMarks g (limitOf t) (treeOf t) rootChoice ≡ marks
-    laid-marks s root alone =
+    marks-laid s root alone =
         let whole : nodeCount t - 0 ≡ length marks = omega arith in
         let a : Along t ch 1 (ch 1 ∷ []) = alongSome {v = 1} {cs = []} (omega arith) (rw alone alongNone) in
         ap (λ x. layMarks g (limitOf t) (treeOf t) (x ∷ [])) (sym root)

@@ -1,7 +1,8 @@
--- A node's children as they stand in arrays of rests, gains and siblings before, and the cells of a child as they stand in a block
--- of words: K + 1 words of cells, then K + 1 lengths of runs.
--- Defines listBack (a list from the last back), frontOf, cellIn, Swept, Sweeping. Proves list-cons, list-length, list-same; front-cons,
--- front-length, front-good; and sweep-none, sweep-turn, sweep-end: a sweep over the starts of a block, one store of a cell a turn. Assumes nothing.
+-- A node's children as they stand in arrays of rests, gains and siblings before, and the cells of a child as they
+-- stand in a block of words: K + 1 words of cells, then K + 1 lengths of runs.
+-- Defines backFrom, listBack (a list from the last back); childIn, childrenIn, Earlier, EachGood; cellIn, Swept,
+-- Sweeping. Proves list-cons, list-length, list-same; children-cons, children-length, children-good; and sweep-none,
+-- sweep-turn, sweep-end: a sweep over the starts of a block, one store of a cell a turn. Assumes nothing.
 use Prim.Native.Nat.{ℕ, zero, suc, _+_, _*_, _≤_, _<_}
 use mathlib.Core.Path.{_≡_, refl, _∙_, ap, ap₂}
 use mathlib.Core.Bool.{Bool, true, false}
@@ -12,7 +13,7 @@ use lib.Seq.{getD-set-same, getD-set-other}
 use lib.Dec.{eqb}
 use borrow.Author.Tests.{eqb-true, eqb-false}
 use Rattle.model.specs.Steps.{Child}
-use Rattle.best.specs.Cells.{Cell, GoodChild, Good}
+use Rattle.best.specs.Cells.{Cell, GoodChild, GoodChildren}
 
 -- ---- A list from the last back
 
@@ -82,8 +83,8 @@ abbrev pub childIn : List ℕ → List ℕ → ℕ → Child
 childIn rests gains u = record { rest = getD rests u 0; gain = getD gains u 0 }
 
 -- the children up to u, the last first
-unfoldable pub frontOf : List ℕ → List ℕ → List ℕ → ℕ → List Child
-frontOf rests gains prevs u = listBack (childIn rests gains) (λ v. getD prevs v 0) u
+unfoldable pub childrenIn : List ℕ → List ℕ → List ℕ → ℕ → List Child
+childrenIn rests gains prevs u = listBack (childIn rests gains) (λ v. getD prevs v 0) u
 
 -- the sibling before a node comes before it
 abbrev pub Earlier : List ℕ → Type 0
@@ -94,28 +95,31 @@ abbrev pub EachGood : ℕ → List ℕ → List ℕ → Type 0
 EachGood K rests gains = (u : ℕ) → GoodChild K (childIn rests gains u)
 
 module _ (rests gains prevs : List ℕ) (earlier : Earlier prevs) where
-  pub front-none : frontOf rests gains prevs 0 ≡ []
-  unfolding frontOf
-  front-none = list-none (childIn rests gains) (λ v. getD prevs v 0)
+  pub children-none : childrenIn rests gains prevs 0 ≡ []
+  unfolding childrenIn
+  children-none = list-none (childIn rests gains) (λ v. getD prevs v 0)
 
-  pub front-cons : (u : ℕ) → 1 ≤ u
-      → frontOf rests gains prevs u ≡ childIn rests gains u ∷ frontOf rests gains prevs (getD prevs u 0)
-  unfolding frontOf
-  front-cons = list-cons (childIn rests gains) (λ v. getD prevs v 0) earlier
+  pub children-cons : (u : ℕ) → 1 ≤ u
+      → childrenIn rests gains prevs u ≡ childIn rests gains u ∷ childrenIn rests gains prevs (getD prevs u 0)
+  unfolding childrenIn
+  children-cons = list-cons (childIn rests gains) (λ v. getD prevs v 0) earlier
 
-  pub front-length : (u : ℕ) → length (frontOf rests gains prevs u) ≤ u
-  unfolding frontOf
-  front-length = list-length (childIn rests gains) (λ v. getD prevs v 0) earlier
+  pub children-length : (u : ℕ) → length (childrenIn rests gains prevs u) ≤ u
+  unfolding childrenIn
+  children-length = list-length (childIn rests gains) (λ v. getD prevs v 0) earlier
 
-front-good-from : (K : ℕ) (rests gains prevs : List ℕ) → EachGood K rests gains → (f u : ℕ) → Good K (backFrom f (childIn rests gains) (λ v. getD prevs v 0) u)
-unfolding backFrom Good
-front-good-from K rests gains prevs h zero u = tt
-front-good-from K rests gains prevs h (suc f) zero = tt
-front-good-from K rests gains prevs h (suc f) (suc u) = (h (suc u), front-good-from K rests gains prevs h f (getD prevs (suc u) 0))
+children-good-from : (K : ℕ) (rests gains prevs : List ℕ) → EachGood K rests gains → (f u : ℕ)
+    → GoodChildren K (backFrom f (childIn rests gains) (λ v. getD prevs v 0) u)
+unfolding backFrom GoodChildren
+children-good-from K rests gains prevs h zero u = tt
+children-good-from K rests gains prevs h (suc f) zero = tt
+children-good-from K rests gains prevs h (suc f) (suc u) =
+    (h (suc u), children-good-from K rests gains prevs h f (getD prevs (suc u) 0))
 
-pub front-good : (K : ℕ) (rests gains prevs : List ℕ) → EachGood K rests gains → (u : ℕ) → Good K (frontOf rests gains prevs u)
-unfolding frontOf listBack
-front-good K rests gains prevs h u = front-good-from K rests gains prevs h u u
+pub children-good : (K : ℕ) (rests gains prevs : List ℕ) → EachGood K rests gains → (u : ℕ)
+    → GoodChildren K (childrenIn rests gains prevs u)
+unfolding childrenIn listBack
+children-good K rests gains prevs h u = children-good-from K rests gains prevs h u u
 
 -- ---- Cells in a block
 
@@ -148,7 +152,8 @@ sweep-none K start here f xs =
       above = λ i p. refl;
     }
 
-pub sweep-end : {K start here s : ℕ} {f : ℕ → Cell} {xs ys : List ℕ} → Sweeping K start here s f xs ys → K < s → Swept K start here f xs ys
+pub sweep-end : {K start here s : ℕ} {f : ℕ → Cell} {xs ys : List ℕ} → Sweeping K start here s f xs ys → K < s
+    → Swept K start here f xs ys
 sweep-end w h =
     record { long = w .long; cells = λ u p q. w .swept u p (omega arith); below = w .below; above = w .above }
 
@@ -156,7 +161,8 @@ sweep-end w h =
 store-two : (ys : List ℕ) (a b x y i : ℕ) → (i ≡ a → ⊥) → (i ≡ b → ⊥) → getD (set (set ys a x) b y) i 0 ≡ getD ys i 0
 store-two ys a b x y i p q = getD-set-other (set ys a x) b i y 0 q ∙ getD-set-other ys a i x 0 p
 
-module _ (K start here s : ℕ) (f : ℕ → Cell) (xs ys : List ℕ) (word run : ℕ) (w : Sweeping K start here s f xs ys) (high : s ≤ K)
+module _ (K start here s : ℕ) (f : ℕ → Cell) (xs ys : List ℕ) (word run : ℕ) (w : Sweeping K start here s f xs ys)
+    (high : s ≤ K)
     (room : here + 2 * (K + 1) ≤ length xs)
   where
     after : List ℕ
@@ -167,7 +173,8 @@ module _ (K start here s : ℕ) (f : ℕ → Cell) (xs ys : List ℕ) (word run 
     other-cell u l n =
         ap₂ (λ a b. record { word = a; run = b })
         (store-two ys (here + s) (here + (K + 1) + s) word run (here + u) (λ e. n (omega arith)) (λ e. omega arith))
-        (store-two ys (here + s) (here + (K + 1) + s) word run (here + (K + 1) + u) (λ e. omega arith) (λ e. n (omega arith)))
+        (store-two ys (here + s) (here + (K + 1) + s) word run (here + (K + 1) + u) (λ e. omega arith)
+        (λ e. n (omega arith)))
 
     this-cell : cellIn after K here s ≡ record { word = word; run = run }
     unfolding after
@@ -176,7 +183,8 @@ module _ (K start here s : ℕ) (f : ℕ → Cell) (xs ys : List ℕ) (word run 
         let l : here + s < length ys = omega (arith, w .long) in
         let m : here + (K + 1) + s < length (set ys (here + s) word) = simp length-set (omega (arith, w .long)) in
         ap₂ (λ a b. record { word = a; run = b })
-        (getD-set-other (set ys (here + s) word) (here + (K + 1) + s) (here + s) run 0 d ∙ getD-set-same ys (here + s) word 0 l)
+        (getD-set-other (set ys (here + s) word) (here + (K + 1) + s) (here + s) run 0 d
+        ∙ getD-set-same ys (here + s) word 0 l)
         (getD-set-same (set ys (here + s) word) (here + (K + 1) + s) run 0 m)
 
     pub sweep-turn : record { word = word; run = run } ≡ f s
@@ -187,8 +195,10 @@ module _ (K start here s : ℕ) (f : ℕ → Cell) (xs ys : List ℕ) (word run 
           long = simp length-set (w .long);
           swept = λ u p q. go u p q (eqb u s) refl;
           left = λ u p q. other-cell u q (λ n. omega arith) ∙ w .left u (omega arith) q;
-          below = λ i p. store-two ys (here + s) (here + (K + 1) + s) word run i (λ n. omega arith) (λ n. omega arith) ∙ w .below i p;
-          above = λ i p. store-two ys (here + s) (here + (K + 1) + s) word run i (λ n. omega arith) (λ n. omega arith) ∙ w .above i p;
+          below = λ i p. store-two ys (here + s) (here + (K + 1) + s) word run i (λ n. omega arith) (λ n. omega arith)
+              ∙ w .below i p;
+          above = λ i p. store-two ys (here + s) (here + (K + 1) + s) word run i (λ n. omega arith) (λ n. omega arith)
+              ∙ w .above i p;
         }
       where
         go : (u : ℕ) → start ≤ u → u < s + 1 → (b : Bool) → eqb u s ≡ b → cellIn after K here u ≡ f u
