@@ -1,4 +1,5 @@
--- Defines what the arrays of the judge hold, what its pass over a plan finds, and the test of a mark by numbers. Assumes nothing.
+-- What the arrays of the judge hold, what its pass over a plan finds, and the test of a mark by numbers.
+-- Defines Row, goodCase, noLayout, IsLayout. Assumes nothing.
 use Prim.Native.Nat.{ℕ, _<_}
 use mathlib.Core.Path.{_≡_}
 use mathlib.Core.Bool.{Bool, not, _&&_, _||_}

@@ -49,9 +49,9 @@ pub fn no_layout() -> Layout
     }
 }
 
-// One pass in node order. A node with no sibling before it comes just after its parent. A 1 opens the next page and is its
-// first node, a 2 joins the page of the sibling before it, and a 0 its parent's; the node's weight is added to that page.
-// Siblings come in rising order, so the last 1 or 2 on a page is the last sibling of its run.
+// One pass in node order. A node with no sibling before it comes just after its parent. A 1 opens the next page and is
+// its first node, a 2 joins the page of the sibling before it, and a 0 its parent's; the node's weight is added to that
+// page. Siblings come in rising order, so the last 1 or 2 on a page is the last sibling of its run.
 pub fn lay_pages(table: &[u8], marks: &[u8]) -> Layout
     requires { ⌜ AcceptedFacts (now table) ⌝ }
     ensures { λ r. ⌜ IsLayout (now (table .entry)) (now (marks .entry)) r ⌝ }

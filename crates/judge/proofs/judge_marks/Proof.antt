@@ -51,7 +51,8 @@ returns c =
       c .give .ensures
           ∙ ap answerOf
           (f .find-verdict .ensures
-          ∙ ap₂ (λ (o : Place) (v : Verdict). atPlace o (λ u. Failed (BadMark u)) v) (b .place-if .ensures ∙ layout .bad-is)
+          ∙ ap₂ (λ (o : Place) (v : Verdict). atPlace o (λ u. Failed (BadMark u)) v)
+          (b .place-if .ensures ∙ layout .bad-is)
           (ap₂ (λ (o : Place) (v : Verdict). atPlace o (λ p. Failed (HeavyPage p)) v) heavy
           (ap₂ (λ (p r : ℕ). Feasible p r) (layout .pages-are) (layout .weights-are 1 (omega arith))))),
       layout,

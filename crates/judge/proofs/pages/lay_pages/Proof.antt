@@ -50,8 +50,8 @@ home : (c : tie.After-choose4 Inv-loop μ-loop) → c .choose4 .result < slots
 home c =
     let g = marked c in
     let d = g .before in
-    home-fits (start (d .before) .pre) (d .before .loop .inv .1) (less d) _ _ _ (g .mark-at .ensures) (c .before .before .choose2 .ensures)
-    (c .choose4 .ensures)
+    home-fits (start (d .before) .pre) (d .before .loop .inv .1) (less d) _ _ _ (g .mark-at .ensures)
+    (c .before .before .choose2 .ensures) (c .choose4 .ensures)
 
 -- the page of the node of the turn
 here : (c : tie.After-choose5 Inv-loop μ-loop)
@@ -60,8 +60,8 @@ here : (c : tie.After-choose5 Inv-loop μ-loop)
 here c =
     let k = c .before .before in
     let d = head c in
-    page-here (start (d .before) .pre) (d .before .loop .inv .1) (less d) _ _ _ (marked k .mark-at .ensures) (k .before .before .choose2 .ensures)
-    (k .choose4 .ensures) _ _ (k .before .choose3 .ensures) (c .choose5 .ensures)
+    page-here (start (d .before) .pre) (d .before .loop .inv .1) (less d) _ _ _ (marked k .mark-at .ensures)
+    (k .before .before .choose2 .ensures) (k .choose4 .ensures) _ _ (k .before .choose3 .ensures) (c .choose5 .ensures)
 
 fits : (c : tie.After-choose5 Inv-loop μ-loop) → c .choose5 .result < slots
 fits c = let d = head c in page-fits (start (d .before) .pre) (d .before .loop .inv .1) (less d) _ (here c)
@@ -129,9 +129,10 @@ loop-again c =
     let g = marked k in
     let d = g .before in (
       omega arith,
-      layout-turn (start (d .before) .pre) (d .before .loop .inv .1) (less d) _ _ _ _ _ _ _ _ _ _ _ (g .mark-at .ensures)
-          (bad .before .before .mark-at2 .ensures) (bad .before .is-good .ensures) (bad .choose .ensures)
-          (parent .choose2 .ensures) (k .before .choose3 .ensures) (here p) (lasts .before .before .choose6 .ensures)
+      layout-turn (start (d .before) .pre) (d .before .loop .inv .1) (less d) _ _ _ _ _ _ _ _ _ _ _
+          (g .mark-at .ensures) (bad .before .before .mark-at2 .ensures) (bad .before .is-good .ensures)
+          (bad .choose .ensures) (parent .choose2 .ensures) (k .before .choose3 .ensures) (here p)
+          (lasts .before .before .choose6 .ensures)
           (lasts .choose7 .ensures) (w .weight-at .ensures) (c .next-at .ensures),
     )
 
