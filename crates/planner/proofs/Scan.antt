@@ -1,5 +1,5 @@
 -- Scans of siblings by their links: the sum of their remainders, and the heaviest of them.
--- Defines Scan (what a scan for the heaviest knows at the next sibling). Assumes nothing.
+-- Defines HeaviestTo (what a scan for the heaviest knows at the next sibling). Assumes nothing.
 use Prim.Native.Nat.{ℕ, _+_, _≤_, _<_, max}
 use native.Mathlib.Omega.{arith}
 use mathlib.Core.Path.{_≡_, refl, ap}
@@ -10,12 +10,12 @@ use Rattle.theory.specs.TableFacts.{SoundFacts}
 use Rattle.theory.specs.PlanShape.{size}
 use Rattle.theory.specs.TableLinks.{next-le}
 use Rattle.theory.specs.TableChain.{chainAt, chain-none, node-at, next-smaller}
-use Rattle.planner.specs.Nodes.{kept}
-use Rattle.planner.specs.Single.{restAt, largestAt, EarliestAt}
-use Rattle.planner.specs.Cutting.{Heaviest}
+use Rattle.planner.specs.Kept.{kept}
+use Rattle.planner.specs.SingleMembers.{restAt, largestAt, EarliestAt}
+use Rattle.planner.specs.SingleCuts.{Heaviest}
 
 -- best is the heaviest of the siblings from v up to u, the earliest among equals
-pub record Scan (t s : List ℕ) (v best u : ℕ) : Type 0 where
+pub record HeaviestTo (t s : List ℕ) (v best u : ℕ) : Type 0 where
   pub low : 1 ≤ best
   pub high : best ≤ nodeCount t
   pub here : u ≤ nodeCount t
@@ -68,7 +68,7 @@ module _ {t : List ℕ} (sound : SoundFacts t) (s : List ℕ) where
 
   -- ---- The heaviest
 
-  pub scan-start : (v n : ℕ) → 1 ≤ v → v ≤ nodeCount t → n ≡ nextAt t v → Scan t s v v n
+  pub scan-start : (v n : ℕ) → 1 ≤ v → v ≤ nodeCount t → n ≡ nextAt t v → HeaviestTo t s v v n
   scan-start v n low high e =
       record {
         low = low;
@@ -79,11 +79,11 @@ module _ {t : List ℕ} (sound : SoundFacts t) (s : List ℕ) where
         most = rw e (largest-node v low high);
       }
 
-  module _ (v best u n : ℕ) (x : Scan t s v best u) (low : 1 ≤ u) (e : n ≡ nextAt t u) where
+  module _ (v best u n : ℕ) (x : HeaviestTo t s v best u) (low : 1 ≤ u) (e : n ≡ nextAt t u) where
     same : largestAt t s n (chainAt t n) ≡ largestAt t s (nextAt t u) (chainAt t (nextAt t u))
     same = ap (λ (k : ℕ). largestAt t s k (chainAt t k)) e
 
-    scan-past : kept s u ≤ kept s best → Scan t s v best n
+    scan-past : kept s u ≤ kept s best → HeaviestTo t s v best n
     scan-past l =
         record {
           low = x .low;
@@ -94,7 +94,7 @@ module _ {t : List ℕ} (sound : SoundFacts t) (s : List ℕ) where
           most = omega (arith, x .most, same, largest-node u low (x .here));
         }
 
-    scan-better : kept s best < kept s u → Scan t s v u n
+    scan-better : kept s best < kept s u → HeaviestTo t s v u n
     scan-better l =
         record {
           low = low;
@@ -106,11 +106,11 @@ module _ {t : List ℕ} (sound : SoundFacts t) (s : List ℕ) where
         }
 
     pub scan-turn : (next-best a b : ℕ) → a ≡ kept s best → b ≡ kept s u → ((a < b) × (next-best ≡ u)) ⊎ ((b ≤ a) × (next-best ≡ best))
-        → Scan t s v next-best n
+        → HeaviestTo t s v next-best n
     scan-turn next-best a b p q (inl w) = rw (w .1) (scan-better (omega (arith, w .0)))
     scan-turn next-best a b p q (inr w) = rw (w .1) (scan-past (omega (arith, w .0)))
 
-  pub scan-end : (v best u : ℕ) → Scan t s v best u → u ≡ 0 → Heaviest t s v best
+  pub scan-end : (v best u : ℕ) → HeaviestTo t s v best u → u ≡ 0 → Heaviest t s v best
   unfolding largestAt
   scan-end v best u x z =
       let r : largestAt t s u (chainAt t u) ≡ 0 = rw (z, chain-none t) in
