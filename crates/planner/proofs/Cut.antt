@@ -15,7 +15,9 @@ use Rattle.theory.specs.Reduce.{Turns}
 use Rattle.theory.specs.ReduceCount.{reduce-stop, reduce-turn}
 use Rattle.theory.specs.TableChain.{chainAt, chain-none, NodeAt, node-at}
 use Rattle.planner.specs.Kept.{kept, Outside, outside-none, outside-then, outside-store}
-use Rattle.planner.specs.SingleMembers.{restAt, largestAt, EarliestAt, LaidAt, members-rest, members-largest, largest-some, earliestAt-rest, earliestAt-range, cut-members, cut-rest, cut-laid}
+use Rattle.planner.specs.SingleMembers.{restAt, largestAt, EarliestAt, LaidAt, members-rest, members-largest}
+use Rattle.planner.specs.SingleMembers.{largest-some, earliestAt-rest, earliestAt-range, cut-members, cut-rest}
+use Rattle.planner.specs.SingleMembers.{cut-laid}
 use Rattle.planner.specs.SingleSettled.{kidsOf}
 use Rattle.planner.specs.SingleCuts.{Heaviest, CutReady, CutDone, ScanReady, mostSum, kidMembers}
 
@@ -109,7 +111,8 @@ module _ {t : List ℕ} {v : ℕ} {s₀ a₀ : List ℕ} (ready : CutReady t s�
       next-goes-on : reduce room (kidMembers t (set s (h - 1) 0) (set a (h - 1) 1) v) ≡ reduce room (kidMembers t s a v)
       next-goes-on =
           ap (reduce room)
-          (next-members ∙ ap (λ (g : ℕ). takeEarliest g (kidMembers t s a v)) (sym (members-largest t s a (firstAt t v) (kidsOf t v))))
+          (next-members ∙ ap (λ (g : ℕ). takeEarliest g (kidMembers t s a v))
+          (sym (members-largest t s a (firstAt t v) (kidsOf t v))))
           ∙ sym (reduce-turn room (kidMembers t s a v) turns)
 
       pub cut-turn : CutSoFar t v room s₀ a₀ (set s (h - 1) 0) (set a (h - 1) 1) (sum - k)
@@ -128,9 +131,12 @@ module _ {t : List ℕ} {v : ℕ} {s₀ a₀ : List ℕ} (ready : CutReady t s�
             );
             goes-on = next-goes-on ∙ x .goes-on;
             laid = rw next-members
-                (cut-laid (limitOf t) s a most h (node .below) earliest (omega (arith, last-high, x .marks-long, ready .marks-long)) (x .laid));
-            rests-outside = outside-then (x .rests-outside) (outside-store v (v + size (kidsOf t v)) s h 0 (range .0) high);
-            marks-outside = outside-then (x .marks-outside) (outside-store v (v + size (kidsOf t v)) a h 1 (range .0) high);
+                (cut-laid (limitOf t) s a most h (node .below) earliest
+                (omega (arith, last-high, x .marks-long, ready .marks-long)) (x .laid));
+            rests-outside =
+                outside-then (x .rests-outside) (outside-store v (v + size (kidsOf t v)) s h 0 (range .0) high);
+            marks-outside =
+                outside-then (x .marks-outside) (outside-store v (v + size (kidsOf t v)) a h 1 (range .0) high);
           }
 
     pub cut-end : sum ≤ room → CutDone t v room s₀ a₀ s a sum

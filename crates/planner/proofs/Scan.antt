@@ -25,7 +25,8 @@ pub record HeaviestTo (t s : List ℕ) (v best u : ℕ) : Type 0 where
 
 module _ {t : List ℕ} (sound : SoundFacts t) (s : List ℕ) where
   -- one sibling, and those after it
-  pub rest-node : (u : ℕ) → 1 ≤ u → u ≤ nodeCount t → restAt t s u (chainAt t u) ≡ kept s u + restAt t s (nextAt t u) (chainAt t (nextAt t u))
+  pub rest-node : (u : ℕ) → 1 ≤ u → u ≤ nodeCount t
+      → restAt t s u (chainAt t u) ≡ kept s u + restAt t s (nextAt t u) (chainAt t (nextAt t u))
   unfolding restAt
   rest-node u low high = rw (node-at sound u low high .shape)
 
@@ -38,7 +39,8 @@ module _ {t : List ℕ} (sound : SoundFacts t) (s : List ℕ) where
   unfolding EarliestAt
   earliest-here u low high = rw (node-at sound u low high .shape) (inl (refl, refl))
 
-  earliest-later : (g u h : ℕ) → 1 ≤ u → u ≤ nodeCount t → (kept s u ≡ g → ⊥) → EarliestAt t s g (nextAt t u) (chainAt t (nextAt t u)) h
+  earliest-later : (g u h : ℕ) → 1 ≤ u → u ≤ nodeCount t → (kept s u ≡ g → ⊥)
+      → EarliestAt t s g (nextAt t u) (chainAt t (nextAt t u)) h
       → EarliestAt t s g u (chainAt t u) h
   unfolding EarliestAt
   earliest-later g u h low high other e = rw (node-at sound u low high .shape) (inr (other, e))
@@ -51,13 +53,16 @@ module _ {t : List ℕ} (sound : SoundFacts t) (s : List ℕ) where
 
   -- ---- The sum
 
-  pub sum-more : (u n sum all k : ℕ) → 1 ≤ u → u ≤ nodeCount t → n ≡ nextAt t u → k ≡ kept s u → sum + restAt t s u (chainAt t u) ≡ all
+  pub sum-more : (u n sum all k : ℕ) → 1 ≤ u → u ≤ nodeCount t → n ≡ nextAt t u → k ≡ kept s u
+      → sum + restAt t s u (chainAt t u) ≡ all
       → sum + k + restAt t s n (chainAt t n) ≡ all
   sum-more u n sum all k low high e q i =
-      let r : restAt t s n (chainAt t n) ≡ restAt t s (nextAt t u) (chainAt t (nextAt t u)) = ap (λ (x : ℕ). restAt t s x (chainAt t x)) e in
+      let r : restAt t s n (chainAt t n) ≡ restAt t s (nextAt t u) (chainAt t (nextAt t u)) =
+      ap (λ (x : ℕ). restAt t s x (chainAt t x)) e in
       omega (arith, rest-node u low high)
 
-  pub sum-fits : (u sum all k : ℕ) → 1 ≤ u → u ≤ nodeCount t → k ≡ kept s u → sum + restAt t s u (chainAt t u) ≡ all → sum + k ≤ all
+  pub sum-fits : (u sum all k : ℕ) → 1 ≤ u → u ≤ nodeCount t → k ≡ kept s u → sum + restAt t s u (chainAt t u) ≡ all
+      → sum + k ≤ all
   sum-fits u sum all k low high q i = omega (arith, rest-node u low high)
 
   pub sum-end : (u sum all : ℕ) → u ≡ 0 → sum + restAt t s u (chainAt t u) ≡ all → sum ≡ all
@@ -101,11 +106,13 @@ module _ {t : List ℕ} (sound : SoundFacts t) (s : List ℕ) where
           high = x .here;
           here = next-high u n low (x .here) e;
           found = x .past (kept s u) u l (earliest-here u low (x .here));
-          past = λ g h p y. x .past g h (omega arith) (earliest-later g u h low (x .here) (λ q. omega arith) (rw e at y));
+          past =
+              λ g h p y. x .past g h (omega arith) (earliest-later g u h low (x .here) (λ q. omega arith) (rw e at y));
           most = omega (arith, x .most, same, largest-node u low (x .here));
         }
 
-    pub scan-turn : (next-best a b : ℕ) → a ≡ kept s best → b ≡ kept s u → ((a < b) × (next-best ≡ u)) ⊎ ((b ≤ a) × (next-best ≡ best))
+    pub scan-turn : (next-best a b : ℕ) → a ≡ kept s best → b ≡ kept s u
+        → ((a < b) × (next-best ≡ u)) ⊎ ((b ≤ a) × (next-best ≡ best))
         → HeaviestTo t s v next-best n
     scan-turn next-best a b p q (inl w) = rw (w .1) (scan-better (omega (arith, w .0)))
     scan-turn next-best a b p q (inr w) = rw (w .1) (scan-past (omega (arith, w .0)))

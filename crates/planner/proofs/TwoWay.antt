@@ -1,4 +1,5 @@
--- The two-way tree: a node's sides by what the scratch keeps, its remainder, and the marks that it gives. Assumes nothing.
+-- The two-way tree: a node's sides by what the scratch keeps, its remainder, and the marks that it gives. Assumes
+-- nothing.
 use Prim.Native.Nat.{ℕ, zero, suc, _+_, _-_, _*_, _≤_, _<_}
 use native.Mathlib.Omega.{arith}
 use mathlib.Core.Path.{_≡_, refl, sym, _∙_, ap}
@@ -19,7 +20,8 @@ use Rattle.theory.specs.TableChain.{chainAt, chain-none, NodeAt, node-at, link-
 use Rattle.planner.specs.Kept.{kept, kept-none, kept-same, kept-other}
 use Rattle.planner.specs.PairSides.{leftCut, rightCut, sides-left, sides-right}
 use Rattle.planner.specs.declared.pair.Sides.{Sides}
-use Rattle.planner.specs.PairMarks.{Rests, PairReady, SidesAt, remainderAt, firstCutAt, nextCutAt, uncutAfter, LinkMarks, put, length-put, put-same, put-other, laidBelow}
+use Rattle.planner.specs.PairMarks.{Rests, PairReady, SidesAt, remainderAt, firstCutAt, nextCutAt, uncutAfter}
+use Rattle.planner.specs.PairMarks.{LinkMarks, put, length-put, put-same, put-other, laidBelow}
 
 remainder-none : (t : List ℕ) → remainderAt t 0 ≡ 0
 unfolding remainder
@@ -54,12 +56,14 @@ module _ {t s : List ℕ} {v : ℕ} (ready : PairReady t s v) where
   pub first-rest : (f k : ℕ) → f ≡ firstAt t v → k ≡ kept s f → k ≡ remainderAt t (firstAt t v)
   first-rest f k e q =
       q ∙ ap (kept s) e
-      ∙ link-rest (firstAt t v) (λ l. omega (arith, first-step sound v (ready .low) (ready .high) l)) (first-le sound v (ready .low) (ready .high))
+      ∙ link-rest (firstAt t v) (λ l. omega (arith, first-step sound v (ready .low) (ready .high) l))
+      (first-le sound v (ready .low) (ready .high))
 
   pub next-rest : (f k : ℕ) → f ≡ nextAt t v → k ≡ kept s f → k ≡ remainderAt t (nextAt t v)
   next-rest f k e q =
       q ∙ ap (kept s) e
-      ∙ link-rest (nextAt t v) (λ l. next-later sound v (ready .low) (ready .high) l) (next-le sound v (ready .low) (ready .high))
+      ∙ link-rest (nextAt t v) (λ l. next-later sound v (ready .low) (ready .high) l)
+      (next-le sound v (ready .low) (ready .high))
 
   light : weightAt t v ≤ limitOf t
   light = ready .above .tree .light v (ready .low) (ready .high)
@@ -71,7 +75,8 @@ module _ {t s : List ℕ} {v : ℕ} (ready : PairReady t s v) where
 
   next-fits : remainderAt t (nextAt t v) ≤ limitOf t
   next-fits =
-      remainder-fits (limitOf t) (chainAt t (nextAt t v)) (link-within (ready .above .tree) (at-node .after) (at-node .inside))
+      remainder-fits (limitOf t) (chainAt t (nextAt t v))
+      (link-within (ready .above .tree) (at-node .after) (at-node .inside))
 
   pub sides-fit : weightAt t v + remainderAt t (firstAt t v) + remainderAt t (nextAt t v) ≤ 3 * maxLimit
   sides-fit = omega (arith, light, first-fits, next-fits, ready .above .tree .sound .limit-high)
@@ -90,13 +95,16 @@ module _ {t s : List ℕ} {v : ℕ} (ready : PairReady t s v) where
         (sym (sides-right (limitOf t) (weightAt t v) (remainderAt t (firstAt t v)) (remainderAt t (nextAt t v)) light))
 
     -- the node's remainder, from what is left of its sides
-    module _ (f g : Bool) (l r : ℕ) (ef : f ≡ leftCut (x .limit) (x .weight) (x .left) (x .right)) (eg : g ≡ rightCut (x .limit) (x .weight) (x .left) (x .right))
+    module _ (f g : Bool) (l r : ℕ) (ef : f ≡ leftCut (x .limit) (x .weight) (x .left) (x .right))
+        (eg : g ≡ rightCut (x .limit) (x .weight) (x .left) (x .right))
         (el : l ≡ unlessCut f (x .left)) (er : r ≡ unlessCut g (x .right))
       where
         pub weighs : x .weight + l + r ≡ remainderAt t v
         unfolding firstCutAt nextCutAt
         weighs =
-            let n = remainder-node (limitOf t) (weightAt t v) (chainAt t (firstAt t v)) (chainAt t (nextAt t v)) (labelAt t v) in
+            let n =
+            remainder-node (limitOf t) (weightAt t v) (chainAt t (firstAt t v)) (chainAt t (nextAt t v))
+            (labelAt t v) in
             rw (el, er, ef, eg, first-is, next-is, at .weight, at .left, at .right, at-node .shape) (omega (arith, n))
 
         pub weighs-fit : x .weight + l + r ≤ 3 * maxLimit
@@ -141,7 +149,8 @@ module _ {t : List ℕ} (good : SoundFacts t) (a : List ℕ) (v : ℕ) (low : 1 
 
   laid-self : (u : ℕ) → 1 ≤ u → u ≤ v → kept (laidBelow t a v) u ≡ kept a u
   laid-self u l h =
-      laid-other u (λ q. omega (arith, first-step good v low high (omega arith))) (λ q. omega (arith, next-later good v low high (omega arith)))
+      laid-other u (λ q. omega (arith, first-step good v low high (omega arith)))
+      (λ q. omega (arith, next-later good v low high (omega arith)))
 
   laid-root : kept (laidBelow t a v) 1 ≡ kept a 1
   laid-root = laid-self 1 (omega arith) low
@@ -154,7 +163,8 @@ module _ {t : List ℕ} (good : SoundFacts t) (a : List ℕ) (v : ℕ) (low : 1 
             put-other _ (nextAt t v) (firstAt t v) _ (first-not-next good v v low high low high l)
             ∙ put-same a (firstAt t v) (pick (firstCutAt t v) 1 0) l (omega (arith, first-le good v low high));
         next = λ l.
-            put-same (put a (firstAt t v) (pick (firstCutAt t v) 1 0)) (nextAt t v) (pick (nextCutAt t v) 1 (uncutAfter (kept a v))) l
+            put-same (put a (firstAt t v) (pick (firstCutAt t v) 1 0)) (nextAt t v)
+            (pick (nextCutAt t v) 1 (uncutAfter (kept a v))) l
             (omega (arith, length-put a (firstAt t v) (pick (firstCutAt t v) 1 0), next-le good v low high))
             ∙ ap (λ (k : ℕ). pick (nextCutAt t v) 1 (uncutAfter k)) (sym (laid-self v low (omega arith)));
       }
@@ -189,7 +199,8 @@ links-start t a long some =
       links = λ u low high. absurd (omega arith);
     }
 
-pub links-step : {t a : List ℕ} {v : ℕ} (a′ : List ℕ) → SoundFacts t → LinksMarked t a v → v + 1 ≤ nodeCount t → a′ ≡ laidBelow t a (v + 1)
+pub links-step : {t a : List ℕ} {v : ℕ} (a′ : List ℕ) → SoundFacts t → LinksMarked t a v → v + 1 ≤ nodeCount t
+    → a′ ≡ laidBelow t a (v + 1)
     → LinksMarked t a′ (v + 1)
 unfolding laidBelow
 links-step {t} {a} {v} a′ good x high e =

@@ -1,4 +1,5 @@
--- What a planner leaves: its answer, the marks and the scratch; what it is lent where nothing is refused, and what its plan is then.
+-- What a planner leaves: its answer, the marks and the scratch; what it is lent where nothing is refused, and what its
+-- plan is then.
 -- Defines outcome, stepsOf, PlanReady, LayReady, PlanLaid. Proves steps-judged. Assumes nothing.
 use Prim.Native.Nat.{ℕ, _≤_}
 use mathlib.Core.Path.{_≡_}

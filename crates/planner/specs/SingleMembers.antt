@@ -1,4 +1,5 @@
--- The single planner by node number: the children of a node as members, what the scratch and the marks keep of them, and the cuts.
+-- The single planner by node number: the children of a node as members, what the scratch and the marks keep of them,
+-- and the cuts.
 -- Defines membersAt, restAt, largestAt, EarliestAt, LaidAt. Assumes nothing.
 use Prim.Native.Nat.{ℕ, zero, suc, _+_, _-_, _≤_, _<_, max}
 use native.Mathlib.Omega.{arith}
@@ -68,7 +69,8 @@ largest-some t s v (node w l kids next) h = go (largest-some t s (nextAt t v) ne
     go ih (suc k) e = omega arith
 
 -- one of the siblings is no more than their sum
-pub earliestAt-rest : (t s : List ℕ) (g v : ℕ) (c : Chain) (h : ℕ) → EarliestAt t s g v c h → (kept s h ≡ g) × (g ≤ restAt t s v c)
+pub earliestAt-rest : (t s : List ℕ) (g v : ℕ) (c : Chain) (h : ℕ) → EarliestAt t s g v c h
+    → (kept s h ≡ g) × (g ≤ restAt t s v c)
 unfolding EarliestAt restAt
 earliestAt-rest t s g v end h a = absurd a
 earliestAt-rest t s g v (node w l kids next) h (inl p) = (ap (kept s) (p .0) ∙ p .1, omega (arith, p .1))
@@ -88,18 +90,22 @@ module _ {t : List ℕ} where
       let mid : suc m ≤ e₁ = numbered-le k in
       let here : kept s′ (suc m) ≡ kept s (suc m) = p .keeps (suc m) (omega arith) (omega arith) in
       let mark : kept a′ (suc m) ≡ kept a (suc m) = q .keeps (suc m) (omega arith) (omega arith) in
-      let after = members-same n (same-less e₁ e₂ (omega arith) (omega arith) p) (same-less e₁ e₂ (omega arith) (omega arith) q) in
+      let after =
+      members-same n (same-less e₁ e₂ (omega arith) (omega arith) p) (same-less e₁ e₂ (omega arith) (omega arith) q) in
       rw (here, mark, after)
 
-  pub rest-same : {m v e : ℕ} {c : Chain} {s s′ : List ℕ} → Numbered t m v c e → Same m e s s′ → restAt t s′ v c ≡ restAt t s v c
+  pub rest-same : {m v e : ℕ} {c : Chain} {s s′ : List ℕ} → Numbered t m v c e → Same m e s s′
+      → restAt t s′ v c ≡ restAt t s v c
   unfolding restAt
   rest-same none p = refl
   rest-same {s} {s′} (some {m = m} {e₁ = e₁} {e₂ = e₂} k n) p =
       let low : e₁ ≤ e₂ = numbered-le n in
       let mid : suc m ≤ e₁ = numbered-le k in
-      ap₂ (λ (x y : ℕ). x + y) (p .keeps (suc m) (omega arith) (omega arith)) (rest-same n (same-less e₁ e₂ (omega arith) (omega arith) p))
+      ap₂ (λ (x y : ℕ). x + y) (p .keeps (suc m) (omega arith) (omega arith))
+      (rest-same n (same-less e₁ e₂ (omega arith) (omega arith) p))
 
-  pub laid-same : (K : ℕ) {m v e : ℕ} {c : Chain} {a a′ : List ℕ} (ms : List Member) → Numbered t m v c e → Same m e a a′
+  pub laid-same : (K : ℕ) {m v e : ℕ} {c : Chain} {a a′ : List ℕ} (ms : List Member) → Numbered t m v c e
+      → Same m e a a′
       → LaidAt K t a v c ms → LaidAt K t a′ v c ms
   unfolding LaidAt
   laid-same K ms none q h = tt
@@ -109,12 +115,14 @@ module _ {t : List ℕ} where
       let mid : suc m ≤ e₁ = numbered-le k in
       let mark : kept a′ (suc m) ≡ kept a (suc m) = q .keeps (suc m) (omega arith) (omega arith) in (
         mark ∙ h .0,
-        laid-same K (cutDown K (weightAt t (suc m)) (remainders K kids)) k (same-less (suc m) e₁ (omega arith) (omega arith) q) (h .1),
+        laid-same K (cutDown K (weightAt t (suc m)) (remainders K kids)) k
+            (same-less (suc m) e₁ (omega arith) (omega arith) q) (h .1),
         laid-same K ms n (same-less e₁ e₂ (omega arith) (omega arith) q) (h .2),
       )
 
   -- the earliest is one of the siblings
-  pub earliestAt-range : {m v e : ℕ} {c : Chain} (s : List ℕ) (g h : ℕ) → Numbered t m v c e → EarliestAt t s g v c h → (m < h) × (h ≤ e)
+  pub earliestAt-range : {m v e : ℕ} {c : Chain} (s : List ℕ) (g h : ℕ) → Numbered t m v c e → EarliestAt t s g v c h
+      → (m < h) × (h ≤ e)
   unfolding EarliestAt
   earliestAt-range s g h none a = absurd a
   earliestAt-range s g h (some k n) (inl p) = (omega (arith, p .0), omega (arith, p .0, numbered-le k, numbered-le n))
@@ -133,22 +141,29 @@ module _ {t : List ℕ} where
       let mid : suc m ≤ e₁ = numbered-le k in
       let at : h ≡ suc m = p .0 in
       let has : kept s (suc m) ≡ g = p .1 in
-      let here : kept (set s (h - 1) 0) (suc m) ≡ 0 = sym (ap (kept (set s (h - 1) 0)) at) ∙ kept-same s h 0 (omega arith) (omega arith) in
-      let mark : kept (set a (h - 1) 1) (suc m) ≡ 1 = sym (ap (kept (set a (h - 1) 1)) at) ∙ kept-same a h 1 (omega arith) (omega arith) in
+      let here : kept (set s (h - 1) 0) (suc m) ≡ 0 =
+      sym (ap (kept (set s (h - 1) 0)) at) ∙ kept-same s h 0 (omega arith) (omega arith) in
+      let mark : kept (set a (h - 1) 1) (suc m) ≡ 1 =
+      sym (ap (kept (set a (h - 1) 1)) at) ∙ kept-same a h 1 (omega arith) (omega arith) in
       let off : kept s (suc m) - g ≡ 0 = omega arith in
-      let after = members-same n (same-store e₁ e₂ s h 0 (omega arith) (λ l u. omega arith)) (same-store e₁ e₂ a h 1 (omega arith) (λ l u. omega arith)) in
+      let after =
+      members-same n (same-store e₁ e₂ s h 0 (omega arith) (λ l u. omega arith))
+      (same-store e₁ e₂ a h 1 (omega arith) (λ l u. omega arith)) in
       rw (here, mark, after, eq-eqb (kept s (suc m)) g has, off)
   cut-members s a g h (some {m = m} {e₁ = e₁} {e₂ = e₂} k n) (inr p) ls la =
       let low : e₁ ≤ e₂ = numbered-le n in
       let mid : suc m ≤ e₁ = numbered-le k in
       let later = earliestAt-range s g h n (p .1) in
-      let here : kept (set s (h - 1) 0) (suc m) ≡ kept s (suc m) = kept-other s h (suc m) 0 (omega arith) (λ q. omega arith) in
-      let mark : kept (set a (h - 1) 1) (suc m) ≡ kept a (suc m) = kept-other a h (suc m) 1 (omega arith) (λ q. omega arith) in
+      let here : kept (set s (h - 1) 0) (suc m) ≡ kept s (suc m) =
+      kept-other s h (suc m) 0 (omega arith) (λ q. omega arith) in
+      let mark : kept (set a (h - 1) 1) (suc m) ≡ kept a (suc m) =
+      kept-other a h (suc m) 1 (omega arith) (λ q. omega arith) in
       let after = cut-members s a g h n (p .1) ls la in
       rw (here, mark, after, ne-eqb (kept s (suc m)) g (p .0))
 
   -- what was cut is off the sum
-  pub cut-rest : {m v e : ℕ} {c : Chain} (s : List ℕ) (g h : ℕ) → Numbered t m v c e → EarliestAt t s g v c h → e ≤ length s
+  pub cut-rest : {m v e : ℕ} {c : Chain} (s : List ℕ) (g h : ℕ) → Numbered t m v c e → EarliestAt t s g v c h
+      → e ≤ length s
       → restAt t (set s (h - 1) 0) v c + g ≡ restAt t s v c
   unfolding EarliestAt restAt
   cut-rest s g h none p ls = absurd p
@@ -157,17 +172,20 @@ module _ {t : List ℕ} where
       let mid : suc m ≤ e₁ = numbered-le k in
       let at : h ≡ suc m = p .0 in
       let has : kept s (suc m) ≡ g = p .1 in
-      let here : kept (set s (h - 1) 0) (suc m) ≡ 0 = sym (ap (kept (set s (h - 1) 0)) at) ∙ kept-same s h 0 (omega arith) (omega arith) in
+      let here : kept (set s (h - 1) 0) (suc m) ≡ 0 =
+      sym (ap (kept (set s (h - 1) 0)) at) ∙ kept-same s h 0 (omega arith) (omega arith) in
       let after = rest-same n (same-store e₁ e₂ s h 0 (omega arith) (λ l u. omega arith)) in
       omega arith
   cut-rest s g h (some {m = m} {e₁ = e₁} {e₂ = e₂} k n) (inr p) ls =
       let mid : suc m ≤ e₁ = numbered-le k in
       let later = earliestAt-range s g h n (p .1) in
-      let here : kept (set s (h - 1) 0) (suc m) ≡ kept s (suc m) = kept-other s h (suc m) 0 (omega arith) (λ q. omega arith) in
+      let here : kept (set s (h - 1) 0) (suc m) ≡ kept s (suc m) =
+      kept-other s h (suc m) 0 (omega arith) (λ q. omega arith) in
       omega (arith, cut-rest s g h n (p .1) ls)
 
   pub cut-laid : (K : ℕ) {m v e : ℕ} {c : Chain} (s a : List ℕ) (g h : ℕ) → Numbered t m v c e → EarliestAt t s g v c h
-      → e ≤ length a → LaidAt K t a v c (membersAt t s a v c) → LaidAt K t (set a (h - 1) 1) v c (takeEarliest g (membersAt t s a v c))
+      → e ≤ length a → LaidAt K t a v c (membersAt t s a v c)
+      → LaidAt K t (set a (h - 1) 1) v c (takeEarliest g (membersAt t s a v c))
   unfolding EarliestAt membersAt takeEarliest pick LaidAt
   cut-laid K s a g h none p la laid = absurd p
   cut-laid K s a g h (some {m = m} {e₁ = e₁} {e₂ = e₂} {kids = kids} {next = next} k n) (inl p) la laid =
@@ -175,20 +193,25 @@ module _ {t : List ℕ} where
       let mid : suc m ≤ e₁ = numbered-le k in
       let at : h ≡ suc m = p .0 in
       let has : kept s (suc m) ≡ g = p .1 in
-      let mark : kept (set a (h - 1) 1) (suc m) ≡ 1 = sym (ap (kept (set a (h - 1) 1)) at) ∙ kept-same a h 1 (omega arith) (omega arith) in
+      let mark : kept (set a (h - 1) 1) (suc m) ≡ 1 =
+      sym (ap (kept (set a (h - 1) 1)) at) ∙ kept-same a h 1 (omega arith) (omega arith) in
       rw (eq-eqb (kept s (suc m)) g has) (
         mark,
-        laid-same K (cutDown K (weightAt t (suc m)) (remainders K kids)) k (same-store (suc m) e₁ a h 1 (omega arith) (λ l u. omega arith)) (laid .1),
-        laid-same K (membersAt t s a (nextAt t (suc m)) next) n (same-store e₁ e₂ a h 1 (omega arith) (λ l u. omega arith)) (laid .2),
+        laid-same K (cutDown K (weightAt t (suc m)) (remainders K kids)) k
+            (same-store (suc m) e₁ a h 1 (omega arith) (λ l u. omega arith)) (laid .1),
+        laid-same K (membersAt t s a (nextAt t (suc m)) next) n
+            (same-store e₁ e₂ a h 1 (omega arith) (λ l u. omega arith)) (laid .2),
       )
   cut-laid K s a g h (some {m = m} {e₁ = e₁} {e₂ = e₂} {kids = kids} {next = next} k n) (inr p) la laid =
       let low : e₁ ≤ e₂ = numbered-le n in
       let mid : suc m ≤ e₁ = numbered-le k in
       let later = earliestAt-range s g h n (p .1) in
-      let mark : kept (set a (h - 1) 1) (suc m) ≡ kept a (suc m) = kept-other a h (suc m) 1 (omega arith) (λ q. omega arith) in
+      let mark : kept (set a (h - 1) 1) (suc m) ≡ kept a (suc m) =
+      kept-other a h (suc m) 1 (omega arith) (λ q. omega arith) in
       rw (ne-eqb (kept s (suc m)) g (p .0)) (
         mark ∙ laid .0,
-        laid-same K (cutDown K (weightAt t (suc m)) (remainders K kids)) k (same-store (suc m) e₁ a h 1 (omega arith) (λ l u. omega arith)) (laid .1),
+        laid-same K (cutDown K (weightAt t (suc m)) (remainders K kids)) k
+            (same-store (suc m) e₁ a h 1 (omega arith) (λ l u. omega arith)) (laid .1),
         cut-laid K s a g h n (p .1) la (laid .2),
       )
 
@@ -208,4 +231,5 @@ module _ {t : List ℕ} where
       ∙ ap₂ (λ (b : ℕ) (l : List ℕ). b ∷ l) (sym (kept-suc a m) ∙ laid .0)
       (below
       ∙ ap (λ (l : List ℕ). laySingle K kids (cutDown K (weightAt t (suc m)) (remainders K kids)) ++ l) after
-      ∙ sym (append-assoc (laySingle K kids (cutDown K (weightAt t (suc m)) (remainders K kids))) (laySingle K next ms) (drop e₂ a)))
+      ∙ sym (append-assoc (laySingle K kids (cutDown K (weightAt t (suc m)) (remainders K kids))) (laySingle K next ms)
+      (drop e₂ a)))
