@@ -15,7 +15,7 @@ use Rattle.model.specs.Table.{maxNodes, maxLimit, slots, nodeCount, limitOf, we
 use Rattle.model.specs.Plan.{prevAt, parentAt, markAt, hasMark, begins, inRun, goodMark, pageOf}
 use Rattle.model.specs.Plan.{pageCount, pageWeight, badMark, heavyPage}
 use Rattle.model.specs.declared.Place.{Place}
-use Rattle.model.specs.declared.Place.the-variants.{At, Nowhere}
+use Rattle.model.specs.declared.Place.the-variants.{At}
 use Rattle.theory.specs.Ranges.{pick-true, pick-false, countTo-zero, countTo-suc, countTo-le}
 use Rattle.theory.specs.Ranges.{firstTo-zero, firstTo-suc, firstTo-cong, lastTo-zero, lastTo-yes, lastTo-no}
 use Rattle.theory.specs.Sums.{sumTo-most}

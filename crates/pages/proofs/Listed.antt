@@ -3,9 +3,8 @@ use Prim.Native.Nat.{ℕ, _+_, _*_, _≤_, _<_}
 use native.Mathlib.Omega.{arith}
 use mathlib.Core.Path.{_≡_, refl, _∙_, ap}
 use mathlib.Core.List.{List}
-use lib.ListN.{length, getD}
+use lib.ListN.{length}
 use Rattle.judge.specs.declared.pages.Layout.{Layout}
-use Rattle.pages.specs.Text.{pageLine}
 use Rattle.pages.specs.Appended.{Appended, Filled, filled-first, filled-then, lineBytes}
 use Rattle.pages.specs.Listing.{lineOf, headOf, linesTo, layoutLines, lines-start, lines-more}
 

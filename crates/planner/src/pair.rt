@@ -1,5 +1,6 @@
-// The pair planner: the two-way tree, in which left is the first child and right the next sibling. The remainders of all nodes are
-// weighed from the last to the first; then each node, from the first on, gives its first child and its next sibling their marks.
+// The pair planner: the two-way tree, in which left is the first child and right the next sibling. The remainders of
+// all nodes are weighed from the last to the first; then each node, from the first on, gives its first child and its
+// next sibling their marks.
 use crate::common::kept_at;
 use table::words::first_at;
 use table::words::limit_of;

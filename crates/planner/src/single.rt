@@ -1,4 +1,5 @@
-// The single planner: nodes from the last to the first, each with its children cut, the heaviest first, until it is within the limit.
+// The single planner: nodes from the last to the first, each with its children cut, the heaviest first, until it is
+// within the limit.
 use crate::common::kept_at;
 use table::words::first_at;
 use table::words::limit_of;
@@ -17,7 +18,8 @@ ghost use Rattle.planner.specs.Outcome.{LayReady};
 
 // What the siblings from node v on weigh.
 fn sum_rests(table: &[u8], scratch: &[u32], v: u16) -> u32
-    requires { ⌜ ScanReady (now table) (now scratch) v × (restAt (now table) (now scratch) v (chainAt (now table) v) ≤ mostSum) ⌝ }
+    requires { ⌜ ScanReady (now table) (now scratch) v
+        × (restAt (now table) (now scratch) v (chainAt (now table) v) ≤ mostSum) ⌝ }
     ensures { λ r. ⌜ r ≡ restAt (now (table .entry)) (now (scratch .entry)) v (chainAt (now (table .entry)) v) ⌝ }
 {
     let mut sum: u32 = 0;
@@ -48,7 +50,8 @@ fn find_heaviest(table: &[u8], scratch: &[u32], v: u16) -> u16
 // Children of node v are cut until they are within the room: what is left of their weight.
 fn cut_children(table: &[u8], marks: &mut [u8], scratch: &mut [u32], v: u16, room: u32) -> u32
     requires { ⌜ CutReady (now table) (now scratch) (now marks) v ⌝ }
-    ensures { λ r. ⌜ CutDone (now (table .entry)) v room (now (scratch .entry)) (now (marks .entry)) (now (scratch .exit)) (now (marks .exit)) r ⌝ }
+    ensures { λ r. ⌜ CutDone (now (table .entry)) v room (now (scratch .entry)) (now (marks .entry))
+        (now (scratch .exit)) (now (marks .exit)) r ⌝ }
 {
     let first = first_at(table, v);
     let mut sum = sum_rests(table, scratch, first);
@@ -64,7 +67,8 @@ fn cut_children(table: &[u8], marks: &mut [u8], scratch: &mut [u32], v: u16, roo
 // Node v keeps what its children leave it, and is not cut so far.
 fn settle(table: &[u8], marks: &mut [u8], scratch: &mut [u32], v: u16)
     requires { ⌜ SettleReady (now table) (now scratch) (now marks) v ⌝ }
-    ensures { λ r. ⌜ Settled (now (table .entry)) v (now (scratch .entry)) (now (marks .entry)) (now (scratch .exit)) (now (marks .exit)) ⌝ }
+    ensures { λ r. ⌜ Settled (now (table .entry)) v (now (scratch .entry)) (now (marks .entry))
+        (now (scratch .exit)) (now (marks .exit)) ⌝ }
 {
     let weight = weight_at(table, v);
     let room = limit_of(table) - weight;

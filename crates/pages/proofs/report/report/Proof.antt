@@ -15,8 +15,8 @@ returns c =
     let n = f .before .before .before .before in
     let s = n .before .before .before in
     let l = f .report-plan in
-    report-whole (s .args .table .now) _ 65535 (n .node-count .result) (l .result) (n .node-count .ensures) (omega arith) (l .ensures .0) (l .ensures .1)
-    (omega (arith, s .pre, l .kept .1 .1 .1 .0))
+    report-whole (s .args .table .now) _ 65535 (n .node-count .result) (l .result) (n .node-count .ensures)
+    (omega arith) (l .ensures .0) (l .ensures .1) (omega (arith, s .pre, l .kept .1 .1 .1 .0))
 
 pub report-spec : {M : Type 1} → statement M
 report-spec =

@@ -11,7 +11,8 @@ use Rattle.planner.proofs.pair.lay_marks.Statement.{statement}
 use Rattle.planner.proofs.pair.lay_marks.Tie as tie
 
 abbrev Inv-loop : tie.InvT-loop
-Inv-loop table marks₀ scratch nodes v₀ marks v = (v ≤ nodeCount table) × (nodes ≡ nodeCount table) × LinksMarked table marks v
+Inv-loop table marks₀ scratch nodes v₀ marks v =
+    (v ≤ nodeCount table) × (nodes ≡ nodeCount table) × LinksMarked table marks v
 
 abbrev μ-loop : tie.MeasureT-loop
 μ-loop table marks₀ scratch nodes v₀ marks v = nodes - v
@@ -23,14 +24,19 @@ slice-write-marks c =
 
 loop-holds : tie.Need-loop-holds Inv-loop μ-loop
 loop-holds c =
-    let b = c .before .before .before .before in
-    (omega arith, c .node-count .ensures, links-start (now (b .args .table)) (now (b .args .marks)) (b .pre .1) (b .pre .0 .tree .sound .count-low))
+    let b = c .before .before .before .before in (
+      omega arith,
+      c .node-count .ensures,
+      links-start (now (b .args .table)) (now (b .args .marks)) (b .pre .1) (b .pre .0 .tree .sound .count-low),
+    )
 
 lay-below-requires : tie.Need-lay-below-requires Inv-loop μ-loop
 lay-below-requires c κs =
     let l = c .before .before .loop in
-    let b = c .before .before .before .before .before .before .before in
-    (rests-after (l .v + 1) (b .pre .0) (omega arith) (omega (arith, c .before .loop-test .taken, l .inv .1)), l .inv .2 .long)
+    let b = c .before .before .before .before .before .before .before in (
+      rests-after (l .v + 1) (b .pre .0) (omega arith) (omega (arith, c .before .loop-test .taken, l .inv .1)),
+      l .inv .2 .long,
+    )
 
 loop-again : tie.Need-loop-again Inv-loop μ-loop
 loop-again c =
@@ -49,7 +55,8 @@ returns c =
     let l = c .before .loop in
     let b = c .before .before .before .before .before .before in
     let all : nodeCount (now (b .args .table)) ≤ l .v = omega (arith, c .loop-test .left, l .inv .1) in
-    pair-plan (l .marks) (b .pre .0 .tree .sound) (l .inv .2 .long) (l .inv .2 .root) (λ u low high. l .inv .2 .links u low (omega arith))
+    pair-plan (l .marks) (b .pre .0 .tree .sound) (l .inv .2 .long) (l .inv .2 .root)
+    (λ u low high. l .inv .2 .links u low (omega arith))
 
 pub lay-marks-spec : {M : Type 1} → statement M
 lay-marks-spec =
