@@ -1,4 +1,4 @@
-// The judge of plans: bad marks, page weights, and the verdict, with the layout that they are told from. Refusals 1 to
+// The judge of plans: bad marks, page weights, and the verdict, with the layout that they come from. Refusals 1 to
 // 8, 10 and 11.
 pub mod marks;
 pub mod pages;

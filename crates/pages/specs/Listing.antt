@@ -50,11 +50,11 @@ module _ (l : Layout) (limit : ℕ) where
 
 module _ {t m : List ℕ} {l : Layout} (p : PlanLaid t m l) where
   -- a page's number is a place of the arrays
-  page-fits : (q : ℕ) → q ≤ pageCount t m → q < slots
-  page-fits q high = omega (arith, pageCount-le t m, p .judged .tree .sound .count-high)
+  page-slot : (q : ℕ) → q ≤ pageCount t m → q < slots
+  page-slot q high = omega (arith, pageCount-le t m, p .judged .tree .sound .count-high)
 
   pub pages-most : l .pages ≤ maxNodes
-  pages-most = omega (arith, p .layout .pages-are, page-fits (pageCount t m) (omega arith))
+  pages-most = omega (arith, p .layout .pages-are, page-slot (pageCount t m) (omega arith))
 
   -- the layout of a plan gives the plan's lines
   pub layout-lines : layoutLines l (limitOf t) ≡ planLines t m
@@ -72,7 +72,7 @@ module _ {t m : List ℕ} {l : Layout} (p : PlanLaid t m l) where
           let good = p .judged .marked in
           ap₂ (λ x y. pageLine q x y (getD (l .weights) q 0)) (p .layout .firsts-are good q low high)
           (p .layout .lasts-are good q low high)
-          ∙ ap (pageLine q (pageRun t m q .first) (pageRun t m q .last)) (p .layout .weights-are q (page-fits q high))
+          ∙ ap (pageLine q (pageRun t m q .first) (pageRun t m q .last)) (p .layout .weights-are q (page-slot q high))
 
 -- ---- The planner's answer
 

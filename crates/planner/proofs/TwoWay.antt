@@ -68,18 +68,18 @@ module _ {t s : List ℕ} {v : ℕ} (ready : PairReady t s v) where
   light : weightAt t v ≤ limitOf t
   light = ready .above .tree .light v (ready .low) (ready .high)
 
-  first-fits : remainderAt t (firstAt t v) ≤ limitOf t
-  first-fits =
+  first-within : remainderAt t (firstAt t v) ≤ limitOf t
+  first-within =
       remainder-fits (limitOf t) (chainAt t (firstAt t v))
       (link-within (ready .above .tree) (at-node .below) (omega (arith, numbered-le (at-node .after), at-node .inside)))
 
-  next-fits : remainderAt t (nextAt t v) ≤ limitOf t
-  next-fits =
+  next-within : remainderAt t (nextAt t v) ≤ limitOf t
+  next-within =
       remainder-fits (limitOf t) (chainAt t (nextAt t v))
       (link-within (ready .above .tree) (at-node .after) (at-node .inside))
 
   pub sides-fit : weightAt t v + remainderAt t (firstAt t v) + remainderAt t (nextAt t v) ≤ 3 * maxLimit
-  sides-fit = omega (arith, light, first-fits, next-fits, ready .above .tree .sound .limit-high)
+  sides-fit = omega (arith, light, first-within, next-within, ready .above .tree .sound .limit-high)
 
   module _ {x : Sides} (at : SidesAt t v x) where
     pub first-is : leftCut (x .limit) (x .weight) (x .left) (x .right) ≡ firstCutAt t v

@@ -6,7 +6,7 @@ use lib.ListN.{getD}
 use Rattle.model.specs.Table.{slots, nodeCount}
 use Rattle.model.specs.Plan.{pageOf}
 use Rattle.judge.proofs.Turns.{LayoutTo, layout-start, u-fits, next-fits, count-fits, home-fits, page-here}
-use Rattle.judge.proofs.Turns.{page-fits, sum-fits, layout-turn, layout-end}
+use Rattle.judge.proofs.Turns.{page-fits, weight-fits, layout-turn, layout-end}
 use denote.Ref.{now}
 use borrow.Author.Needs.{needs}
 use Rattle.judge.proofs.pages.lay_pages.Statement.{statement}
@@ -107,7 +107,7 @@ add-layout : tie.Need-add-layout Inv-loop μ-loop
 add-layout c =
     let k = paged (c .before .before) in
     let d = head k in
-    omega (arith, sum-fits (start (d .before) .pre) (d .before .loop .inv .1) (less d) _ (here k), c .weight-at .ok)
+    omega (arith, weight-fits (start (d .before) .pre) (d .before .loop .inv .1) (less d) _ (here k), c .weight-at .ok)
 
 element-write-layout-5 : tie.Need-element-write-layout-5 Inv-loop μ-loop
 element-write-layout-5 c = omega (arith, fits (paged (c .before .before)))
