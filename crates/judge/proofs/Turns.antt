@@ -322,7 +322,8 @@ module _ {t m : List ℕ} {v : ℕ} {before : List ℕ} {r : Layout} (a : Accept
   page-fits p e = omega (arith, e, pageOf-le t m (v + 1), a .sound .count-high)
 
   pub weight-fits : (p : ℕ) → p ≡ pageOf t m (v + 1) → getD (r .weights) p 0 ≤ maxNodes * maxLimit
-  weight-fits p e = omega (arith, h .weights-to p (page-fits p e), weight-most a m v p (omega arith), a .sound .count-high)
+  weight-fits p e =
+      omega (arith, h .weights-to p (page-fits p e), weight-most a m v p (omega arith), a .sound .count-high)
 
   pub layout-turn : (mark parent next p first last w x : ℕ) (good : Bool) (prior bad : ℕ)
       → mark ≡ markAt m (v + 1) → prior ≡ markAt m u

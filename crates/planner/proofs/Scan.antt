@@ -25,7 +25,7 @@ pub record HeaviestTo (t s : List ℕ) (v best u : ℕ) : Type 0 where
 
 module _ {t : List ℕ} (sound : SoundFacts t) (s : List ℕ) where
   -- one sibling, and those after it
-  pub rest-node : (u : ℕ) → 1 ≤ u → u ≤ nodeCount t
+  rest-node : (u : ℕ) → 1 ≤ u → u ≤ nodeCount t
       → restAt t s u (chainAt t u) ≡ kept s u + restAt t s (nextAt t u) (chainAt t (nextAt t u))
   unfolding restAt
   rest-node u low high = rw (node-at sound u low high .shape)

@@ -53,8 +53,8 @@ module _ (room : ℕ) (x y : Member) where
 -- ---- The sides
 
 record Taken (K w left right : ℕ) (ms : List Member) : Type 0 where
-  pub on-left : takenAt 0 ms ≡ leftCut K w left right
-  pub on-right : takenAt 1 ms ≡ rightCut K w left right
+  on-left : takenAt 0 ms ≡ leftCut K w left right
+  on-right : takenAt 1 ms ≡ rightCut K w left right
 
 module _ (K w left right : ℕ) (light : w ≤ K) where
   abbrev room : ℕ

@@ -14,10 +14,10 @@ use Rattle.model.specs.Basics.{pick}
 use Rattle.model.specs.Table.{firstAt, nextAt, weightAt, Chain, end, node}
 use Rattle.model.specs.Steps.{Member, restSum, largestGain, takeEarliest, cutDown, remainders, laySingle}
 use Rattle.theory.specs.TableNumbered.{Numbered, none, some, numbered-le}
-use Rattle.planner.specs.Kept.{kept, kept-suc, kept-same, kept-other, Same, same-less, same-store}
+use Rattle.planner.specs.Kept.{kept, kept-suc, kept-here, kept-other, Same, same-less, same-store}
 
 -- a child whose remainder the scratch keeps, taken where its mark is 1
-abbrev pub memberAt : List ℕ → List ℕ → ℕ → Member
+abbrev memberAt : List ℕ → List ℕ → ℕ → Member
 memberAt s m v = record { rest = kept s v; gain = kept s v; taken = eqb (kept m v) 1 }
 
 -- the siblings from node v on
@@ -141,10 +141,8 @@ module _ {t : List ℕ} where
       let mid : suc m ≤ e₁ = numbered-le k in
       let at : h ≡ suc m = p .0 in
       let has : kept s (suc m) ≡ g = p .1 in
-      let here : kept (set s (h - 1) 0) (suc m) ≡ 0 =
-      sym (ap (kept (set s (h - 1) 0)) at) ∙ kept-same s h 0 (omega arith) (omega arith) in
-      let mark : kept (set a (h - 1) 1) (suc m) ≡ 1 =
-      sym (ap (kept (set a (h - 1) 1)) at) ∙ kept-same a h 1 (omega arith) (omega arith) in
+      let here : kept (set s (h - 1) 0) (suc m) ≡ 0 = kept-here s h (suc m) 0 at (omega arith) (omega arith) in
+      let mark : kept (set a (h - 1) 1) (suc m) ≡ 1 = kept-here a h (suc m) 1 at (omega arith) (omega arith) in
       let off : kept s (suc m) - g ≡ 0 = omega arith in
       let after =
       members-same n (same-store e₁ e₂ s h 0 (omega arith) (λ l u. omega arith))
@@ -172,8 +170,7 @@ module _ {t : List ℕ} where
       let mid : suc m ≤ e₁ = numbered-le k in
       let at : h ≡ suc m = p .0 in
       let has : kept s (suc m) ≡ g = p .1 in
-      let here : kept (set s (h - 1) 0) (suc m) ≡ 0 =
-      sym (ap (kept (set s (h - 1) 0)) at) ∙ kept-same s h 0 (omega arith) (omega arith) in
+      let here : kept (set s (h - 1) 0) (suc m) ≡ 0 = kept-here s h (suc m) 0 at (omega arith) (omega arith) in
       let after = rest-same n (same-store e₁ e₂ s h 0 (omega arith) (λ l u. omega arith)) in
       omega arith
   cut-rest s g h (some {m = m} {e₁ = e₁} {e₂ = e₂} k n) (inr p) ls =
@@ -193,8 +190,7 @@ module _ {t : List ℕ} where
       let mid : suc m ≤ e₁ = numbered-le k in
       let at : h ≡ suc m = p .0 in
       let has : kept s (suc m) ≡ g = p .1 in
-      let mark : kept (set a (h - 1) 1) (suc m) ≡ 1 =
-      sym (ap (kept (set a (h - 1) 1)) at) ∙ kept-same a h 1 (omega arith) (omega arith) in
+      let mark : kept (set a (h - 1) 1) (suc m) ≡ 1 = kept-here a h (suc m) 1 at (omega arith) (omega arith) in
       rw (eq-eqb (kept s (suc m)) g has) (
         mark,
         laid-same K (cutDown K (weightAt t (suc m)) (remainders K kids)) k

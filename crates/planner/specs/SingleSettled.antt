@@ -26,7 +26,7 @@ pub record RemaindersKept (t s a : List ℕ) (v : ℕ) (c : Chain) : Type 0 wher
   pub rests : membersAt t s a v c ≡ remainders (limitOf t) c
   pub laid : LaidAt (limitOf t) t a v c (remainders (limitOf t) c)
 
-pub remainders-same : {t : List ℕ} {m v e : ℕ} {c : Chain} {s s′ a a′ : List ℕ} → Numbered t m v c e → Same m e s s′
+remainders-same : {t : List ℕ} {m v e : ℕ} {c : Chain} {s s′ a a′ : List ℕ} → Numbered t m v c e → Same m e s s′
     → Same m e a a′
     → RemaindersKept t s a v c → RemaindersKept t s′ a′ v c
 remainders-same {t} {c = c} r p q f =
@@ -122,7 +122,7 @@ remainders-node {t} {m} {e₁} {e₂} {kids} {next} {s} {a} {s′} {a′} k n hi
     record { rests = rw (rest, x .mark, after .rests); laid = (x .mark, laid, after .laid) }
 
 -- what was settled of a chain
-pub record ChainSettled (t s a : List ℕ) (m v : ℕ) (c : Chain) (e : ℕ) (s′ a′ : List ℕ) : Type 0 where
+record ChainSettled (t s a : List ℕ) (m v : ℕ) (c : Chain) (e : ℕ) (s′ a′ : List ℕ) : Type 0 where
   pub rests-kept : RemaindersKept t s′ a′ v c
   pub rests-outside : Outside m e s s′
   pub marks-outside : Outside m e a a′
@@ -131,7 +131,7 @@ remainders-end : (t s a : List ℕ) (v : ℕ) → RemaindersKept t s a v end
 unfolding membersAt remainders LaidAt
 remainders-end t s a v = record { rests = refl; laid = tt }
 
-pub down-chain : {t s a s′ a′ : List ℕ} {m v e : ℕ} {c : Chain} → Numbered t m v c e → e ≤ nodeCount t
+down-chain : {t s a s′ a′ : List ℕ} {m v e : ℕ} {c : Chain} → Numbered t m v c e → e ≤ nodeCount t
     → SettledDown t s a e m s′ a′
     → ChainSettled t s a m v c e s′ a′
 down-chain {t} {s} {a} {s′} {a′} (none {m = m}) h d =
