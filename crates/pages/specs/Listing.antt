@@ -4,7 +4,7 @@ use Prim.Native.Nat.{ℕ, suc, _+_, _≤_, _<_}
 use native.Mathlib.Omega.{arith}
 use native.Mathlib.Numerals.{add-one}
 use mathlib.Core.Path.{_≡_, sym, _∙_, ap, ap₂}
-use mathlib.Core.List.{List, _++_, append-assoc}
+use mathlib.Core.List.{List, _++_, append-assoc, append-nil}
 use lib.Dec.{eqb}
 use lib.ListN.{getD}
 use borrow.Author.Tests.{eq-eqb, ne-eqb}
@@ -14,7 +14,7 @@ use Rattle.model.specs.Plan.{pageCount, pageWeight}
 use Rattle.model.specs.Runs.{pageRun}
 use Rattle.model.specs.Refusals.{Planned}
 use Rattle.model.specs.declared.Answer.{Answer}
-use Rattle.theory.specs.Ranges.{Upto, pick-true, pick-false, listTo-zero, listTo-suc, listTo-cong, append-nil}
+use Rattle.theory.specs.Ranges.{Upto, pick-true, pick-false, listTo-zero, listTo-suc, listTo-cong}
 use Rattle.theory.specs.JudgeAnswers.{pageCount-le}
 use Rattle.judge.specs.declared.pages.Layout.{Layout}
 use Rattle.planner.specs.Outcome.{outcome, PlanLaid}
