@@ -1,5 +1,5 @@
--- Text appended to a buffer at a position. Defines Appended, Filled, lineBytes, reportBytes. Proves that texts append one
--- after the other, and how long a number is. Assumes nothing.
+-- Text appended to a buffer at a position. Defines Appended, Filled, lineBytes, reportBytes. Proves that texts append
+-- one after the other, and how long a number is. Assumes nothing.
 use Prim.Native.Nat.{ℕ, zero, suc, _+_, _*_, _/_, _%_, _≤_}
 use native.Mathlib.Omega.{arith}
 use mathlib.Core.Bool.{Bool, true, false}

@@ -60,7 +60,8 @@ planLines t m =
 -- an answer with the marks beside it: a refusal is one line
 unfoldable pub answerLines : List ℕ → Planned → List ℕ
 answerLines t made =
-    pick (eqb (made .answer .number) 0) (planLines t (made .marks)) (refusalLine (made .answer .number) (made .answer .place))
+    pick (eqb (made .answer .number) 0) (planLines t (made .marks))
+    (refusalLine (made .answer .number) (made .answer .place))
 
 -- the scratch words that the program lends
 abbrev pub scratchLent : ℕ

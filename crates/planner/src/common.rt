@@ -10,7 +10,7 @@ ghost use mathlib.Core.Path.{_≡_};
 ghost use Prim.Native.Nat.{_≤_};
 ghost use lib.ListN.{length, replicate};
 ghost use Rattle.model.specs.Refusals.{planChecks, firstOf, accepted};
-ghost use Rattle.planner.specs.Nodes.{kept};
+ghost use Rattle.planner.specs.Kept.{kept};
 
 // 1 to 9: the answer, or acceptance with no verdict yet.
 pub fn check_plan(table: &[u8], marks: &[u8], scratch: &[u32]) -> Answer

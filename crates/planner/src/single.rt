@@ -10,13 +10,14 @@ ghost use Prim.Native.Nat.{_≤_};
 ghost use Rattle.model.specs.Table.{limitOf, treeOf};
 ghost use Rattle.model.specs.Steps.{singleMarks};
 ghost use Rattle.theory.specs.TableChain.{chainAt};
-ghost use Rattle.planner.specs.Single.{restAt};
-ghost use Rattle.planner.specs.Settled.{Settled};
-ghost use Rattle.planner.specs.Cutting.{Scanned, Heaviest, CutReady, CutDone, SettleReady, LayReady, mostSum};
+ghost use Rattle.planner.specs.SingleMembers.{restAt};
+ghost use Rattle.planner.specs.SingleSettled.{Settled};
+ghost use Rattle.planner.specs.SingleCuts.{ScanReady, Heaviest, CutReady, CutDone, SettleReady, mostSum};
+ghost use Rattle.planner.specs.Outcome.{LayReady};
 
 // What the siblings from node v on weigh.
 fn sum_rests(table: &[u8], scratch: &[u32], v: u16) -> u32
-    requires { ⌜ Scanned (now table) (now scratch) v × (restAt (now table) (now scratch) v (chainAt (now table) v) ≤ mostSum) ⌝ }
+    requires { ⌜ ScanReady (now table) (now scratch) v × (restAt (now table) (now scratch) v (chainAt (now table) v) ≤ mostSum) ⌝ }
     ensures { λ r. ⌜ r ≡ restAt (now (table .entry)) (now (scratch .entry)) v (chainAt (now (table .entry)) v) ⌝ }
 {
     let mut sum: u32 = 0;
@@ -30,7 +31,7 @@ fn sum_rests(table: &[u8], scratch: &[u32], v: u16) -> u32
 
 // Of the siblings from node v on, the heaviest, and the earliest among equals.
 fn find_heaviest(table: &[u8], scratch: &[u32], v: u16) -> u16
-    requires { ⌜ Scanned (now table) (now scratch) v × (1 ≤ v) ⌝ }
+    requires { ⌜ ScanReady (now table) (now scratch) v × (1 ≤ v) ⌝ }
     ensures { λ r. ⌜ Heaviest (now (table .entry)) (now (scratch .entry)) v r ⌝ }
 {
     let mut best = v;

@@ -6,8 +6,8 @@ use Prim.Native.Nat.{ℕ}
 use native.Mathlib.Omega.{arith}
 use denote.Ref.{now}
 use Rattle.model.specs.Basics.{pick}
-use Rattle.planner.specs.Nodes.{kept-some}
-use Rattle.planner.specs.Pair.{put, uncutAfter}
+use Rattle.planner.specs.Kept.{kept-some}
+use Rattle.planner.specs.PairMarks.{put, uncutAfter}
 use Rattle.planner.proofs.TwoWay.{first-node, next-node, first-is, next-is, below-is}
 use borrow.Author.Needs.{needs}
 use Rattle.planner.proofs.pair.lay_below.Statement.{statement}

@@ -4,14 +4,14 @@ use Prim.Native.Nat.{_+_, _-_, _≤_}
 use native.Mathlib.Omega.{arith}
 use denote.Ref.{now}
 use Rattle.model.specs.Table.{nodeCount}
-use Rattle.planner.specs.Pair.{pair-plan}
-use Rattle.planner.proofs.TwoWay.{Given, given-start, given-step, rests-after}
+use Rattle.planner.specs.PairMarks.{pair-plan}
+use Rattle.planner.proofs.TwoWay.{LinksMarked, links-start, links-step, rests-after}
 use borrow.Author.Needs.{needs}
 use Rattle.planner.proofs.pair.lay_marks.Statement.{statement}
 use Rattle.planner.proofs.pair.lay_marks.Tie as tie
 
 abbrev Inv-loop : tie.InvT-loop
-Inv-loop table marks₀ scratch nodes v₀ marks v = (v ≤ nodeCount table) × (nodes ≡ nodeCount table) × Given table marks v
+Inv-loop table marks₀ scratch nodes v₀ marks v = (v ≤ nodeCount table) × (nodes ≡ nodeCount table) × LinksMarked table marks v
 
 abbrev μ-loop : tie.MeasureT-loop
 μ-loop table marks₀ scratch nodes v₀ marks v = nodes - v
@@ -24,7 +24,7 @@ slice-write-marks c =
 loop-holds : tie.Need-loop-holds Inv-loop μ-loop
 loop-holds c =
     let b = c .before .before .before .before in
-    (omega arith, c .node-count .ensures, given-start (now (b .args .table)) (now (b .args .marks)) (b .pre .1) (b .pre .0 .tree .sound .count-low))
+    (omega arith, c .node-count .ensures, links-start (now (b .args .table)) (now (b .args .marks)) (b .pre .1) (b .pre .0 .tree .sound .count-low))
 
 lay-below-requires : tie.Need-lay-below-requires Inv-loop μ-loop
 lay-below-requires c κs =
@@ -39,7 +39,7 @@ loop-again c =
     let l = t .before .loop in
     let b = t .before .before .before .before .before .before in
     let high : l .v + 1 ≤ nodeCount (now (b .args .table)) = omega (arith, t .loop-test .taken, l .inv .1) in
-    (high, l .inv .1, given-step _ (b .pre .0 .tree .sound) (l .inv .2) high (x .ensures))
+    (high, l .inv .1, links-step _ (b .pre .0 .tree .sound) (l .inv .2) high (x .ensures))
 
 same-length : tie.Need-same-length Inv-loop μ-loop
 same-length c = c .before .loop .inv .2 .long ∙ sym (c .before .before .before .before .before .before .pre .1)

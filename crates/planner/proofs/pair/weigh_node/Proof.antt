@@ -4,7 +4,7 @@ use Prim.Native.Nat.{_+_, _*_, _≤_}
 use native.Mathlib.Omega.{arith}
 use denote.Ref.{now}
 use Rattle.model.specs.Table.{maxLimit}
-use Rattle.planner.specs.Pair.{remainderAt}
+use Rattle.planner.specs.PairMarks.{remainderAt}
 use Rattle.planner.proofs.TwoWay.{weighs, weighs-fit}
 use borrow.Author.Needs.{needs}
 use Rattle.planner.proofs.pair.weigh_node.Statement.{statement}

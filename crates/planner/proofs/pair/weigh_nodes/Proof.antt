@@ -4,7 +4,7 @@ use Prim.Native.Nat.{_≤_}
 use native.Mathlib.Omega.{arith}
 use lib.ListN.{length, length-set}
 use Rattle.model.specs.Table.{nodeCount}
-use Rattle.planner.specs.Pair.{Rests}
+use Rattle.planner.specs.PairMarks.{Rests}
 use Rattle.planner.proofs.TwoWay.{rests-step}
 use borrow.Author.Needs.{needs}
 use Rattle.planner.proofs.pair.weigh_nodes.Statement.{statement}

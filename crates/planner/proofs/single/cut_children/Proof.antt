@@ -1,12 +1,12 @@
 -- `planner::single::cut_children` meets its contract. Assumes nothing.
 use native.Mathlib.Omega.{arith}
-use Rattle.planner.proofs.Cut.{Cut, cut-sums, cut-start, cut-scans, cut-takes, cut-turn, cut-end}
+use Rattle.planner.proofs.Cut.{CutSoFar, cut-sums, cut-start, cut-scans, cut-takes, cut-turn, cut-end}
 use borrow.Author.Needs.{needs}
 use Rattle.planner.proofs.single.cut_children.Statement.{statement}
 use Rattle.planner.proofs.single.cut_children.Tie as tie
 
 abbrev Inv-loop : tie.InvT-loop
-Inv-loop table marks₀ scratch₀ v room first sum₀ marks scratch sum = Cut table v room scratch₀ marks₀ scratch marks sum
+Inv-loop table marks₀ scratch₀ v room first sum₀ marks scratch sum = CutSoFar table v room scratch₀ marks₀ scratch marks sum
 
 abbrev μ-loop : tie.MeasureT-loop
 μ-loop table marks₀ scratch₀ v room first sum₀ marks scratch sum = sum

@@ -4,13 +4,13 @@ use native.Mathlib.Omega.{arith}
 use denote.Ref.{now}
 use Rattle.theory.specs.PlanShape.{size}
 use Rattle.theory.specs.TableChain.{chainAt}
-use Rattle.planner.proofs.Scan.{Scan, scan-start, scan-turn, scan-end, next-less}
+use Rattle.planner.proofs.Scan.{HeaviestTo, scan-start, scan-turn, scan-end, next-less}
 use borrow.Author.Needs.{needs}
 use Rattle.planner.proofs.single.find_heaviest.Statement.{statement}
 use Rattle.planner.proofs.single.find_heaviest.Tie as tie
 
 abbrev Inv-loop : tie.InvT-loop
-Inv-loop table scratch v best₀ u₀ best u = Scan table scratch v best u
+Inv-loop table scratch v best₀ u₀ best u = HeaviestTo table scratch v best u
 
 abbrev μ-loop : tie.MeasureT-loop
 μ-loop table scratch v best₀ u₀ best u = size (chainAt table u)

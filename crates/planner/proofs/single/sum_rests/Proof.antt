@@ -6,7 +6,7 @@ use denote.Ref.{now}
 use Rattle.model.specs.Table.{nodeCount}
 use Rattle.theory.specs.PlanShape.{size}
 use Rattle.theory.specs.TableChain.{chainAt}
-use Rattle.planner.specs.Single.{restAt}
+use Rattle.planner.specs.SingleMembers.{restAt}
 use Rattle.planner.proofs.Scan.{next-less, next-high, sum-more, sum-fits, sum-end}
 use borrow.Author.Needs.{needs}
 use Rattle.planner.proofs.single.sum_rests.Statement.{statement}

@@ -55,7 +55,8 @@ outside-store m e s v x low high =
 pub record Same (m e : ℕ) (s s′ : List ℕ) : Type 0 where
   pub keeps : (u : ℕ) → m < u → u ≤ e → kept s′ u ≡ kept s u
 
-pub outside-same : {m e : ℕ} {s s′ : List ℕ} (p q : ℕ) → ((u : ℕ) → p < u → u ≤ q → m < u → u ≤ e → ⊥) → Outside m e s s′ → Same p q s s′
+pub outside-same : {m e : ℕ} {s s′ : List ℕ} (p q : ℕ) → ((u : ℕ) → p < u → u ≤ q → m < u → u ≤ e → ⊥)
+    → Outside m e s s′ → Same p q s s′
 outside-same p q apart a = record { keeps = λ u low high. a .keeps u (λ l h. apart u low high l h) }
 
 pub same-less : {m e : ℕ} {s s′ : List ℕ} (p q : ℕ) → m ≤ p → q ≤ e → Same m e s s′ → Same p q s s′
