@@ -40,8 +40,7 @@ module _ {t : List ℕ} (sound : SoundFacts t) (s : List ℕ) where
   earliest-here u low high = rw (node-at sound u low high .shape) (inl (refl, refl))
 
   earliest-later : (g u h : ℕ) → 1 ≤ u → u ≤ nodeCount t → (kept s u ≡ g → ⊥)
-      → EarliestAt t s g (nextAt t u) (chainAt t (nextAt t u)) h
-      → EarliestAt t s g u (chainAt t u) h
+      → EarliestAt t s g (nextAt t u) (chainAt t (nextAt t u)) h → EarliestAt t s g u (chainAt t u) h
   unfolding EarliestAt
   earliest-later g u h low high other e = rw (node-at sound u low high .shape) (inr (other, e))
 
@@ -54,8 +53,7 @@ module _ {t : List ℕ} (sound : SoundFacts t) (s : List ℕ) where
   -- ---- The sum
 
   pub sum-more : (u n sum all k : ℕ) → 1 ≤ u → u ≤ nodeCount t → n ≡ nextAt t u → k ≡ kept s u
-      → sum + restAt t s u (chainAt t u) ≡ all
-      → sum + k + restAt t s n (chainAt t n) ≡ all
+      → sum + restAt t s u (chainAt t u) ≡ all → sum + k + restAt t s n (chainAt t n) ≡ all
   sum-more u n sum all k low high e q i =
       let r : restAt t s n (chainAt t n) ≡ restAt t s (nextAt t u) (chainAt t (nextAt t u)) =
       ap (λ (x : ℕ). restAt t s x (chainAt t x)) e in
@@ -112,8 +110,7 @@ module _ {t : List ℕ} (sound : SoundFacts t) (s : List ℕ) where
         }
 
     pub scan-turn : (next-best a b : ℕ) → a ≡ kept s best → b ≡ kept s u
-        → ((a < b) × (next-best ≡ u)) ⊎ ((b ≤ a) × (next-best ≡ best))
-        → HeaviestTo t s v next-best n
+        → ((a < b) × (next-best ≡ u)) ⊎ ((b ≤ a) × (next-best ≡ best)) → HeaviestTo t s v next-best n
     scan-turn next-best a b p q (inl w) = rw (w .1) (scan-better (omega (arith, w .0)))
     scan-turn next-best a b p q (inr w) = rw (w .1) (scan-past (omega (arith, w .0)))
 

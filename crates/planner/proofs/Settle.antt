@@ -98,7 +98,6 @@ module _ {t s a : List ℕ} {v : ℕ} (ready : SettleReady t s a v) where
         }
 
 pub down-step : {t s a : List ℕ} {n v : ℕ} {s₁ a₁ s₂ a₂ : List ℕ} → SettledDown t s a n v s₁ a₁ → (v ≡ 0 → ⊥)
-    → Settled t v s₁ a₁ s₂ a₂
-    → SettledDown t s a n (v - 1) s₂ a₂
+    → Settled t v s₁ a₁ s₂ a₂ → SettledDown t s a n (v - 1) s₂ a₂
 down-step {v = zero} d ne x = absurd (ne refl)
 down-step {v = suc b} d ne x = let e : suc b - 1 ≡ b = omega arith in rw e (step d x)

@@ -200,8 +200,7 @@ links-start t a long some =
     }
 
 pub links-step : {t a : List ℕ} {v : ℕ} (a′ : List ℕ) → SoundFacts t → LinksMarked t a v → v + 1 ≤ nodeCount t
-    → a′ ≡ laidBelow t a (v + 1)
-    → LinksMarked t a′ (v + 1)
+    → a′ ≡ laidBelow t a (v + 1) → LinksMarked t a′ (v + 1)
 unfolding laidBelow
 links-step {t} {a} {v} a′ good x high e =
     rw e

@@ -77,14 +77,12 @@ module _ (K w left right : ℕ) (light : w ≤ K) where
   both-cut = two-stop room (cut left) (cut right) (omega arith)
 
   taken-is : (a b : Member) (ms : List Member) → ms ≡ a ∷ b ∷ [] → a .taken ≡ leftCut K w left right
-      → b .taken ≡ rightCut K w left right
-      → Taken K w left right ms
+      → b .taken ≡ rightCut K w left right → Taken K w left right ms
   unfolding takenAt
   taken-is a b ms e p q = record { on-left = ap (takenAt 0) e ∙ p; on-right = ap (takenAt 1) e ∙ q }
 
   sides-taken : (o f l r : Bool) → leb (left + right) room ≡ o → leb right left ≡ f → leb left room ≡ l
-      → leb right room ≡ r
-      → Taken K w left right (sides K w left right)
+      → leb right room ≡ r → Taken K w left right (sides K w left right)
   unfolding leftCut rightCut
   sides-taken true f l r eo ef el er =
       let h : left + right ≤ room = leb-true (left + right) room eo in

@@ -105,8 +105,7 @@ module _ {t : List ℕ} where
       (rest-same n (same-less e₁ e₂ (omega arith) (omega arith) p))
 
   pub laid-same : (K : ℕ) {m v e : ℕ} {c : Chain} {a a′ : List ℕ} (ms : List Member) → Numbered t m v c e
-      → Same m e a a′
-      → LaidAt K t a v c ms → LaidAt K t a′ v c ms
+      → Same m e a a′ → LaidAt K t a v c ms → LaidAt K t a′ v c ms
   unfolding LaidAt
   laid-same K ms none q h = tt
   laid-same K [] (some k n) q h = absurd h
@@ -161,8 +160,7 @@ module _ {t : List ℕ} where
 
   -- what was cut is off the sum
   pub cut-rest : {m v e : ℕ} {c : Chain} (s : List ℕ) (g h : ℕ) → Numbered t m v c e → EarliestAt t s g v c h
-      → e ≤ length s
-      → restAt t (set s (h - 1) 0) v c + g ≡ restAt t s v c
+      → e ≤ length s → restAt t (set s (h - 1) 0) v c + g ≡ restAt t s v c
   unfolding EarliestAt restAt
   cut-rest s g h none p ls = absurd p
   cut-rest s g h (some {m = m} {e₁ = e₁} {e₂ = e₂} {next = next} k n) (inl p) ls =

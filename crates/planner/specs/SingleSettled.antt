@@ -27,8 +27,7 @@ pub record RemaindersKept (t s a : List ℕ) (v : ℕ) (c : Chain) : Type 0 wher
   pub laid : LaidAt (limitOf t) t a v c (remainders (limitOf t) c)
 
 remainders-same : {t : List ℕ} {m v e : ℕ} {c : Chain} {s s′ a a′ : List ℕ} → Numbered t m v c e → Same m e s s′
-    → Same m e a a′
-    → RemaindersKept t s a v c → RemaindersKept t s′ a′ v c
+    → Same m e a a′ → RemaindersKept t s a v c → RemaindersKept t s′ a′ v c
 remainders-same {t} {c = c} r p q f =
     record {
       rests = members-same r p q
@@ -132,8 +131,7 @@ unfolding membersAt remainders LaidAt
 remainders-end t s a v = record { rests = refl; laid = tt }
 
 down-chain : {t s a s′ a′ : List ℕ} {m v e : ℕ} {c : Chain} → Numbered t m v c e → e ≤ nodeCount t
-    → SettledDown t s a e m s′ a′
-    → ChainSettled t s a m v c e s′ a′
+    → SettledDown t s a e m s′ a′ → ChainSettled t s a m v c e s′ a′
 down-chain {t} {s} {a} {s′} {a′} (none {m = m}) h d =
     let same = down-none d refl in
     rw (same .0, same .1)
@@ -167,8 +165,7 @@ down-chain {t} {s} {a} {s′} {a′} (some {m = m} {e₁ = e₁} {e₂ = e₂} {
 
 -- where the nodes after v are settled, the children of v are fresh
 pub down-kids : {t s a s′ a′ : List ℕ} {v : ℕ} → SoundFacts t → 1 ≤ v → v ≤ nodeCount t
-    → SettledDown t s a (nodeCount t) v s′ a′
-    → RemaindersKept t s′ a′ (firstAt t v) (kidsOf t v)
+    → SettledDown t s a (nodeCount t) v s′ a′ → RemaindersKept t s′ a′ (firstAt t v) (kidsOf t v)
 down-kids {t} {v = v} sound low high d =
     let x = node-at sound v low high in
     let p = down-parts (x .last) d (numbered-le (x .below)) (omega (arith, numbered-le (x .after), x .inside)) in
@@ -176,8 +173,7 @@ down-kids {t} {v = v} sound low high d =
 
 -- where all nodes are settled, and the first is marked, the marks are the plan
 pub down-plan : {t s a s′ a′ : List ℕ} → SoundFacts t → SettledDown t s a (nodeCount t) 0 s′ a′
-    → length a′ ≡ nodeCount t
-    → set a′ 0 1 ≡ singleMarks (limitOf t) (treeOf t)
+    → length a′ ≡ nodeCount t → set a′ 0 1 ≡ singleMarks (limitOf t) (treeOf t)
 unfolding singleMarks remainders LaidAt pick
 down-plan {t} {a′ = a′} sound d long =
     let x = sound-root sound in
