@@ -1,5 +1,5 @@
 -- One turn of the judge's pass, for node v + 1 after the nodes 1 to v, and what the pass has at its end.
--- Defines LayoutTo, Sized. Assumes nothing.
+-- Defines SlotsHold, LayoutTo. Assumes nothing.
 use mathlib.Core.Path.{_≡_, refl, sym, ap, ap₂, _∙_}
 use mathlib.Core.Bool.{Bool, true, false, not, _&&_, _||_}
 use mathlib.Core.List.{List}
@@ -29,6 +29,8 @@ use Rattle.theory.specs.JudgeAnswers.{pageCount-le}
 use Rattle.judge.specs.declared.pages.Layout.{Layout}
 use Rattle.judge.specs.Rows.{Row, goodCase, IsLayout, noLayout}
 
+-- ---- Arrays
+
 -- what stands at w after a store of x at q, where x is g q and all else had its g already
 stored : (g : ℕ → ℕ) (l : List ℕ) (q x w : ℕ) → q < length l → x ≡ g q → ((w ≡ q → ⊥) → getD l w 0 ≡ g w)
     → getD (set l q x) w 0 ≡ g w
@@ -40,6 +42,22 @@ stored g l q x w fits e other = go (eqb w q) refl
         ap (λ (k : ℕ). getD (set l q x) k 0) same ∙ getD-set-same l q x 0 fits ∙ e ∙ ap g (sym same)
     go false s = getD-set-other l q w x 0 (eqb-false w q s) ∙ other (eqb-false w q s)
 
+-- an array has f w in each slot w
+pub record SlotsHold (f : ℕ → ℕ) (l : List ℕ) : Type 0 where
+  pub long : length l ≡ slots
+  pub at : (w : ℕ) → w < slots → getD l w 0 ≡ f w
+
+slots-start : (f : ℕ → ℕ) → ((w : ℕ) → f w ≡ 0) → SlotsHold f (replicate slots 0)
+slots-start f zeros = record { long = refl; at = λ w fits. getD-replicate slots w 0 0 fits ∙ sym (zeros w) }
+
+slots-store : {f : ℕ → ℕ} {l : List ℕ} (g : ℕ → ℕ) (q x : ℕ) → SlotsHold f l → q < slots → x ≡ g q
+    → ((w : ℕ) → (w ≡ q → ⊥) → f w ≡ g w) → SlotsHold g (set l q x)
+slots-store {f} {l} g q x h fits e same =
+    record {
+      long = simp length-set (h .long);
+      at = λ w within. stored g l q x w (omega (arith, h .long)) e (λ other. h .at w within ∙ same w other);
+    }
+
 -- one more node
 row-add : (f : ℕ → ℕ) (l : List ℕ) (v x : ℕ) → Row v f l → v + 1 < length l → x ≡ f (v + 1)
     → Row (v + 1) f (set l (v + 1) x)
@@ -47,31 +65,27 @@ row-add f l v x row fits e u low high = stored f l (v + 1) x u fits e (λ other.
 
 -- ---- The sibling just before each node
 
--- at w, the last of the nodes 1 to v with w just after it
-abbrev PrevsTo : List ℕ → ℕ → List ℕ → Type 0
-PrevsTo t v l = (w : ℕ) → w < slots → getD l w 0 ≡ lastTo v (λ u. eqb (nextAt t u) w)
+-- the last of the nodes 1 to v with w just after it
+abbrev prevTo : List ℕ → ℕ → ℕ → ℕ
+prevTo t v w = lastTo v (λ u. eqb (nextAt t u) w)
 
-prevs-start : (t l : List ℕ) → ((w : ℕ) → w < slots → getD l w 0 ≡ 0) → PrevsTo t 0 l
-prevs-start t l h w fits = h w fits ∙ sym (lastTo-zero (λ u. eqb (nextAt t u) w))
-
-prevs-turn : (t l : List ℕ) (v x : ℕ) → PrevsTo t v l → length l ≡ slots → x ≡ nextAt t (v + 1) → x < slots
-    → PrevsTo t (v + 1) (set l x (v + 1))
-prevs-turn t l v x h long e fits w within =
+prevs-turn : (t l : List ℕ) (v x : ℕ) → SlotsHold (prevTo t v) l → x ≡ nextAt t (v + 1) → x < slots
+    → SlotsHold (prevTo t (v + 1)) (set l x (v + 1))
+prevs-turn t l v x h e fits =
     rw (add-one v)
-    (stored (λ k. lastTo (suc v) (λ u. eqb (nextAt t u) k)) l x (suc v) w (omega arith)
+    (slots-store (prevTo t (suc v)) x (suc v) h fits
     (sym (lastTo-yes v (λ u. eqb (nextAt t u) x) (eq-eqb (nextAt t (suc v)) x next)))
-    (λ other.
-    h w within
-    ∙ sym (lastTo-no v (λ u. eqb (nextAt t u) w) (ne-eqb (nextAt t (suc v)) w (λ z. other (sym z ∙ next))))))
+    (λ w other.
+    sym (lastTo-no v (λ u. eqb (nextAt t u) w) (ne-eqb (nextAt t (suc v)) w (λ z. other (sym z ∙ next))))))
   where
     next : nextAt t (suc v) ≡ x
     next = ap (nextAt t) (sym (add-one v)) ∙ sym e
 
-prior-is : (t l : List ℕ) (v : ℕ) → PrevsTo t v l → v + 1 < slots → getD l (v + 1) 0 ≡ prevAt t (v + 1)
+prior-is : (t l : List ℕ) (v : ℕ) → SlotsHold (prevTo t v) l → v + 1 < slots → getD l (v + 1) 0 ≡ prevAt t (v + 1)
 unfolding prevAt
 prior-is t l v h fits =
     let same : v ≡ v + 1 - 1 = omega arith in
-    h (v + 1) fits ∙ ap (λ (k : ℕ). lastTo k (λ u. eqb (nextAt t u) (v + 1))) same
+    h .at (v + 1) fits ∙ ap (λ (k : ℕ). lastTo k (λ u. eqb (nextAt t u) (v + 1))) same
 
 -- ---- Parents
 
@@ -126,22 +140,14 @@ module _ (t m : List ℕ) where
 
 -- ---- The first node and the last sibling of each page's run
 
--- at p, the last of the nodes 1 to v that is on page p and passes the test
-abbrev LastsTo : List ℕ → List ℕ → (ℕ → Bool) → ℕ → List ℕ → Type 0
-LastsTo t m test v l = (p : ℕ) → p < slots → getD l p 0 ≡ lastOnPage t m test v p
-
-lasts-start : (t m : List ℕ) (test : ℕ → Bool) (l : List ℕ) → ((w : ℕ) → w < slots → getD l w 0 ≡ 0)
-    → LastsTo t m test 0 l
-lasts-start t m test l h p fits = h p fits ∙ sym (lastOnPage-zero t m test p)
-
-lasts-turn : (t m : List ℕ) (test : ℕ → Bool) (l : List ℕ) (v q x : ℕ) → LastsTo t m test v l → length l ≡ slots
+lasts-turn : (t m : List ℕ) (test : ℕ → Bool) (l : List ℕ) (v q x : ℕ) → SlotsHold (lastOnPage t m test v) l
     → q ≡ pageOf t m (v + 1) → q < slots → x ≡ pick (test (v + 1)) (v + 1) (getD l q 0)
-    → LastsTo t m test (v + 1) (set l q x)
-lasts-turn t m test l v q x h long e fits g p within =
+    → SlotsHold (lastOnPage t m test (v + 1)) (set l q x)
+lasts-turn t m test l v q x h e fits g =
     rw (add-one v)
-    (stored (lastOnPage t m test (suc v)) l q x p (omega arith)
-    (g ∙ ap₂ (λ (u k : ℕ). pick (test u) u k) (add-one v) (h q fits) ∙ sym (lastOnPage-on t m test v q here))
-    (λ other. h p within ∙ sym (lastOnPage-off t m test v p (λ z. other (sym z ∙ here)))))
+    (slots-store (lastOnPage t m test (suc v)) q x h fits
+    (g ∙ ap₂ (λ (u k : ℕ). pick (test u) u k) (add-one v) (h .at q fits) ∙ sym (lastOnPage-on t m test v q here))
+    (λ p other. sym (lastOnPage-off t m test v p (λ z. other (sym z ∙ here)))))
   where
     here : pageOf t m (suc v) ≡ q
     here = ap (pageOf t m) (sym (add-one v)) ∙ sym e
@@ -152,17 +158,10 @@ in-run m v = refl
 
 -- ---- Weights
 
--- at p, what the nodes 1 to v weigh that are on page p
-abbrev WeightsTo : List ℕ → List ℕ → ℕ → List ℕ → Type 0
-WeightsTo t m v l = (p : ℕ) → p < slots → getD l p 0 ≡ weightTo v t m p
-
-weights-start : (t m l : List ℕ) → ((w : ℕ) → w < slots → getD l w 0 ≡ 0) → WeightsTo t m 0 l
-weights-start t m l h p fits = h p fits ∙ sym (weightTo-zero t m p)
-
-weights-turn : (t m l : List ℕ) (v q w : ℕ) → WeightsTo t m v l → length l ≡ slots → q ≡ pageOf t m (v + 1)
-    → q < slots → w ≡ weightAt t (v + 1) → WeightsTo t m (v + 1) (set l q (getD l q 0 + w))
-weights-turn t m l v q w h long e fits g p within =
-    rw (add-one v) (stored (weightTo (suc v) t m) l q (getD l q 0 + w) p (omega arith) on off)
+weights-turn : (t m l : List ℕ) (v q w : ℕ) → SlotsHold (weightTo v t m) l → q ≡ pageOf t m (v + 1) → q < slots
+    → w ≡ weightAt t (v + 1) → SlotsHold (weightTo (v + 1) t m) (set l q (getD l q 0 + w))
+weights-turn t m l v q w h e fits g =
+    rw (add-one v) (slots-store (weightTo (suc v) t m) q (getD l q 0 + w) h fits on off)
   where
     here : pageOf t m (suc v) ≡ q
     here = ap (pageOf t m) (sym (add-one v)) ∙ sym e
@@ -171,17 +170,16 @@ weights-turn t m l v q w h long e fits g p within =
     on =
         omega (
           arith,
-          h q fits,
+          h .at q fits,
           g ∙ ap (weightAt t) (add-one v),
           weightTo-suc v t m q,
           pick-true (eqb (pageOf t m (suc v)) q) (weightAt t (suc v)) 0 (eq-eqb (pageOf t m (suc v)) q here),
         )
 
-    off : (p ≡ q → ⊥) → getD l p 0 ≡ weightTo (suc v) t m p
-    off other =
+    off : (p : ℕ) → (p ≡ q → ⊥) → weightTo v t m p ≡ weightTo (suc v) t m p
+    off p other =
         omega (
           arith,
-          h p within,
           weightTo-suc v t m p,
           pick-false (eqb (pageOf t m (suc v)) p) (weightAt t (suc v)) 0
               (ne-eqb (pageOf t m (suc v)) p (λ z. other (sym z ∙ here))),
@@ -239,44 +237,33 @@ bad-turn t m v bad next good h e q =
 
 -- ---- The pass
 
--- the arrays have a place for each node
-pub record Sized (r : Layout) : Type 0 where
-  pub parents-long : length (r .parents) ≡ slots
-  pub page-long : length (r .page) ≡ slots
-  pub firsts-long : length (r .firsts) ≡ slots
-  pub lasts-long : length (r .lasts) ≡ slots
-  pub weights-long : length (r .weights) ≡ slots
-
 -- what stands in the arrays after the nodes 1 to v
 pub record LayoutTo (t m : List ℕ) (v : ℕ) (before : List ℕ) (r : Layout) : Type 0 where
-  pub before-long : length before ≡ slots
-  pub sized : Sized r
-  pub prevs : PrevsTo t v before
+  pub prevs : SlotsHold (prevTo t v) before
+  pub parents-long : length (r .parents) ≡ slots
   pub parents-to : Row v (parentAt t) (r .parents)
+  pub page-long : length (r .page) ≡ slots
   pub page-to : Row v (pageOf t m) (r .page)
   pub page-none : getD (r .page) 0 0 ≡ 0
-  pub firsts-to : LastsTo t m (hasMark m begins) v (r .firsts)
-  pub lasts-to : LastsTo t m (inRun m) v (r .lasts)
-  pub weights-to : WeightsTo t m v (r .weights)
+  pub firsts-to : SlotsHold (lastOnPage t m (hasMark m begins) v) (r .firsts)
+  pub lasts-to : SlotsHold (lastOnPage t m (inRun m) v) (r .lasts)
+  pub weights-to : SlotsHold (weightTo v t m) (r .weights)
   pub pages-to : r .pages ≡ countTo v (hasMark m begins)
   pub bad-to : placed (r .bad) ≡ firstTo v (λ u. not (goodMark t m u))
 
 pub layout-start : (t m : List ℕ) → LayoutTo t m 0 (replicate slots 0) noLayout
 unfolding when
 layout-start t m =
-    let zero-at : (w : ℕ) → w < slots → _≡_ {A = ℕ} (getD (replicate slots 0) w 0) 0 =
-    λ w fits. getD-replicate slots w 0 0 fits in
     record {
-      before-long = refl;
-      sized =
-          record { parents-long = refl; page-long = refl; firsts-long = refl; lasts-long = refl; weights-long = refl };
-      prevs = prevs-start t (replicate slots 0) zero-at;
+      prevs = slots-start (prevTo t 0) (λ w. lastTo-zero (λ u. eqb (nextAt t u) w));
+      parents-long = refl;
       parents-to = λ u low high. absurd (omega arith);
+      page-long = refl;
       page-to = λ u low high. absurd (omega arith);
-      page-none = zero-at 0 (omega arith);
-      firsts-to = lasts-start t m (hasMark m begins) (replicate slots 0) zero-at;
-      lasts-to = lasts-start t m (inRun m) (replicate slots 0) zero-at;
-      weights-to = weights-start t m (replicate slots 0) zero-at;
+      page-none = getD-replicate slots 0 0 0 (omega arith);
+      firsts-to = slots-start (lastOnPage t m (hasMark m begins) 0) (lastOnPage-zero t m (hasMark m begins));
+      lasts-to = slots-start (lastOnPage t m (inRun m) 0) (lastOnPage-zero t m (inRun m));
+      weights-to = slots-start (weightTo 0 t m) (weightTo-zero t m);
       pages-to = sym (countTo-zero (hasMark m begins));
       bad-to = sym (firstTo-zero (λ u. not (goodMark t m u)));
     }
@@ -323,7 +310,7 @@ module _ {t m : List ℕ} {v : ℕ} {before : List ℕ} {r : Layout} (a : Accept
 
   pub weight-fits : (p : ℕ) → p ≡ pageOf t m (v + 1) → getD (r .weights) p 0 ≤ maxNodes * maxLimit
   weight-fits p e =
-      omega (arith, h .weights-to p (page-fits p e), weight-most a m v p (omega arith), a .sound .count-high)
+      omega (arith, h .weights-to .at p (page-fits p e), weight-most a m v p (omega arith), a .sound .count-high)
 
   pub layout-turn : (mark parent next p first last w x : ℕ) (good : Bool) (prior bad : ℕ)
       → mark ≡ markAt m (v + 1) → prior ≡ markAt m u
@@ -346,33 +333,25 @@ module _ {t m : List ℕ} {v : ℕ} {before : List ℕ} {r : Layout} (a : Accept
   layout-turn mark parent next p first last w x good prior bad mark-is prior-as good-as bad-as parent-as next-as p-is
       first-as last-as w-is x-is =
       let small = a .sound .count-high in
-      let long = h .sized in
       let fits : p < slots = page-fits p p-is in
       let other : 0 ≡ v + 1 → ⊥ = omega arith in
       record {
-        before-long = simp length-set (h .before-long);
-        sized =
-            record {
-              parents-long = simp length-set (long .parents-long);
-              page-long = simp length-set (long .page-long);
-              firsts-long = simp length-set (long .firsts-long);
-              lasts-long = simp length-set (long .lasts-long);
-              weights-long = simp length-set (long .weights-long);
-            };
-        prevs = prevs-turn t before v x (h .prevs) (h .before-long) x-is (omega (arith, x-is, next-fits));
+        prevs = prevs-turn t before v x (h .prevs) x-is (omega (arith, x-is, next-fits));
+        parents-long = simp length-set (h .parents-long);
         parents-to =
-            row-add (parentAt t) (r .parents) v parent (h .parents-to) (omega (arith, long .parents-long))
+            row-add (parentAt t) (r .parents) v parent (h .parents-to) (omega (arith, h .parents-long))
             (parent-is a (r .parents) v u parent (h .parents-to) less u-is parent-as);
-        page-to = row-add (pageOf t m) (r .page) v p (h .page-to) (omega (arith, long .page-long)) p-is;
+        page-long = simp length-set (h .page-long);
+        page-to = row-add (pageOf t m) (r .page) v p (h .page-to) (omega (arith, h .page-long)) p-is;
         page-none = getD-set-other (r .page) (v + 1) 0 p 0 other ∙ h .page-none;
         firsts-to =
-            lasts-turn t m (hasMark m begins) (r .firsts) v p first (h .firsts-to) (long .firsts-long) p-is fits
+            lasts-turn t m (hasMark m begins) (r .firsts) v p first (h .firsts-to) p-is fits
             (first-as ∙ ap (λ (k : ℕ). pick (eqb k 1) (v + 1) (getD (r .firsts) p 0)) mark-is);
         lasts-to =
-            lasts-turn t m (inRun m) (r .lasts) v p last (h .lasts-to) (long .lasts-long) p-is fits
+            lasts-turn t m (inRun m) (r .lasts) v p last (h .lasts-to) p-is fits
             (last-as ∙ ap (λ (k : ℕ). pick (eqb k 1 || eqb k 2) (v + 1) (getD (r .lasts) p 0)) mark-is
             ∙ ap (λ (b : Bool). pick b (v + 1) (getD (r .lasts) p 0)) (in-run m (v + 1)));
-        weights-to = weights-turn t m (r .weights) v p w (h .weights-to) (long .weights-long) p-is fits w-is;
+        weights-to = weights-turn t m (r .weights) v p w (h .weights-to) p-is fits w-is;
         pages-to = count-turn m v mark (r .pages) next (h .pages-to) mark-is next-as;
         bad-to =
             bad-turn t m v (r .bad) bad good (h .bad-to)
@@ -390,9 +369,9 @@ layout-end {t} {m} {v} {before} {r} a h le ge =
     record {
       parents-are = all .parents-to;
       page-is = all .page-to;
-      firsts-are = λ good p low high. all .firsts-to p (fits p high) ∙ first-found (a .sound) m good p low high;
-      lasts-are = λ good p low high. all .lasts-to p (fits p high) ∙ last-found (a .sound) m good p low high;
-      weights-are = all .weights-to;
+      firsts-are = λ good p low high. all .firsts-to .at p (fits p high) ∙ first-found (a .sound) m good p low high;
+      lasts-are = λ good p low high. all .lasts-to .at p (fits p high) ∙ last-found (a .sound) m good p low high;
+      weights-are = all .weights-to .at;
       pages-are = all .pages-to;
       bad-is = all .bad-to;
     }

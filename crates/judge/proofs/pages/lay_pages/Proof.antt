@@ -116,7 +116,7 @@ array-write-before : tie.Need-array-write-before Inv-loop μ-loop
 array-write-before c =
     let d = head (paged (c .before .before .before)) in
     let turn = d .before .loop .inv .1 in
-    omega (arith, c .next-at .ensures, next-fits (start (d .before) .pre) turn (less d), turn .before-long)
+    omega (arith, c .next-at .ensures, next-fits (start (d .before) .pre) turn (less d), turn .prevs .long)
 
 loop-again : tie.Need-loop-again Inv-loop μ-loop
 loop-again c =
