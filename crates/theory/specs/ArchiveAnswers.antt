@@ -1,6 +1,6 @@
 -- The answers of the archive's writer and reader, case by case, and what each tells. The writer is also told as it goes on from the
 -- tree's answer, whatever that is: so a reader may judge its tree otherwise than the writer's entry does.
--- Defines filmAnswer, writeFrom, WriteDone. Proves write-then, write-done, writer-done, writer-refused; read-none, read-table,
+-- Defines filmAnswer, writeFrom, WriteDone. Proves write-entry, write-done, writer-done, writer-refused; read-none, read-table,
 -- read-marks, read-done, reader-done, read-thirteen. Assumes nothing.
 use Prim.Native.Nat.{ℕ, _≤_}
 use native.Mathlib.Omega.{arith}
@@ -67,13 +67,16 @@ equal x n h = when-false (not (eqb x n)) n (ap not (eq-eqb x n h))
 pub feasible-zero : (t m : List ℕ) → feasiblePlan t m ≡ true → answerOf (verdictOf t m) .number ≡ 0
 feasible-zero t m f = ap (λ v. answerOf v .number) (judged-verdict (feasible-judged t m f))
 
--- the tree's and the marks' answers were acceptance: nothing is found in the plan, and the answer is its verdict's
-pub marks-accepted : (t m : List ℕ) → AcceptedFacts t → marksAnswer t m .number ≡ 0
-    → Judged t m × (marksAnswer t m ≡ answerOf (verdictOf t m))
+-- the judge, going on from the tree's answer r, accepts: nothing is found in the plan, and the answer is its verdict's
+pub judged-from : (t m : List ℕ) (r j : Answer) → j ≡ andThen r (marksAnswer t m) → (r .number ≡ 0 → AcceptedFacts t)
+    → j .number ≡ 0 → Judged t m × (j ≡ answerOf (verdictOf t m))
 unfolding marksAnswer
-marks-accepted t m a z =
-    let p = accepted-pass (markChecks t m) (answerOf (verdictOf t m)) (mark-plain t m .0) z in
-    (marks-judged t m a p, firstOf-all (markChecks t m) (answerOf (verdictOf t m)) p)
+judged-from t m r j is facts z =
+    let both = then-both r (marksAnswer t m) (sym (ap (λ (x : Answer). x .number) is) ∙ z) in
+    let p = accepted-pass (markChecks t m) (answerOf (verdictOf t m)) (mark-plain t m .0) (both .1) in (
+      marks-judged t m (facts (both .0)) p,
+      is ∙ then-next r (marksAnswer t m) (both .0) ∙ firstOf-all (markChecks t m) (answerOf (verdictOf t m)) p,
+    )
 
 module _ (e : Edition) (t m out : List ℕ) where
   abbrev size : ℕ
@@ -119,13 +122,14 @@ module _ (e : Edition) (t m out : List ℕ) where
     from-short z other =
         from-by false (sym (then-next j filmAnswer z ∙ ap (λ (x : Answer × Bool). x .0) (film-short other))) refl
 
-    pub from-done : AcceptedFacts t → j .number ≡ 0 → length out ≡ archiveBytes e (pageCount t m) (nodeCount t)
+    pub from-done : (r .number ≡ 0 → AcceptedFacts t) → j .number ≡ 0
+        → length out ≡ archiveBytes e (pageCount t m) (nodeCount t)
         → record { answer = j; archive = archiveOf e t m } ≡ writeFrom r
     unfolding pick filmAnswer
-    from-done a z fits =
-        let parts = then-both r (marksAnswer t m) (sym (ap (λ (x : Answer). x .number) is) ∙ z) in
-        let mine : j ≡ verdict = is ∙ then-next r (marksAnswer t m) (parts .0) ∙ marks-accepted t m a (parts .1) .1 in
-        from-by true (mine ∙ sym (then-next j filmAnswer z ∙ ap (λ (x : Answer × Bool). x .0) (film-long fits)))
+    from-done facts z fits =
+        from-by true
+        (judged-from t m r j is facts z .1
+        ∙ sym (then-next j filmAnswer z ∙ ap (λ (x : Answer × Bool). x .0) (film-long fits)))
         (eq-eqb (j .number) 0 z)
 
   -- ---- The entry
@@ -158,11 +162,14 @@ module _ (e : Edition) (t m out : List ℕ) where
       ∙ sym
       (then-stands _ _ (λ z. true≢false (sym (accepted-pass (judgeChecks t m) verdict (judge-never t m) z) ∙ p)))
 
-  -- the entry goes on from the tree reader's answer
-  pub write-then : writeFrom (readTree t) ≡ writeArchive e t m out
+  write-then : writeFrom (readTree t) ≡ writeArchive e t m out
   unfolding writeFrom writeArchive
   write-then =
       rw (← judge-then t m, ← answer-then (passes (judgeChecks t m)) refl, zero-passes (passes (writeChecks e t m out)) refl)
+
+  -- the entry goes on from the tree reader's answer
+  pub write-entry : {w : Written} (r : Answer) → w ≡ writeFrom r → r ≡ readTree t → w ≡ writeArchive e t m out
+  write-entry r h is = h ∙ ap writeFrom is ∙ write-then
 
   pub write-done : feasiblePlan t m ≡ true → length out ≡ archiveBytes e (pageCount t m) (nodeCount t)
       → writeArchive e t m out ≡ record { answer = answerOf (verdictOf t m); archive = archiveOf e t m }

@@ -25,15 +25,15 @@ use Rattle.theory.specs.Put.{length-recordsTo, getD-recordsTo}
 
 -- ---- What the laws take of an edition
 
--- its head has as many words as it says, and N, K and P are the last three of them; a page record has as many words as it says, and the
--- first three are first node, last sibling and weight; and it takes every accepted tree
+-- its head has as many words as it says, and N, K and P are the last three of them; a page record has as many words as it says, of
+-- which there are four at least, and the first three are first node, last sibling and weight; and it takes every accepted tree
 pub record Described (e : Edition) : Type 0 where
   pub head-low : 3 ≤ e .head
   pub head : (t m : List ℕ) → length (headWords e t m) ≡ e .head
   pub nodes-at : (t m : List ℕ) → getD (headWords e t m) (e .head - 3) 0 ≡ nodeCount t
   pub limit-at : (t m : List ℕ) → getD (headWords e t m) (e .head - 2) 0 ≡ limitOf t
   pub pages-at : (t m : List ℕ) → getD (headWords e t m) (e .head - 1) 0 ≡ pageCount t m
-  pub page-low : 3 ≤ e .page
+  pub page-low : 4 ≤ e .page
   pub page : (t m : List ℕ) (p : ℕ) → length (pageRecord e t m p) ≡ e .page
   pub first-at : (t m : List ℕ) (p : ℕ) → getD (pageRecord e t m p) 0 0 ≡ pageRun t m p .first
   pub last-at : (t m : List ℕ) (p : ℕ) → getD (pageRecord e t m p) 1 0 ≡ pageRun t m p .last

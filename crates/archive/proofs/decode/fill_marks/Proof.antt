@@ -5,7 +5,7 @@ use native.Mathlib.Omega.{arith}
 use lib.ListN.{length, getD, length-set, replicate, getD-replicate}
 use lib.Dec.{eqb}
 use Rattle.model.specs.Table.{slots}
-use Rattle.archive.specs.Ends.{MarksPass, marks-start, marks-turn}
+use Rattle.archive.specs.DecodeMarks.{MarksPass, marks-start, marks-turn}
 use Rattle.archive.proofs.Decoded.{sibling-small}
 use borrow.Author.Needs.{needs}
 use Rattle.archive.proofs.decode.fill_marks.Statement.{statement}

@@ -3,7 +3,7 @@ use mathlib.Core.Path.{_≡_, sym, _∙_}
 use Prim.Native.Nat.{_-_, _≤_}
 use native.Mathlib.Omega.{arith}
 use lib.ListN.{length, length-set}
-use Rattle.archive.proofs.Decoded.{SameUpto, same-start, same-all, copy-turn}
+use Rattle.archive.proofs.SameBytes.{SameUpto, same-start, same-all, copy-turn}
 use borrow.Author.Needs.{needs}
 use Rattle.archive.proofs.read.copy_bytes.Statement.{statement}
 use Rattle.archive.proofs.read.copy_bytes.Tie as tie

@@ -3,7 +3,7 @@ use mathlib.Core.Path.{_≡_}
 use Prim.Native.Nat.{_-_, _≤_}
 use native.Mathlib.Omega.{arith}
 use lib.ListN.{length}
-use Rattle.archive.proofs.Decoded.{SameUpto, same-start, same-turn, bytes-yes, bytes-long, bytes-differ}
+use Rattle.archive.proofs.SameBytes.{SameUpto, same-start, same-turn, bytes-yes, bytes-long, bytes-differ}
 use borrow.Author.Needs.{needs}
 use Rattle.archive.proofs.read.same_bytes.Statement.{statement}
 use Rattle.archive.proofs.read.same_bytes.Tie as tie
