@@ -1,5 +1,7 @@
--- What the archive's entries promise: an answer with what is left in the lent buffers; and what the reader learns of a candidate.
--- Defines written, restored, CopyJudged. Proves write-both, read-both; copy-refused to copy-same; not-archive, too-many. Assumes nothing.
+-- What the archive's entries promise: an answer with what is left in the lent buffers; and what the reader learns of a
+-- candidate.
+-- Defines written, restored, CopyJudged. Proves write-both, read-both; copy-refused to copy-same; not-archive,
+-- too-many. Assumes nothing.
 use Prim.Native.Nat.{ℕ, _≤_, _<_}
 use native.Mathlib.Omega.{arith}
 use mathlib.Core.Bool.{true, false, _&&_, true≢false}
@@ -11,7 +13,8 @@ use Rattle.model.specs.Basics.{sameList}
 use Rattle.model.specs.Table.{Bytes}
 use Rattle.model.specs.Plan.{verdictOf}
 use Rattle.model.specs.Archive.{archiveOf, nodesIn, tableIn, marksIn}
-use Rattle.model.specs.Refusals.{feasiblePlan, refused, answerOf, Written, writeArchive, isArchive, Restored, readArchive}
+use Rattle.model.specs.Refusals.{feasiblePlan, refused, answerOf, Written, writeArchive, isArchive, Restored}
+use Rattle.model.specs.Refusals.{readArchive}
 use Rattle.model.specs.Demand.{WritePromise, ReadPromise}
 use Rattle.model.specs.declared.Answer.{Answer}
 use Rattle.model.specs.declared.Edition.{Edition}

@@ -1,5 +1,5 @@
--- The marks of a plan from its page records: the last of each run at its first node, carried from sibling to sibling. A node is in
--- the run of the sibling before it where that run goes so far.
+-- The marks of a plan from its page records: the last of each run at its first node, carried from sibling to sibling. A
+-- node is in the run of the sibling before it where that run goes so far.
 -- Defines endOf, dueAt, lastAt, runEnd, markFor, Lasts, Guides. Assumes nothing.
 use Prim.Native.Nat.{ℕ, zero, suc, _+_, _-_, _≤_, _<_}
 use native.Mathlib.Omega.{arith}
@@ -89,7 +89,8 @@ module _ (t m : List ℕ) where
       ∙ pick-true (leb (prevAt t (v + 1)) v) (endOf t m (prevAt t (v + 1))) 0
       (le-leb (prevAt t (v + 1)) v (omega (arith, prevAt-less t (v + 1) (omega arith))))
 
-  due-turn : SoundFacts t → (l : List ℕ) (v x end : ℕ) → DueRow v l → length l ≡ slots → v < nodeCount t → nodeCount t ≤ maxNodes
+  due-turn : SoundFacts t → (l : List ℕ) (v x end : ℕ) → DueRow v l → length l ≡ slots → v < nodeCount t
+      → nodeCount t ≤ maxNodes
       → x ≡ nextAt t (v + 1) → end ≡ endOf t m (v + 1) → DueRow (v + 1) (set l x end)
   unfolding dueAt
   due-turn s l v x end h long less few e q w later high = go (eqb w x) refl
@@ -103,10 +104,12 @@ module _ (t m : List ℕ) where
           by-order (inr (inl k)) = absurd (other k)
           by-order (inr (inr k)) = lt-leb (prevAt t w) v (omega arith) ∙ sym (lt-leb (prevAt t w) (v + 1) k)
 
-      go : (b : Bool) → eqb w x ≡ b → getD (set l x end) w 0 ≡ pick (leb (prevAt t w) (v + 1)) (endOf t m (prevAt t w)) 0
+      go : (b : Bool) → eqb w x ≡ b
+          → getD (set l x end) w 0 ≡ pick (leb (prevAt t w) (v + 1)) (endOf t m (prevAt t w)) 0
       go true d =
           let same : w ≡ x = eqb-true w x d in
-          let before : prevAt t w ≡ v + 1 = next-prev s (v + 1) w (omega arith) (omega arith) (omega arith) (sym e ∙ sym same) in
+          let before : prevAt t w ≡ v + 1 =
+          next-prev s (v + 1) w (omega arith) (omega arith) (omega arith) (sym e ∙ sym same) in
           ap (λ j. getD (set l x end) j 0) same
           ∙ getD-set-same l x end 0 (omega arith)
           ∙ q
@@ -223,7 +226,8 @@ module _ {e : Edition} {a t m : List ℕ} (w : WrittenBy e a t m) where
   pub last-start : (l : List ℕ) → ((k : ℕ) → k < slots → getD l k 0 ≡ 0) → LastRow t m 0 l
   unfolding lastAt
   last-start l h v low high =
-      h v (omega (arith, w .plan .tree .sound .count-high)) ∙ sym (pick-false _ (runLast t m v) 0 (go (hasMark m begins v) refl))
+      h v (omega (arith, w .plan .tree .sound .count-high))
+      ∙ sym (pick-false _ (runLast t m v) 0 (go (hasMark m begins v) refl))
     where
       go : (b : Bool) → hasMark m begins v ≡ b → (hasMark m begins v && leb (countTo v (hasMark m begins)) 0) ≡ false
       go true e =
@@ -262,13 +266,15 @@ module _ {e : Edition} {a t m : List ℕ} (w : WrittenBy e a t m) where
                   → (hasMark m begins v && leb (countTo v (hasMark m begins)) q) ≡ next
               by-order (inl k) =
                   ap (λ y. hasMark m begins v && y)
-                  (le-leb (countTo v (hasMark m begins)) q (omega arith) ∙ sym (le-leb (countTo v (hasMark m begins)) (q + 1) (omega arith)))
+                  (le-leb (countTo v (hasMark m begins)) q (omega arith)
+                  ∙ sym (le-leb (countTo v (hasMark m begins)) (q + 1) (omega arith)))
               by-order (inr (inl k)) =
                   let mine : Page t m (q + 1) v = record { low = low; high = high; passed = e; rank = k } in
                   absurd (other (ranked-one (hasMark m begins) mine (x .1)))
               by-order (inr (inr k)) =
                   ap (λ y. hasMark m begins v && y)
-                  (lt-leb (countTo v (hasMark m begins)) q (omega arith) ∙ sym (lt-leb (countTo v (hasMark m begins)) (q + 1) k))
+                  (lt-leb (countTo v (hasMark m begins)) q (omega arith)
+                  ∙ sym (lt-leb (countTo v (hasMark m begins)) (q + 1) k))
           same-test other false e =
               and-false-left (hasMark m begins v) (leb (countTo v (hasMark m begins)) q) e
               ∙ sym (and-false-left (hasMark m begins v) (leb (countTo v (hasMark m begins)) (q + 1)) e)
@@ -278,7 +284,8 @@ module _ {e : Edition} {a t m : List ℕ} (w : WrittenBy e a t m) where
               let same : v ≡ first = eqb-true v first e in
               let is-b : v ≡ b = same ∙ here in
               let test : next ≡ true =
-              and-true (hasMark m begins v) (leb (countTo v (hasMark m begins)) (q + 1)) (ap (hasMark m begins) is-b ∙ x .1 .passed)
+              and-true (hasMark m begins v) (leb (countTo v (hasMark m begins)) (q + 1))
+              (ap (hasMark m begins) is-b ∙ x .1 .passed)
               (le-leb (countTo v (hasMark m begins)) (q + 1)
               (omega (arith, ap (λ u. countTo u (hasMark m begins)) is-b, x .1 .rank))) in
               ap (λ j. getD (set l first last) j 0) same
@@ -296,10 +303,12 @@ module _ {e : Edition} {a t m : List ℕ} (w : WrittenBy e a t m) where
   unfolding lastAt pageCount
   last-end l q h all v low high = h v low high ∙ ap (λ y. pick y (runLast t m v) 0) (go (hasMark m begins v) refl)
     where
-      go : (b : Bool) → hasMark m begins v ≡ b → (hasMark m begins v && leb (countTo v (hasMark m begins)) q) ≡ hasMark m begins v
+      go : (b : Bool) → hasMark m begins v ≡ b
+          → (hasMark m begins v && leb (countTo v (hasMark m begins)) q) ≡ hasMark m begins v
       go true e =
           and-true (hasMark m begins v) (leb (countTo v (hasMark m begins)) q) e
-          (le-leb (countTo v (hasMark m begins)) q (omega (arith, countTo-mono (hasMark m begins) v (nodeCount t) high)))
+          (le-leb (countTo v (hasMark m begins)) q
+          (omega (arith, countTo-mono (hasMark m begins) v (nodeCount t) high)))
           ∙ sym e
       go false e = and-false-left (hasMark m begins v) (leb (countTo v (hasMark m begins)) q) e ∙ sym e
 
@@ -339,7 +348,8 @@ pub marks-start : (lasts links : List ℕ) (nodes : ℕ) (out due : List ℕ) �
 marks-start lasts links nodes out due h t m g =
     (λ u low high. absurd (omega arith), due-start t m due h (g .plan .tree .sound .count-high))
 
-pub marks-turn : (lasts links : List ℕ) (nodes v : ℕ) (out due : List ℕ) (end mark next : ℕ) → MarksPass lasts links nodes v out due
+pub marks-turn : (lasts links : List ℕ) (nodes v : ℕ) (out due : List ℕ) (end mark next : ℕ)
+    → MarksPass lasts links nodes v out due
     → length due ≡ slots → v < nodes → v < length out → end ≡ runEnd (v + 1) (getD lasts (v + 1) 0) (getD due (v + 1) 0)
     → mark ≡ markFor (getD lasts (v + 1) 0) end → next ≡ pick (eqb (v + 1) 1) 0 (getD links (v + 1) 0)
     → MarksPass lasts links nodes (v + 1) (set out v mark) (set due next end)
@@ -348,10 +358,14 @@ marks-turn lasts links nodes v out due end mark next h long less room e k q t m 
     let within : v + 1 ≤ nodeCount t = omega (arith, g .count) in
     let last-is = g .lasts-are (v + 1) (omega arith) within in
     let due-is = due-here t m due v (r .1) (omega (arith, g .count)) in
-    let end-here = e ∙ end-is (g .plan) (v + 1) (getD lasts (v + 1) 0) (getD due (v + 1) 0) (omega arith) within last-is due-is in
-    let mark-here = k ∙ mark-is (g .plan) (v + 1) (getD lasts (v + 1) 0) (getD due (v + 1) 0) (omega arith) within last-is due-is end e in (
+    let end-here =
+    e ∙ end-is (g .plan) (v + 1) (getD lasts (v + 1) 0) (getD due (v + 1) 0) (omega arith) within last-is due-is in
+    let mark-here =
+    k ∙ mark-is (g .plan) (v + 1) (getD lasts (v + 1) 0) (getD due (v + 1) 0) (omega arith) within last-is due-is end
+    e in (
       row (r .0) mark-here,
-      due-turn t m (g .plan .tree .sound) due v next end (r .1) long (omega (arith, g .count)) (g .plan .tree .sound .count-high)
+      due-turn t m (g .plan .tree .sound) due v next end (r .1) long (omega (arith, g .count))
+          (g .plan .tree .sound .count-high)
           (q ∙ g .links-are (v + 1) (omega arith) within) end-here,
     )
   where
@@ -362,7 +376,8 @@ marks-turn lasts links nodes v out due end mark next h long less room e k q t m 
         go true d =
             let same : u ≡ v + 1 = eqb-true u (v + 1) d in
             let place : u - 1 ≡ v = omega arith in
-            ap (λ j. getD (set out v mark) j 0) place ∙ getD-set-same out v mark 0 room ∙ here ∙ ap (markAt m) (sym same)
+            ap (λ j. getD (set out v mark) j 0) place ∙ getD-set-same out v mark 0 room ∙ here
+            ∙ ap (markAt m) (sym same)
         go false d =
             let other : u ≡ v + 1 → ⊥ = eqb-false u (v + 1) d in
             getD-set-other out v (u - 1) mark 0 (λ z. omega arith) ∙ old u low (omega arith)

@@ -1,11 +1,11 @@
--- What the reader decodes: parents, links and the rows of the tree's table. What it decodes of an archive is the tree that the archive
--- tells.
+-- What the reader decodes: parents, links and the rows of the tree's table. What it decodes of an archive is the tree
+-- that the archive tells.
 -- Defines WrittenBy, Loaded, fitted, treeRow, treeUpto. Assumes nothing.
 use Prim.Native.Nat.{ℕ, _+_, _-_, _*_, _≤_, _<_}
 use native.Mathlib.Omega.{arith}
 use mathlib.Core.Bool.{Bool, true, false}
 use mathlib.Core.Path.{_≡_, refl, sym, _∙_, ap}
-use mathlib.Core.List.{List, [], _∷_, _++_}
+use mathlib.Core.List.{List, [], _∷_}
 use lib.ListN.{length, getD, set}
 use lib.Seq.{getD-set-same, getD-set-other}
 use lib.Dec.{eqb, ltb}
@@ -13,7 +13,8 @@ use borrow.Author.Tests.{eqb-true, eqb-false, ltb-true, lt-ltb}
 use Rattle.model.specs.Basics.{pick, listTo}
 use Rattle.model.specs.Table.{bytesOf, nodeCount, nextAt, slots}
 use Rattle.model.specs.Plan.{parentAt, pageCount, runLast}
-use Rattle.model.specs.Archive.{archiveOf, nodesIn, limitIn, pagesIn, pageFieldIn, nodeFieldIn, parentIn, firstIn, nextIn}
+use Rattle.model.specs.Archive.{archiveOf, nodesIn, limitIn, pagesIn, pageFieldIn, nodeFieldIn, parentIn, firstIn}
+use Rattle.model.specs.Archive.{nextIn}
 use Rattle.model.specs.Archive.{tableIn, marksIn}
 use Rattle.model.specs.Refusals.{isArchive}
 use Rattle.model.specs.declared.Edition.{Edition}

@@ -1,5 +1,5 @@
--- The page and node records of an archive as the writer puts them, from the arrays of a layout; and that head and records so put are the
--- archive.
+-- The page and node records of an archive as the writer puts them, from the arrays of a layout; and that head and
+-- records so put are the archive.
 -- Defines pageRow, nodeRow. Proves head-put, all-put, next-of-page, page-fits. Assumes nothing.
 use Prim.Native.Nat.{ℕ, _+_, _-_, _*_, _≤_, _<_}
 use native.Mathlib.Omega.{arith}
@@ -16,7 +16,8 @@ use Rattle.model.specs.declared.Edition.{Edition}
 use Rattle.theory.specs.Ranges.{listTo-cong}
 use Rattle.theory.specs.TableFacts.{AcceptedFacts}
 use Rattle.theory.specs.PlanPass.{pageOf-le}
-use Rattle.theory.specs.Put.{putWord, length-putWord, Starts, starts-none, starts-word, starts-all, RecordsPut, length-recordsTo}
+use Rattle.theory.specs.Put.{putWord, length-putWord, Starts, starts-none, starts-word, starts-all, RecordsPut}
+use Rattle.theory.specs.Put.{length-recordsTo}
 use Rattle.theory.specs.ArchiveWords.{Described, length-nodeRecord}
 use Rattle.judge.specs.Rows.{Row}
 use Rattle.archive.specs.Links.{nextWith, Linked, Fit, nextWith-cong}

@@ -1,5 +1,5 @@
--- How large an archive is. Defines mostHead, mostPage, archiveNodes, longestArchive, longestTable, InRoom. Proves first-room,
--- fits-longest. Assumes nothing.
+-- How large an archive is. Defines mostHead, mostPage, archiveNodes, longestArchive, longestTable, InRoom. Proves
+-- first-room, fits-longest. Assumes nothing.
 use Prim.Native.Nat.{ℕ, _+_, _*_, _≤_}
 use native.Mathlib.Omega.{arith}
 use native.Mathlib.Nat.{mul-le-mul}
@@ -8,8 +8,8 @@ use Rattle.model.specs.Archive.{firstEdition, archiveBytes}
 use Rattle.model.specs.declared.Edition.{Edition}
 use Rattle.theory.specs.ArchiveWords.{Described, first-described}
 
--- Room for the largest edition: the words of its head and of a page record, and the most nodes, and so pages, of an archive. It is the
--- archive's own limit, by which film decks size their memory, and not the table's.
+-- Room for the largest edition: the words of its head and of a page record, and the most nodes, and so pages, of an
+-- archive. It is the archive's own limit, by which film decks size their memory, and not the table's.
 abbrev pub mostHead : ℕ
 mostHead = 3
 

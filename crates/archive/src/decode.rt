@@ -1,5 +1,5 @@
-// The tree and the plan that an archive of an edition tells, as a table and marks. The bytes may be anything: a number that is no place of
-// an array is taken for 0, and the time is in proportion to pages and nodes.
+// The tree and the plan that an archive of an edition tells, as a table and marks. The bytes may be anything: a number
+// that is no place of an array is taken for 0, and the time is in proportion to pages and nodes.
 use crate::fields::limit_in;
 use crate::fields::node_field;
 use crate::fields::nodes_in;
@@ -111,7 +111,8 @@ fn fill_tree(e: Edition, archive: &[u8], links: &[u16; SLOTS], tree: &mut [u8])
     }
 }
 
-// The last of the run that node v is in: of the run that it begins, or else of the run that the sibling before it carries to it.
+// The last of the run that node v is in: of the run that it begins, or else of the run that the sibling before it
+// carries to it.
 fn run_end(v: u16, last: u16, due: u16) -> u16
     ensures { λ r. ⌜ r ≡ runEnd v last due ⌝ }
 {

@@ -1,5 +1,5 @@
-// The words of an archive of an edition: N, K and P, and the fields of the page records and the node records. What lies past the end
-// reads as 0.
+// The words of an archive of an edition: N, K and P, and the fields of the page records and the node records. What lies
+// past the end reads as 0.
 use model::Edition;
 use table::words::word_at;
 ghost use mathlib.Core.Path.{_≡_};

@@ -1,5 +1,5 @@
-// The next number with the same key, for each number: the next node of the same page, and the next node with the same parent. One pass
-// from the last number to the first keeps the last one seen of each key.
+// The next number with the same key, for each number: the next node of the same page, and the next node with the same
+// parent. One pass from the last number to the first keeps the last one seen of each key.
 use table::SLOTS;
 ghost use Prim.Native.Nat.{_<_};
 ghost use Rattle.model.specs.Table.{slots};

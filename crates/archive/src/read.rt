@@ -1,4 +1,5 @@
-// The archive's reader. It decodes a tree and a plan, has the writer write them, and accepts where that gives the very same bytes.
+// The archive's reader. It decodes a tree and a plan, has the writer write them, and accepts where that gives the very
+// same bytes.
 use crate::decode::decode;
 use crate::fields::nodes_in;
 use crate::size::MOST_BYTES;
@@ -50,8 +51,8 @@ fn copy_bytes(from: &[u8], to: &mut [u8])
     }
 }
 
-// The writer's answer where it writes this archive of the tree and the plan, and else 13. It goes on from the answer of what judges the
-// tree here.
+// The writer's answer where it writes this archive of the tree and the plan, and else 13. It goes on from the answer of
+// what judges the tree here.
 fn judge_copy(e: Edition, archive: &[u8], tree: &[u8], plan: &[u8]) -> Answer
     requires { ⌜ InRoom e × (nodesIn e (now archive) ≤ e .most) ⌝ }
     ensures { λ r. ⌜ CopyJudged e (now (archive .entry)) (now (tree .entry)) (now (plan .entry)) r ⌝ }

@@ -1,4 +1,5 @@
-// The archive's writer. It judges the plan, and puts head, page records and node records of the layout that the judge found.
+// The archive's writer. It judges the plan, and puts head, page records and node records of the layout that the judge
+// found.
 use crate::links::link_next;
 use crate::records::put_head;
 use crate::records::put_nodes;

@@ -1,7 +1,7 @@
--- The answers of the archive's writer and reader, case by case, and what each tells. The writer is also told as it goes on from the
--- tree's answer, whatever that is: so a reader may judge its tree otherwise than the writer's entry does.
--- Defines filmAnswer, writeFrom, WriteDone. Proves write-entry, write-done, writer-done, writer-refused; read-none, read-table,
--- read-marks, read-done, reader-done, read-thirteen. Assumes nothing.
+-- The answers of the archive's writer and reader, case by case, and what each tells. The writer is also told as it goes
+-- on from the tree's answer, whatever that is: so a reader may judge its tree otherwise than the writer's entry does.
+-- Defines filmAnswer, writeFrom, WriteDone. Proves write-entry, write-done, writer-done, writer-refused; read-none,
+-- read-table, read-marks, read-done, reader-done, read-thirteen. Assumes nothing.
 use Prim.Native.Nat.{ℕ, _≤_}
 use native.Mathlib.Omega.{arith}
 use mathlib.Core.Bool.{Bool, true, false, not, _&&_, true≢false}
@@ -10,13 +10,14 @@ use mathlib.Core.List.{List, [], _∷_}
 use lib.ListN.{length}
 use lib.Dec.{eqb}
 use borrow.Author.Tests.{eq-eqb, ne-eqb, not-false}
-use Rattle.model.specs.Basics.{pick, when, atPlace, every, sameList}
+use Rattle.model.specs.Basics.{pick, when, every, sameList}
 use Rattle.model.specs.Table.{nodeCount, tableBytes}
 use Rattle.model.specs.Plan.{pageCount, verdictOf}
 use Rattle.model.specs.Archive.{archiveOf, archiveBytes, nodesIn, tableIn, marksIn}
 use Rattle.model.specs.Refusals.{Check, badMarks, badOutput, noArchive, markChecks, judgeChecks, filmChecks, backChecks}
-use Rattle.model.specs.Refusals.{writeChecks, readChecks, passes, feasiblePlan, answerOf, refused, firstOf, readTree, judgePlan}
-use Rattle.model.specs.Refusals.{Written, writeArchive, isArchive, Restored, readArchive}
+use Rattle.model.specs.Refusals.{writeChecks, readChecks, passes, feasiblePlan, answerOf, refused, firstOf, readTree}
+use Rattle.model.specs.Refusals.{judgePlan}
+use Rattle.model.specs.Refusals.{Written, writeArchive, isArchive, readArchive}
 use Rattle.model.specs.declared.Edition.{Edition}
 use Rattle.model.specs.declared.Place.the-variants.{At, Nowhere}
 use Rattle.model.specs.declared.Answer.{Answer}
@@ -27,8 +28,7 @@ use Rattle.theory.specs.Checks.{never-first, accepted-pass, mark-plain, 
 use Rattle.theory.specs.Checks.{andThen, then-next, then-stands, then-both}
 use Rattle.theory.specs.JudgeAnswers.{marksAnswer, judge-then}
 use Rattle.theory.specs.TableFacts.{AcceptedFacts}
-use Rattle.theory.specs.PlanFeasible.{Judged, marks-judged, feasible-parts, feasible-judged, judged-verdict, judge-feasible}
-use Rattle.theory.specs.PlanFeasible.{feasible-judge}
+use Rattle.theory.specs.PlanFeasible.{Judged, marks-judged, feasible-parts, feasible-judged, judged-verdict}
 use Rattle.theory.specs.ArchiveWords.{Described, length-archive}
 use Rattle.theory.specs.ArchiveBack.{sameList-true, read-write}
 
@@ -144,7 +144,8 @@ module _ (e : Edition) (t m out : List ℕ) where
       ap (λ (x : Answer). x .number) (firstOf-all (writeChecks e t m out) verdict p)
       ∙ feasible-zero t m (write-feasible p)
 
-  zero-passes : (b : Bool) → passes (writeChecks e t m out) ≡ b → eqb (firstOf (writeChecks e t m out) verdict .number) 0 ≡ b
+  zero-passes : (b : Bool) → passes (writeChecks e t m out) ≡ b
+      → eqb (firstOf (writeChecks e t m out) verdict .number) 0 ≡ b
   zero-passes true p = eq-eqb _ 0 (write-zero p)
   zero-passes false p =
       ne-eqb _ 0
@@ -165,7 +166,12 @@ module _ (e : Edition) (t m out : List ℕ) where
   write-then : writeFrom (readTree t) ≡ writeArchive e t m out
   unfolding writeFrom writeArchive
   write-then =
-      rw (← judge-then t m, ← answer-then (passes (judgeChecks t m)) refl, zero-passes (passes (writeChecks e t m out)) refl)
+      rw (
+        ← judge-then t m,
+        ← answer-then (passes (judgeChecks t m)) refl,
+        zero-passes (passes (writeChecks e t m out))
+            refl,
+      )
 
   -- the entry goes on from the tree reader's answer
   pub write-entry : {w : Written} (r : Answer) → w ≡ writeFrom r → r ≡ readTree t → w ≡ writeArchive e t m out
@@ -235,13 +241,15 @@ module _ (e : Edition) (a t m : List ℕ) where
   unfolding pick readChecks noArchive
   read-none n =
       restored-by false
-      (outcome-stop (noArchive (isArchive e a)) (backChecks nodes t m) told 0 (when-true (not (isArchive e a)) 0 (ap not n)))
+      (outcome-stop (noArchive (isArchive e a)) (backChecks nodes t m) told 0
+      (when-true (not (isArchive e a)) 0 (ap not n)))
 
   module _ (is : isArchive e a ≡ true) where
     archive-next : outcome (readChecks e a t m) told ≡ outcome (backChecks nodes t m) told
     unfolding readChecks noArchive
     archive-next =
-        outcome-next (noArchive (isArchive e a)) (backChecks nodes t m) told (when-false (not (isArchive e a)) 0 (ap not is))
+        outcome-next (noArchive (isArchive e a)) (backChecks nodes t m) told
+        (when-false (not (isArchive e a)) 0 (ap not is))
 
     -- 12
     pub read-table : (length t ≡ tableBytes (nodesIn e a) → ⊥)
@@ -266,7 +274,8 @@ module _ (e : Edition) (a t m : List ℕ) where
           → record { answer = refused 8 (nodesIn e a); table = t; marks = m } ≡ readArchive e a t m
       unfolding pick badMarks
       read-marks other =
-          restored-by false (table-next ∙ outcome-stop (badMarks nodes m) [] told nodes (unequal (length m) nodes other))
+          restored-by false
+          (table-next ∙ outcome-stop (badMarks nodes m) [] told nodes (unequal (length m) nodes other))
 
       pub read-done : length m ≡ nodesIn e a
           → record {

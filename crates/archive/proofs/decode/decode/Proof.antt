@@ -15,14 +15,20 @@ link-next-requires c κs =
     let a = start .args in (
       omega (arith, c .before .before .nodes-in .ensures, start .pre .1),
       λ v low high.
-          omega (arith, c .before .load-parents .ensures v low high, fitted-small (parentIn (a .e) (a .archive .now) v)),
+          omega (
+            arith,
+            c .before .load-parents .ensures v low high,
+            fitted-small
+                (parentIn (a .e) (a .archive .now) v),
+          ),
     )
 
 fill-marks-requires : tie.Need-fill-marks-requires
 fill-marks-requires c κs =
     let n = c .before .before .before .before .before .before .before .before .before .before .before .before in
     let start = n .before .before .before .before in
-    let parents = c .before .before .before .before .before .before .before .before .before .before .before .load-parents .result in (
+    let parents =
+    c .before .before .before .before .before .before .before .before .before .before .before .load-parents .result in (
       omega (arith, n .nodes-in .ensures, start .pre .1),
       λ v low high.
           omega (
@@ -37,10 +43,11 @@ fill-marks-requires c κs =
 
 returns : tie.Need-returns
 returns c =
-    let n = c .before .before .before .before .before .before .before .before .before .before .before .before .before .before .before in
+    let l = c .before .before .before .before .before .before .before .before .before .before .before .before in
+    let n = l .before .before .before in
     let start = n .before .before .before .before in
-    let parents = c .before .before .before .before .before .before .before .before .before .before .before .before .before .before .load-parents in
-    let links = c .before .before .before .before .before .before .before .before .before .before .before .before .link-next in
+    let parents = l .before .before .load-parents in
+    let links = l .link-next in
     let lasts = c .before .before .before .before .before .before .before .before .before .before .before .load-lasts in
     let tree = c .before .before .before .before .before .before .before .before .fill-tree in
     let plan = c .before .before .fill-marks in

@@ -1,4 +1,5 @@
--- `archive::decode::fill_tree` meets its contract: after the head, the records of the nodes passed stand. Assumes nothing.
+-- `archive::decode::fill_tree` meets its contract: after the head, the records of the nodes passed stand. Assumes
+-- nothing.
 use mathlib.Core.Path.{_≡_, refl, sym, _∙_, subst}
 use mathlib.Core.List.{[], _∷_}
 use Prim.Native.Nat.{_+_, _-_, _*_, _≤_}
@@ -37,31 +38,42 @@ put-record-requires c κs = omega (arith, c .before .before .before .before .bef
 
 add-at : tie.Need-add-at Inv-loop μ-loop
 add-at c =
-    let at = c .before .before .before .before .before .before .before .before .before .before .loop .inv .2 in search needs
+    let at =
+    c .before .before .before .before .before .before .before .before .before .before .loop .inv .2 in search needs
 
 loop-again : tie.Need-loop-again Inv-loop μ-loop
 loop-again c =
     let l = c .before .before .before .before .before .before .before .before .before .before .loop in
     let n = c .before .before .before .before .before .before .before .before .before .before in
-    let start = n .before .before .before .before .before .before .before .before .before .before .before .before .before in
+    let start =
+    n .before .before .before .before .before .before .before .before .before .before .before .before .before in
     let a = start .args in
     let put = c .before .before .put-record in
     let wide = tree-wide (a .e) (a .archive .now) (a .links .now) in
     let row =
     tree-row (a .e) (a .archive .now) (a .links .now) (l .v + 1) _ _ _ _
-    (c .before .before .before .before .before .before .before .before .node-field .ensures) (c .before .before .before .before .before .before .before .node-field2 .ensures)
-    (c .before .before .before .before .before .before .first-in .ensures) (c .before .before .before .before .sibling-of .ensures) in
+    (c .before .before .before .before .before .before .before .before .node-field .ensures)
+    (c .before .before .before .before .before .before .before .node-field2 .ensures)
+    (c .before .before .before .before .before .before .first-in .ensures)
+    (c .before .before .before .before .sibling-of .ensures) in
     let less = c .before .before .before .before .before .before .before .before .before .loop-test .taken in (
       omega arith,
       put .kept .0 ∙ l .inv .1,
       omega (arith, l .inv .2),
       records-four _ 4 wide 2 (l .v) _ (l .tree) _ (l .at) _ _ _ _ (l .inv .3) (l .inv .2)
-          (omega (arith, l .inv .1, l .inv .2, n .before .before .before .before .before .before .before .before .before .before .nodes-in .ensures, start .pre .1)) (put .ensures) row,
+          (omega (
+            arith,
+            l .inv .1,
+            l .inv .2,
+            n .before .before .before .before .before .before .before .before .before .before .nodes-in .ensures,
+            start .pre .1,
+          )) (put .ensures) row,
     )
 
 same-length : tie.Need-same-length Inv-loop μ-loop
 same-length c =
-    c .before .loop .inv .1 ∙ sym (c .before .before .before .before .before .before .before .before .before .before .before .before .before .before .pre .2)
+    let one = c .before .before .before .before .before .before .before .before in
+    c .before .loop .inv .1 ∙ sym (one .before .before .before .before .before .before .pre .2)
 
 returns : tie.Need-returns Inv-loop μ-loop
 unfolding treeUpto
@@ -73,7 +85,8 @@ returns c =
     let count = one .before .before .before .nodes-in .ensures in
     let same : l .v ≡ nodesIn (a .e) (a .archive .now) = omega (arith, count, c .loop-test .left, l .inv .0) in
     let begun =
-    tree-begin (a .e) (a .archive .now) (a .tree .now) _ _ _ _ (one .put-word .ensures) (c .before .before .before .before .put-word2 .ensures) count
+    tree-begin (a .e) (a .archive .now) (a .tree .now) _ _ _ _ (one .put-word .ensures)
+    (c .before .before .before .before .put-word2 .ensures) count
     (one .before .before .limit-in .ensures) (omega (arith, start .pre .2)) in
     subst (λ k. Starts (l .tree) (treeUpto (a .e) (a .archive .now) (a .links .now) k)) same
     (l .inv .3 (nodesIn (a .e) (a .archive .now) ∷ limitIn (a .e) (a .archive .now) ∷ []) refl begun)

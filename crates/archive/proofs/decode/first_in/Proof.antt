@@ -15,7 +15,8 @@ returns-2 : tie.Need-returns-2
 returns-2 c =
     let a = c .before .before .before .before .before .args in
     first-yes (a .e) (a .archive .now) (a .v)
-    (omega (arith, c .before .before .before .nodes-in .ensures, c .before .before .if1 .left)) (sym (c .before .parent-in .ensures) ∙ c .if2 .taken)
+    (omega (arith, c .before .before .before .nodes-in .ensures, c .before .before .if1 .left))
+    (sym (c .before .parent-in .ensures) ∙ c .if2 .taken)
 
 returns-3 : tie.Need-returns-3
 returns-3 c =

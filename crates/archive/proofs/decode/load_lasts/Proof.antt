@@ -21,7 +21,8 @@ first-few : (f : tie.After-fit2 Inv-loop μ-loop) → f .fit2 .result < slots
 first-few f = omega (arith, f .fit2 .ensures, fitted-small (f .before .page-field .result))
 
 loop-holds : tie.Need-loop-holds Inv-loop μ-loop
-loop-holds c = (refl, omega arith, λ t m w. last-start w (replicate slots 0) (λ k fits. getD-replicate slots k 0 0 fits))
+loop-holds c =
+    (refl, omega arith, λ t m w. last-start w (replicate slots 0) (λ k fits. getD-replicate slots k 0 0 fits))
 
 cast-lasts : tie.Need-cast-lasts Inv-loop μ-loop
 cast-lasts c = let few = first-few (c .before) in search needs
@@ -41,7 +42,8 @@ loop-again c =
       simp length-set (l .inv .0),
       omega arith,
       lasts-turn (start .pre .is) (start .args .archive .now) (l .lasts) (l .q) _ (l .inv .2) count _ _ (l .inv .0)
-          (c .before .before .before .loop-test .taken) (c .before .fit2 .ensures ∙ ap fitted (c .before .before .page-field .ensures)) (c .page-field2 .ensures),
+          (c .before .before .before .loop-test .taken)
+          (c .before .fit2 .ensures ∙ ap fitted (c .before .before .page-field .ensures)) (c .page-field2 .ensures),
     )
 
 returns : tie.Need-returns Inv-loop μ-loop
@@ -49,7 +51,8 @@ returns c =
     let l = c .before .loop in
     let start = c .before .before .before .before .before in
     let count = c .before .before .fit .ensures ∙ ap fitted (c .before .before .before .pages-in .ensures) in
-    λ t m w. lasts-end (start .pre .is) (start .args .archive .now) (l .lasts) (l .q) _ (l .inv .2) count (c .loop-test .left) t m w
+    λ t m w. lasts-end (start .pre .is) (start .args .archive .now) (l .lasts) (l .q) _ (l .inv .2) count
+    (c .loop-test .left) t m w
 
 pub load-lasts-spec : {M : Type 1} → statement M
 load-lasts-spec =

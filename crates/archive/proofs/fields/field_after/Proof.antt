@@ -10,7 +10,8 @@ use Rattle.archive.proofs.fields.field_after.Statement.{statement}
 use Rattle.archive.proofs.fields.field_after.Tie as tie
 
 -- the words before the record
-few : (c : tie.After-row-known) → c .before .before .before .args .width * c .before .if1 .before ≤ c .before .before .before .args .width * 65535
+few : (c : tie.After-row-known)
+    → c .before .before .before .args .width * c .before .if1 .before ≤ c .before .before .before .args .width * 65535
 few c = mul-le-mul-left (c .before .before .before .args .width) (omega arith)
 
 mul-word-at : tie.Need-mul-word-at

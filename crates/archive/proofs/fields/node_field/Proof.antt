@@ -10,7 +10,8 @@ use Rattle.archive.proofs.fields.node_field.Statement.{statement}
 use Rattle.archive.proofs.fields.node_field.Tie as tie
 
 -- the words of the page records
-few : (c : tie.After-pages-in) → c .before .before .before .before .args .e .page * c .pages-in .result ≤ mostPage * 65535
+few : (c : tie.After-pages-in)
+    → c .before .before .before .before .args .e .page * c .pages-in .result ≤ mostPage * 65535
 few c = page-words (c .before .before .before .before .pre) (c .pages-in .result) 65535 (omega arith)
 
 mul-words : tie.Need-mul-words

@@ -35,7 +35,8 @@ same-length c = c .before .loop .inv .1 ∙ sym (c .before .before .pre)
 returns : tie.Need-returns Inv-loop μ-loop
 returns c =
     let l = c .before .loop in
-    same-all (l .to) (c .before .before .args .from .now) (l .i) (l .inv .2) (l .inv .1) (omega (arith, l .inv .1, c .loop-test .left))
+    same-all (l .to) (c .before .before .args .from .now) (l .i) (l .inv .2) (l .inv .1)
+    (omega (arith, l .inv .1, c .loop-test .left))
 
 pub copy-bytes-spec : {M : Type 1} → statement M
 copy-bytes-spec =

@@ -56,7 +56,9 @@ module _ (w : tie.After-write-edition) where
       write-entry edition tree plan (lent (w .before)) _ (w .write-edition .ensures)
       (w .before .before .read-tree .ensures .0)
 
-compared : (s : tie.After-same-bytes) → sameList (copied (s .before .before .before .before .before)) (archive (s .before .before .before .before .before)) ≡ s .same-bytes .result
+compared : (s : tie.After-same-bytes)
+    → sameList (copied (s .before .before .before .before .before))
+    (archive (s .before .before .before .before .before)) ≡ s .same-bytes .result
 compared s =
     let w = s .before .before .before .before .before in
     sym (part-back (copied w) _ _ (copied-long w) (archive w)) ∙ sym (s .same-bytes .ensures)
@@ -71,8 +73,11 @@ slice-aggregate-write-edition c = sym (fresh c)
 
 write-edition-requires : tie.Need-write-edition-requires
 write-edition-requires c κs =
-    let judged = c .before .read-tree .ensures .0 in
-    (c .before .before .before .before .before .before .pre .0, λ z. tree-facts _ (sym (ap (λ (x : Answer). x .number) judged) ∙ z))
+    let judged = c .before .read-tree .ensures .0 in (
+      c .before .before .before .before .before .before .pre .0,
+      λ z. tree-facts _
+          (sym (ap (λ (x : Answer). x .number) judged) ∙ z),
+    )
 
 returns-2 : tie.Need-returns-2
 returns-2 c =
@@ -91,7 +96,8 @@ returns-3 : tie.Need-returns-3
 returns-3 c =
     let w = c .before .before .before .before .before .before in
     copy-same (room w) (archive w) _ _ _ (copied w) _ (wrote w) (c .before .before .before .if2 .left)
-    (λ i. omega (arith, w .before .before .before .before .before .shared-slice-known2 .given i)) (compared (c .before) ∙ c .if3 .taken)
+    (λ i. omega (arith, w .before .before .before .before .before .shared-slice-known2 .given i))
+    (compared (c .before) ∙ c .if3 .taken)
 
 returns-4 : tie.Need-returns-4
 returns-4 c =

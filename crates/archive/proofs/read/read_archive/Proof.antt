@@ -19,7 +19,8 @@ returns c =
     let r = c .before .before .before .before in
     let start = r .before .before .before .before .before .before .before in
     let a = start .args in
-    read-both first-described (λ i. omega (arith, r .before .before .before .before .before .before .shared-slice-known .given i))
+    read-both first-described
+    (λ i. omega (arith, r .before .before .before .before .before .before .shared-slice-known .given i))
     (r .read-edition .ensures
     ∙ ap (λ (x : Edition). readArchive x (a .archive .now) (a .table .now) (a .marks .now))
     (r .before .before .before .first-edition .ensures))

@@ -10,22 +10,26 @@ use Rattle.model.specs.Archive.{nodesIn, tableIn, marksIn}
 use Rattle.model.specs.Refusals.{isArchive}
 use Rattle.model.specs.declared.Edition.{Edition}
 use Rattle.archive.specs.Size.{archiveNodes, longestTable}
-use Rattle.archive.proofs.ReadAnswers.{known-part, reader-many, reader-none, reader-table, reader-marks, reader-done}
+use Rattle.archive.proofs.ReadAnswers.{known-part, reader-many, reader-none, reader-table, reader-marks}
+use Rattle.archive.proofs.ReadAnswers.{reader-done}
 use borrow.Author.Needs.{needs}
 use Rattle.archive.proofs.read.read_edition.Statement.{statement}
 use Rattle.archive.proofs.read.read_edition.Tie as tie
 
--- ---- What was decoded: the archive, the tree and the plan, the parts of them that the nodes fill, and how long these are
+-- ---- What was decoded: the parts of the tree and the plan that the nodes fill, and how long these are
 
 module _ (b : tie.After-table-bytes) where
+  abbrev counted : tie.After-nodes-in
+  counted = b .before .before .before .before .before .before .before .before
+
   abbrev edition : Edition
-  edition = b .before .before .before .before .before .before .before .before .before .before .before .before .args .e
+  edition = counted .before .before .before .before .args .e
 
   abbrev archive : List ℕ
-  archive = b .before .before .before .before .before .before .before .before .before .before .before .before .args .archive .now
+  archive = counted .before .before .before .before .args .archive .now
 
   abbrev nodes : ℕ
-  nodes = b .before .before .before .before .before .before .before .before .nodes-in .result
+  nodes = counted .nodes-in .result
 
   abbrev tree : List ℕ
   tree = take (b .table-bytes .result) (b .before .before .before .decode .last .1 .1 .0)
@@ -34,10 +38,15 @@ module _ (b : tie.After-table-bytes) where
   plan = take nodes (b .before .before .before .decode .last .1 .1 .1 .0)
 
   nodes-are : nodes ≡ nodesIn edition archive
-  nodes-are = b .before .before .before .before .before .before .before .before .nodes-in .ensures
+  nodes-are = counted .nodes-in .ensures
 
   few : nodes ≤ archiveNodes
-  few = omega (arith, b .before .before .before .before .before .before .if1 .left, b .before .before .before .before .before .before .before .before .before .before .before .before .pre .most-high)
+  few =
+      omega (
+        arith,
+        b .before .before .before .before .before .before .if1 .left,
+        counted .before .before .before .before .pre .most-high,
+      )
 
   size-is : b .table-bytes .result ≡ tableBytes (nodesIn edition archive)
   size-is = b .table-bytes .ensures ∙ ap tableBytes nodes-are
@@ -59,7 +68,8 @@ module _ (b : tie.After-table-bytes) where
 
 returns : tie.Need-returns
 returns c =
-    reader-many _ _ (c .refuse .ensures) (omega (arith, c .before .before .before .nodes-in .ensures, c .before .if1 .taken))
+    reader-many _ _ (c .refuse .ensures)
+    (omega (arith, c .before .before .before .nodes-in .ensures, c .before .if1 .taken))
 
 slice-aggregate-judge-copy : tie.Need-slice-aggregate-judge-copy
 slice-aggregate-judge-copy c = tree-long (c .before)
@@ -71,7 +81,8 @@ returns-2 : tie.Need-returns-2
 returns-2 c =
     let j = c .before .before in
     let b = j .before .before .before in
-    reader-none (archive b) _ _ (tree b) (plan b) (j .judge-copy .result) (j .judge-copy .ensures) (c .if2 .taken) (told b)
+    reader-none (archive b) _ _ (tree b) (plan b) (j .judge-copy .result) (j .judge-copy .ensures) (c .if2 .taken)
+    (told b)
 
 returns-3 : tie.Need-returns-3
 returns-3 c =
@@ -94,11 +105,13 @@ slice-aggregate-copy-bytes c = tree-long (c .before .before .before .before .bef
 
 copy-bytes-requires : tie.Need-copy-bytes-requires
 copy-bytes-requires c κs =
-    c .before .before .before .if3 .left ∙ tree-long (c .before .before .before .before .before .before .before .before .before)
+    c .before .before .before .if3 .left
+    ∙ tree-long (c .before .before .before .before .before .before .before .before .before)
 
 slice-aggregate-copy-bytes-2 : tie.Need-slice-aggregate-copy-bytes-2
 slice-aggregate-copy-bytes-2 c =
-    plan-long (c .before .before .before .before .before .before .before .before .before .before .before .before .before)
+    plan-long
+    (c .before .before .before .before .before .before .before .before .before .before .before .before .before)
 
 copy-bytes-requires-2 : tie.Need-copy-bytes-requires-2
 copy-bytes-requires-2 c κs =
@@ -112,7 +125,8 @@ returns-5 c =
     let b = j .before .before .before in
     reader-done (archive b) _ _ (tree b) (plan b) (j .judge-copy .result) (j .judge-copy .ensures)
     (e .before .before .if2 .left) (e .before .if3 .left ∙ size-is b) (e .if4 .left ∙ nodes-are b) _ _
-    (c .before .before .before .before .before .before .before .copy-bytes .ensures) (c .before .before .copy-bytes2 .ensures)
+    (c .before .before .before .before .before .before .before .copy-bytes .ensures)
+    (c .before .before .copy-bytes2 .ensures)
 
 pub read-edition-spec : {M : Type 1} → statement M
 read-edition-spec =

@@ -1,4 +1,5 @@
--- `archive::records::put_nodes` meets its contract: the records of the nodes passed stand after what stood before. Assumes nothing.
+-- `archive::records::put_nodes` meets its contract: the records of the nodes passed stand after what stood before.
+-- Assumes nothing.
 use mathlib.Core.Path.{_≡_, refl, _∙_, subst}
 use Prim.Native.Nat.{_+_, _-_, _*_, _≤_}
 use native.Mathlib.Omega.{arith}
@@ -20,7 +21,8 @@ abbrev μ-loop : tie.MeasureT-loop
 μ-loop table parents onward pages out₀ nodes at₀ v₀ out at v = nodes - v
 
 -- the words of the page records
-few : (n : tie.After-node-count Inv-loop μ-loop) → n .before .before .before .args .e .page * n .before .before .before .args .pages ≤ mostPage * maxNodes
+few : (n : tie.After-node-count Inv-loop μ-loop)
+    → n .before .before .before .args .e .page * n .before .before .before .args .pages ≤ mostPage * maxNodes
 few n = page-words (n .before .before .before .pre .0) _ maxNodes (omega (arith, n .before .before .before .pre .2))
 
 mul-at : tie.Need-mul-at Inv-loop μ-loop
@@ -58,7 +60,10 @@ loop-again c =
     let a = start .args in
     let put = c .before .before .put-record in
     let wide = node-wide (a .table .now) (a .parents .now) (a .onward .now) in
-    let row = node-row (a .table .now) (a .parents .now) (a .onward .now) (l .v + 1) _ _ (c .before .before .before .before .before .before .before .weight-at .ensures) (c .before .before .before .before .before .before .label-at .ensures) in
+    let row =
+    node-row (a .table .now) (a .parents .now) (a .onward .now) (l .v + 1) _ _
+    (c .before .before .before .before .before .before .before .weight-at .ensures)
+    (c .before .before .before .before .before .before .label-at .ensures) in
     let less = c .before .before .before .before .before .before .before .before .loop-test .taken in (
       omega arith,
       put .kept .0 ∙ l .inv .1,
@@ -75,9 +80,11 @@ returns c =
     let l = c .before .loop in
     let n = c .before .before .before .before in
     let a = n .before .before .before .args in
-    let same : l .v ≡ nodeCount (a .table .now) = omega (arith, n .node-count .ensures, c .loop-test .left, l .inv .0) in
+    let same : l .v ≡ nodeCount (a .table .now) =
+    omega (arith, n .node-count .ensures, c .loop-test .left, l .inv .0) in
     let words = a .e .head + a .e .page * a .pages in
-    subst (λ k. RecordsPut (nodeRow (a .table .now) (a .parents .now) (a .onward .now)) words k (a .out .now) (l .out)) same
+    subst (λ k. RecordsPut (nodeRow (a .table .now) (a .parents .now) (a .onward .now)) words k (a .out .now) (l .out))
+    same
     (l .inv .3)
 
 pub put-nodes-spec : {M : Type 1} → statement M

@@ -1,5 +1,5 @@
 -- `archive::write::fill_archive` meets its contract. Assumes nothing.
-use mathlib.Core.Path.{_≡_, ap, _∙_}
+use mathlib.Core.Path.{_∙_}
 use Prim.Native.Nat.{_<_}
 use native.Mathlib.Omega.{arith}
 use Rattle.model.specs.Table.{slots}
@@ -41,7 +41,8 @@ put-pages-requires c κs =
 
 put-nodes-requires : tie.Need-put-nodes-requires
 put-nodes-requires c κs =
-    let h = c .before .before .before .before .before .before .before .before .before .before .before .before .before .before in
+    let h =
+    c .before .before .before .before .before .before .before .before .before .before .before .before .before .before in
     let start = h .before .before .before .before .before .before .before .before .before .before in
     let a = start .args in
     let few = pageCount-le (a .table .now) (a .marks .now) in
@@ -49,12 +50,15 @@ put-nodes-requires c κs =
       start .pre .0,
       omega arith,
       omega (arith, start .pre .2 .pages-are),
-      c .before .before .before .before .before .before .put-pages .kept .1 .1 .1 .1 .1 .0 ∙ h .put-head .kept .1 .1 .1 .1 .0 ∙ start .pre .3,
+      c .before .before .before .before .before .before .put-pages .kept .1 .1 .1 .1 .1 .0
+          ∙ h .put-head .kept .1 .1 .1 .1 .0 ∙ start .pre .3,
     )
 
 returns : tie.Need-returns
 returns c =
-    let h = c .before .before .before .before .before .before .before .before .before .before .before .before .before .before .before .before .before in
+    let p = c .before .before .before .before .before .before .before .before .before in
+    let pages = p .put-pages in
+    let h = p .before .before .before .before .before .before .before .before in
     let start = h .before .before .before .before .before .before .before .before .before .before in
     let a = start .args in
     let t = a .table .now in
@@ -65,12 +69,12 @@ returns c =
     let count = h .before .before .before .before .before .before .node-count .ensures in
     let limit = h .before .before .before .before .before .limit-of .ensures in
     let onward = h .before .before .link-next in
-    let pages = c .before .before .before .before .before .before .before .before .before .put-pages in
     let nodes = c .before .before .put-nodes in
     all-put d t m (a .t4 .firsts) (a .t4 .lasts) (a .t4 .weights) (a .t4 .parents) (onward .result) (a .t4 .pages)
     (plan .pages-are) (plan .firsts-are good) (plan .lasts-are good)
     (λ q low high. plan .weights-are q (omega (arith, pageCount-le t m, start .pre .1 .tree .sound .count-high)))
-    (plan .parents-are) (next-of-page t m (a .t4 .page) (onward .result) _ count (plan .page-is) (onward .ensures)) _ _ _
+    (plan .parents-are) (next-of-page t m (a .t4 .page) (onward .result) _ count (plan .page-is) (onward .ensures))
+    _ _ _
     (head-put d t m (a .out .now) _ _ _ _ (h .put-head .ensures) count limit (plan .pages-are)
     (omega (arith, start .pre .3)))
     (pages .ensures) (nodes .ensures)

@@ -1,6 +1,6 @@
 -- `archive::write::write_edition` meets its contract. Assumes nothing.
 use mathlib.Core.List.{List}
-use mathlib.Core.Path.{_≡_, sym, ap, ap₂, _∙_}
+use mathlib.Core.Path.{_≡_, ap, ap₂, _∙_}
 use Prim.Native.Nat.{ℕ}
 use native.Mathlib.Omega.{arith}
 use Rattle.model.specs.Table.{nodeCount}
@@ -30,12 +30,14 @@ module _ (b : tie.After-archive-bytes) where
   marks = b .before .before .before .before .before .before .before .before .before .before .args .marks .now
 
   layout : IsLayout table marks (b .before .before .before .before .before .before .judge-pages .result .layout)
-  layout = b .before .before .before .before .before .before .judge-pages .ensures .1 (b .before .before .before .if1 .left)
+  layout =
+      b .before .before .before .before .before .before .judge-pages .ensures .1 (b .before .before .before .if1 .left)
 
   judged : Judged table marks
   judged =
       judged-from table marks _ _ (b .before .before .before .before .before .before .judge-pages .ensures .0)
-      (b .before .before .before .before .before .before .before .before .before .before .pre .1) (b .before .before .before .if1 .left) .0
+      (b .before .before .before .before .before .before .before .before .before .before .pre .1)
+      (b .before .before .before .if1 .left) .0
 
   size-is : b .archive-bytes .result ≡ archiveBytes edition (pageCount table marks) (nodeCount table)
   size-is = b .archive-bytes .ensures ∙ ap₂ (archiveBytes edition) (layout .pages-are) (b .before .node-count .ensures)
@@ -51,7 +53,8 @@ returns-2 c =
     let b = c .before .before in
     let a = b .before .before .before .before .before .before .before .before .before .before .args in
     ap (λ (x : Answer). written x (a .out .now)) (c .refuse .ensures ∙ ap (refused 12) (size-is b))
-    ∙ from-short (edition b) (table b) (marks b) (a .out .now) (a .tree) _ (b .before .before .before .before .before .before .judge-pages .ensures .0)
+    ∙ from-short (edition b) (table b) (marks b) (a .out .now) (a .tree) _
+    (b .before .before .before .before .before .before .judge-pages .ensures .0)
     (b .before .before .before .if1 .left) (λ fits. omega (arith, c .before .if2 .taken, size-is b))
 
 fill-archive-requires : tie.Need-fill-archive-requires
@@ -60,7 +63,8 @@ fill-archive-requires c κs =
       b .before .before .before .before .before .before .before .before .before .before .pre .0,
       judged b,
       layout b,
-      c .before .if2 .left ∙ b .archive-bytes .ensures ∙ ap (archiveBytes (edition b) _) (b .before .node-count .ensures),
+      c .before .if2 .left ∙ b .archive-bytes .ensures
+          ∙ ap (archiveBytes (edition b) _) (b .before .node-count .ensures),
     )
 
 returns-3 : tie.Need-returns-3
@@ -69,7 +73,8 @@ returns-3 c =
     let start = b .before .before .before .before .before .before .before .before .before .before in
     let a = start .args in
     ap (written _) (c .before .before .fill-archive .ensures)
-    ∙ from-done (edition b) (table b) (marks b) (a .out .now) (a .tree) _ (b .before .before .before .before .before .before .judge-pages .ensures .0) (start .pre .1)
+    ∙ from-done (edition b) (table b) (marks b) (a .out .now) (a .tree) _
+    (b .before .before .before .before .before .before .judge-pages .ensures .0) (start .pre .1)
     (b .before .before .before .if1 .left) (c .before .before .before .before .if2 .left ∙ size-is b)
 
 pub write-edition-spec : {M : Type 1} → statement M
