@@ -1,3 +1,3 @@
-pub mod Turns
 pub mod Decoded
-pub mod Parts
+pub mod SameBytes
+pub mod ReadAnswers

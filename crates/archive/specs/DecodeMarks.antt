@@ -1,5 +1,5 @@
--- The marks of a plan from its page records: the last of each run at its first node, carried from sibling to sibling. A node is in
--- the run of the sibling before it where that run goes so far.
+-- The marks of a plan from its page records: the last of each run at its first node, carried from sibling to sibling. A
+-- node is in the run of the sibling before it where that run goes so far.
 -- Defines endOf, dueAt, lastAt, runEnd, markFor, Lasts, Guides. Assumes nothing.
 use Prim.Native.Nat.{ℕ, zero, suc, _+_, _-_, _≤_, _<_}
 use native.Mathlib.Omega.{arith}
@@ -15,17 +15,19 @@ use Rattle.model.specs.Basics.{pick, countTo}
 use Rattle.model.specs.Table.{maxNodes, nodeCount, nextAt, slots}
 use Rattle.model.specs.Plan.{prevAt, begins, stays, markAt, hasMark, pageCount, runLast}
 use Rattle.model.specs.Archive.{pagesIn, pageFieldIn}
+use Rattle.model.specs.declared.Edition.{Edition}
 use Rattle.theory.specs.Bools.{and-true, and-false-left, and-false-right}
 use Rattle.theory.specs.Ranges.{Upto, pick-true, pick-false, order-cases}
 use Rattle.theory.specs.TableFacts.{SoundFacts}
 use Rattle.theory.specs.TableLinks.{prevAt-less, prevAt-next, next-prev}
 use Rattle.theory.specs.Chosen.{ranked-one, countTo-mono, countTo-pass}
 use Rattle.theory.specs.RunsByMarks.{good-marks, runLast-on, runLast-stop, runLast-low}
-use Rattle.theory.specs.ArchiveWords.{Page, page-first}
-use Rattle.theory.specs.ArchiveBack.{Planned}
+use Rattle.theory.specs.PlanFeasible.{Judged}
+use Rattle.theory.specs.PagesByNumber.{Page, page-first}
+use Rattle.theory.specs.ArchiveWords.{Described}
 use Rattle.theory.specs.JudgeAnswers.{pageCount-le}
 use Rattle.judge.specs.Rows.{Row}
-use Rattle.archive.specs.Decode.{Told, told-pages, told-first, told-last, fitted, fitted-same, fitted-le}
+use Rattle.archive.specs.DecodeTable.{WrittenBy, by-pages, by-begin, by-end, fitted, fitted-same, fitted-le}
 
 -- the last of the run that node u is in, or 0 where it is in none
 unfoldable pub endOf : List ℕ → List ℕ → ℕ → ℕ
@@ -87,7 +89,8 @@ module _ (t m : List ℕ) where
       ∙ pick-true (leb (prevAt t (v + 1)) v) (endOf t m (prevAt t (v + 1))) 0
       (le-leb (prevAt t (v + 1)) v (omega (arith, prevAt-less t (v + 1) (omega arith))))
 
-  due-turn : SoundFacts t → (l : List ℕ) (v x end : ℕ) → DueRow v l → length l ≡ slots → v < nodeCount t → nodeCount t ≤ maxNodes
+  due-turn : SoundFacts t → (l : List ℕ) (v x end : ℕ) → DueRow v l → length l ≡ slots → v < nodeCount t
+      → nodeCount t ≤ maxNodes
       → x ≡ nextAt t (v + 1) → end ≡ endOf t m (v + 1) → DueRow (v + 1) (set l x end)
   unfolding dueAt
   due-turn s l v x end h long less few e q w later high = go (eqb w x) refl
@@ -101,10 +104,12 @@ module _ (t m : List ℕ) where
           by-order (inr (inl k)) = absurd (other k)
           by-order (inr (inr k)) = lt-leb (prevAt t w) v (omega arith) ∙ sym (lt-leb (prevAt t w) (v + 1) k)
 
-      go : (b : Bool) → eqb w x ≡ b → getD (set l x end) w 0 ≡ pick (leb (prevAt t w) (v + 1)) (endOf t m (prevAt t w)) 0
+      go : (b : Bool) → eqb w x ≡ b
+          → getD (set l x end) w 0 ≡ pick (leb (prevAt t w) (v + 1)) (endOf t m (prevAt t w)) 0
       go true d =
           let same : w ≡ x = eqb-true w x d in
-          let before : prevAt t w ≡ v + 1 = next-prev s (v + 1) w (omega arith) (omega arith) (omega arith) (sym e ∙ sym same) in
+          let before : prevAt t w ≡ v + 1 =
+          next-prev s (v + 1) w (omega arith) (omega arith) (omega arith) (sym e ∙ sym same) in
           ap (λ j. getD (set l x end) j 0) same
           ∙ getD-set-same l x end 0 (omega arith)
           ∙ q
@@ -121,7 +126,7 @@ module _ (t m : List ℕ) where
 
 -- ---- The run end and the mark of a node
 
-module _ {t m : List ℕ} (p : Planned t m) (v last due : ℕ) (low : 1 ≤ v) (high : v ≤ nodeCount t)
+module _ {t m : List ℕ} (p : Judged t m) (v last due : ℕ) (low : 1 ≤ v) (high : v ≤ nodeCount t)
     (last-is : last ≡ pick (hasMark m begins v) (runLast t m v) 0) (due-is : due ≡ endOf t m (prevAt t v)) where
   begun : markAt m v ≡ 1 → last ≡ runLast t m v
   begun one = last-is ∙ pick-true (hasMark m begins v) (runLast t m v) 0 (eq-eqb (markAt m v) 1 one)
@@ -217,11 +222,12 @@ LastRow t m q l = Row (nodeCount t) (lastAt t m q) l
 abbrev pub Lasts : List ℕ → List ℕ → List ℕ → Type 0
 Lasts t m l = Row (nodeCount t) (λ v. pick (hasMark m begins v) (runLast t m v) 0) l
 
-module _ {a t m : List ℕ} (w : Told a t m) where
+module _ {e : Edition} {a t m : List ℕ} (w : WrittenBy e a t m) where
   pub last-start : (l : List ℕ) → ((k : ℕ) → k < slots → getD l k 0 ≡ 0) → LastRow t m 0 l
   unfolding lastAt
   last-start l h v low high =
-      h v (omega (arith, w .plan .tree .sound .count-high)) ∙ sym (pick-false _ (runLast t m v) 0 (go (hasMark m begins v) refl))
+      h v (omega (arith, w .plan .tree .sound .count-high))
+      ∙ sym (pick-false _ (runLast t m v) 0 (go (hasMark m begins v) refl))
     where
       go : (b : Bool) → hasMark m begins v ≡ b → (hasMark m begins v && leb (countTo v (hasMark m begins)) 0) ≡ false
       go true e =
@@ -229,10 +235,11 @@ module _ {a t m : List ℕ} (w : Told a t m) where
           (lt-leb (countTo v (hasMark m begins)) 0 (omega (arith, countTo-pass (hasMark m begins) v low e 0 low)))
       go false e = and-false-left (hasMark m begins v) (leb (countTo v (hasMark m begins)) 0) e
 
-  last-turn : (l : List ℕ) (q first last : ℕ) → LastRow t m q l → length l ≡ slots → q < pageCount t m
-      → first ≡ pageFieldIn a (q + 1) 0 → last ≡ pageFieldIn a (q + 1) 1 → LastRow t m (q + 1) (set l first last)
+  last-turn : Described e → (l : List ℕ) (q first last : ℕ) → LastRow t m q l → length l ≡ slots → q < pageCount t m
+      → first ≡ pageFieldIn e a (q + 1) 0 → last ≡ pageFieldIn e a (q + 1) 1
+      → LastRow t m (q + 1) (set l first last)
   unfolding lastAt
-  last-turn l q first last h long less f g = on (page-first t m (q + 1) (omega arith) (omega arith))
+  last-turn d l q first last h long less f g = on (page-first t m (q + 1) (omega arith) (omega arith))
     where
       on : (b : ℕ) × Page t m (q + 1) b → LastRow t m (q + 1) (set l first last)
       on x v low high = go (eqb v first) refl
@@ -241,10 +248,10 @@ module _ {a t m : List ℕ} (w : Told a t m) where
           b = x .0
 
           here : first ≡ b
-          here = f ∙ told-first w (q + 1) b (omega arith) (omega arith) (x .1)
+          here = f ∙ by-begin d w (q + 1) b (omega arith) (omega arith) (x .1)
 
           last-here : last ≡ runLast t m b
-          last-here = g ∙ told-last w (q + 1) b (omega arith) (omega arith) (x .1)
+          last-here = g ∙ by-end d w (q + 1) b (omega arith) (omega arith) (x .1)
 
           next : Bool
           next = hasMark m begins v && leb (countTo v (hasMark m begins)) (q + 1)
@@ -259,13 +266,15 @@ module _ {a t m : List ℕ} (w : Told a t m) where
                   → (hasMark m begins v && leb (countTo v (hasMark m begins)) q) ≡ next
               by-order (inl k) =
                   ap (λ y. hasMark m begins v && y)
-                  (le-leb (countTo v (hasMark m begins)) q (omega arith) ∙ sym (le-leb (countTo v (hasMark m begins)) (q + 1) (omega arith)))
+                  (le-leb (countTo v (hasMark m begins)) q (omega arith)
+                  ∙ sym (le-leb (countTo v (hasMark m begins)) (q + 1) (omega arith)))
               by-order (inr (inl k)) =
                   let mine : Page t m (q + 1) v = record { low = low; high = high; passed = e; rank = k } in
                   absurd (other (ranked-one (hasMark m begins) mine (x .1)))
               by-order (inr (inr k)) =
                   ap (λ y. hasMark m begins v && y)
-                  (lt-leb (countTo v (hasMark m begins)) q (omega arith) ∙ sym (lt-leb (countTo v (hasMark m begins)) (q + 1) k))
+                  (lt-leb (countTo v (hasMark m begins)) q (omega arith)
+                  ∙ sym (lt-leb (countTo v (hasMark m begins)) (q + 1) k))
           same-test other false e =
               and-false-left (hasMark m begins v) (leb (countTo v (hasMark m begins)) q) e
               ∙ sym (and-false-left (hasMark m begins v) (leb (countTo v (hasMark m begins)) (q + 1)) e)
@@ -275,7 +284,8 @@ module _ {a t m : List ℕ} (w : Told a t m) where
               let same : v ≡ first = eqb-true v first e in
               let is-b : v ≡ b = same ∙ here in
               let test : next ≡ true =
-              and-true (hasMark m begins v) (leb (countTo v (hasMark m begins)) (q + 1)) (ap (hasMark m begins) is-b ∙ x .1 .passed)
+              and-true (hasMark m begins v) (leb (countTo v (hasMark m begins)) (q + 1))
+              (ap (hasMark m begins) is-b ∙ x .1 .passed)
               (le-leb (countTo v (hasMark m begins)) (q + 1)
               (omega (arith, ap (λ u. countTo u (hasMark m begins)) is-b, x .1 .rank))) in
               ap (λ j. getD (set l first last) j 0) same
@@ -293,10 +303,12 @@ module _ {a t m : List ℕ} (w : Told a t m) where
   unfolding lastAt pageCount
   last-end l q h all v low high = h v low high ∙ ap (λ y. pick y (runLast t m v) 0) (go (hasMark m begins v) refl)
     where
-      go : (b : Bool) → hasMark m begins v ≡ b → (hasMark m begins v && leb (countTo v (hasMark m begins)) q) ≡ hasMark m begins v
+      go : (b : Bool) → hasMark m begins v ≡ b
+          → (hasMark m begins v && leb (countTo v (hasMark m begins)) q) ≡ hasMark m begins v
       go true e =
           and-true (hasMark m begins v) (leb (countTo v (hasMark m begins)) q) e
-          (le-leb (countTo v (hasMark m begins)) q (omega (arith, countTo-mono (hasMark m begins) v (nodeCount t) high)))
+          (le-leb (countTo v (hasMark m begins)) q
+          (omega (arith, countTo-mono (hasMark m begins) v (nodeCount t) high)))
           ∙ sym e
       go false e = and-false-left (hasMark m begins v) (leb (countTo v (hasMark m begins)) q) e ∙ sym e
 
@@ -317,7 +329,7 @@ marks-told t m l long room h =
 -- ---- What the pass over the nodes goes by
 
 pub record Guides (t m lasts links : List ℕ) (nodes : ℕ) : Type 0 where
-  pub plan : Planned t m
+  pub plan : Judged t m
   pub count : nodes ≡ nodeCount t
   pub lasts-are : Lasts t m lasts
   pub links-are : Upto (nodeCount t) (λ v. pick (eqb v 1) 0 (getD links v 0) ≡ nextAt t v)
@@ -336,7 +348,8 @@ pub marks-start : (lasts links : List ℕ) (nodes : ℕ) (out due : List ℕ) �
 marks-start lasts links nodes out due h t m g =
     (λ u low high. absurd (omega arith), due-start t m due h (g .plan .tree .sound .count-high))
 
-pub marks-turn : (lasts links : List ℕ) (nodes v : ℕ) (out due : List ℕ) (end mark next : ℕ) → MarksPass lasts links nodes v out due
+pub marks-turn : (lasts links : List ℕ) (nodes v : ℕ) (out due : List ℕ) (end mark next : ℕ)
+    → MarksPass lasts links nodes v out due
     → length due ≡ slots → v < nodes → v < length out → end ≡ runEnd (v + 1) (getD lasts (v + 1) 0) (getD due (v + 1) 0)
     → mark ≡ markFor (getD lasts (v + 1) 0) end → next ≡ pick (eqb (v + 1) 1) 0 (getD links (v + 1) 0)
     → MarksPass lasts links nodes (v + 1) (set out v mark) (set due next end)
@@ -345,10 +358,14 @@ marks-turn lasts links nodes v out due end mark next h long less room e k q t m 
     let within : v + 1 ≤ nodeCount t = omega (arith, g .count) in
     let last-is = g .lasts-are (v + 1) (omega arith) within in
     let due-is = due-here t m due v (r .1) (omega (arith, g .count)) in
-    let end-here = e ∙ end-is (g .plan) (v + 1) (getD lasts (v + 1) 0) (getD due (v + 1) 0) (omega arith) within last-is due-is in
-    let mark-here = k ∙ mark-is (g .plan) (v + 1) (getD lasts (v + 1) 0) (getD due (v + 1) 0) (omega arith) within last-is due-is end e in (
+    let end-here =
+    e ∙ end-is (g .plan) (v + 1) (getD lasts (v + 1) 0) (getD due (v + 1) 0) (omega arith) within last-is due-is in
+    let mark-here =
+    k ∙ mark-is (g .plan) (v + 1) (getD lasts (v + 1) 0) (getD due (v + 1) 0) (omega arith) within last-is due-is end
+    e in (
       row (r .0) mark-here,
-      due-turn t m (g .plan .tree .sound) due v next end (r .1) long (omega (arith, g .count)) (g .plan .tree .sound .count-high)
+      due-turn t m (g .plan .tree .sound) due v next end (r .1) long (omega (arith, g .count))
+          (g .plan .tree .sound .count-high)
           (q ∙ g .links-are (v + 1) (omega arith) within) end-here,
     )
   where
@@ -359,32 +376,35 @@ marks-turn lasts links nodes v out due end mark next h long less room e k q t m 
         go true d =
             let same : u ≡ v + 1 = eqb-true u (v + 1) d in
             let place : u - 1 ≡ v = omega arith in
-            ap (λ j. getD (set out v mark) j 0) place ∙ getD-set-same out v mark 0 room ∙ here ∙ ap (markAt m) (sym same)
+            ap (λ j. getD (set out v mark) j 0) place ∙ getD-set-same out v mark 0 room ∙ here
+            ∙ ap (markAt m) (sym same)
         go false d =
             let other : u ≡ v + 1 → ⊥ = eqb-false u (v + 1) d in
             getD-set-other out v (u - 1) mark 0 (λ z. omega arith) ∙ old u low (omega arith)
 
 -- ---- The lasts, from the page records
 
-abbrev pub LastsPass : List ℕ → ℕ → List ℕ → Type 0
-LastsPass a q l = (t m : List ℕ) → Told a t m → LastRow t m q l
+abbrev pub LastsPass : Edition → List ℕ → ℕ → List ℕ → Type 0
+LastsPass e a q l = (t m : List ℕ) → WrittenBy e a t m → LastRow t m q l
 
-pub lasts-turn : (a l : List ℕ) (q first last pages : ℕ) → LastsPass a q l → length l ≡ slots → q < pages → pages ≡ fitted (pagesIn a)
-    → first ≡ fitted (pageFieldIn a (q + 1) 0) → last ≡ pageFieldIn a (q + 1) 1 → LastsPass a (q + 1) (set l first last)
-lasts-turn a l q first last pages h long less e f g t m w =
-    let within : q < pageCount t m = omega (arith, e, fitted-le (pagesIn a), told-pages w) in
-    let x = page-first t m (q + 1) (omega arith) (omega arith) in
-    let small : pageFieldIn a (q + 1) 0 < slots =
-    omega (arith, told-first w (q + 1) (x .0) (omega arith) (omega arith) (x .1), x .1 .high, w .plan .tree .sound .count-high) in
-    last-turn w l q first last (h t m w) long within (f ∙ fitted-same (pageFieldIn a (q + 1) 0) small) g
+module _ {e : Edition} (d : Described e) (a l : List ℕ) (q pages : ℕ) (h : LastsPass e a q l)
+    (is : pages ≡ fitted (pagesIn e a)) where
+  pub lasts-turn : (first last : ℕ) → length l ≡ slots → q < pages → first ≡ fitted (pageFieldIn e a (q + 1) 0)
+      → last ≡ pageFieldIn e a (q + 1) 1 → LastsPass e a (q + 1) (set l first last)
+  lasts-turn first last long less f g t m w =
+      let within : q < pageCount t m = omega (arith, is, fitted-le (pagesIn e a), by-pages d w) in
+      let x = page-first t m (q + 1) (omega arith) (omega arith) in
+      let small : pageFieldIn e a (q + 1) 0 < slots =
+      omega (
+        arith,
+        by-begin d w (q + 1) (x .0) (omega arith) (omega arith) (x .1),
+        x .1 .high,
+        w .plan .tree .sound .count-high,
+      ) in
+      last-turn w d l q first last (h t m w) long within (f ∙ fitted-same (pageFieldIn e a (q + 1) 0) small) g
 
-pub lasts-end : (a l : List ℕ) (q pages : ℕ) → LastsPass a q l → pages ≤ q → pages ≡ fitted (pagesIn a) → (t m : List ℕ) → Told a t m
-    → Lasts t m l
-lasts-end a l q pages h all e t m w =
-    last-end w l q (h t m w)
-    (omega (
-      arith,
-      e,
-      fitted-same (pagesIn a) (omega (arith, told-pages w, pageCount-le t m, w .plan .tree .sound .count-high)),
-      told-pages w,
-    ))
+  pub lasts-end : pages ≤ q → (t m : List ℕ) → WrittenBy e a t m → Lasts t m l
+  lasts-end all t m w =
+      let few : pagesIn e a < slots =
+      omega (arith, by-pages d w, pageCount-le t m, w .plan .tree .sound .count-high) in
+      last-end w l q (h t m w) (omega (arith, is, fitted-same (pagesIn e a) few, by-pages d w))

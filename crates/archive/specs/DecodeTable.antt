@@ -1,63 +1,65 @@
--- What the reader decodes: parents, links and the rows of the tree's table. What it decodes of an archive is the tree that the archive
--- tells.
--- Defines Told, Loaded, fitted, treeRow, treeUpto. Assumes nothing.
+-- What the reader decodes: parents, links and the rows of the tree's table. What it decodes of an archive is the tree
+-- that the archive tells.
+-- Defines WrittenBy, Loaded, fitted, treeRow, treeUpto. Assumes nothing.
 use Prim.Native.Nat.{ℕ, _+_, _-_, _*_, _≤_, _<_}
 use native.Mathlib.Omega.{arith}
-use native.Mathlib.Numerals.{add-one}
 use mathlib.Core.Bool.{Bool, true, false}
 use mathlib.Core.Path.{_≡_, refl, sym, _∙_, ap}
-use mathlib.Core.List.{List, [], _∷_, _++_}
+use mathlib.Core.List.{List, [], _∷_}
 use lib.ListN.{length, getD, set}
 use lib.Seq.{getD-set-same, getD-set-other}
 use lib.Dec.{eqb, ltb}
 use borrow.Author.Tests.{eqb-true, eqb-false, ltb-true, lt-ltb}
 use Rattle.model.specs.Basics.{pick, listTo}
-use Rattle.model.specs.Table.{bytesOf, nodeCount, limitOf, nextAt, slots}
+use Rattle.model.specs.Table.{bytesOf, nodeCount, nextAt, slots}
 use Rattle.model.specs.Plan.{parentAt, pageCount, runLast}
-use Rattle.model.specs.Archive.{archiveOf, pagesIn, pageFieldIn, nodeFieldIn, parentIn, firstIn, nextIn, tableIn, marksIn}
+use Rattle.model.specs.Archive.{archiveOf, nodesIn, limitIn, pagesIn, pageFieldIn, nodeFieldIn, parentIn, firstIn}
+use Rattle.model.specs.Archive.{nextIn}
+use Rattle.model.specs.Archive.{tableIn, marksIn}
 use Rattle.model.specs.Refusals.{isArchive}
-use Rattle.theory.specs.Ranges.{Upto, pick-true, pick-false, listTo-zero, listTo-suc, listTo-cong}
+use Rattle.model.specs.declared.Edition.{Edition}
+use Rattle.theory.specs.Ranges.{Upto, pick-true, pick-false, listTo-cong}
 use Rattle.theory.specs.TableLinks.{parentAt-less}
-use Rattle.theory.specs.ArchiveWords.{Page, length-fours, archive-nodes, archive-pages, archive-page, archive-parent}
-use Rattle.theory.specs.ArchiveBack.{Planned, feasible-planned, read-write, archive-next}
-use Rattle.archive.specs.Put.{putRecord, Starts, starts-record}
-use Rattle.archive.specs.Onward.{nextWith, Linked, nextWith-cong}
+use Rattle.theory.specs.PlanFeasible.{Judged, feasible-judged}
+use Rattle.theory.specs.PagesByNumber.{Page}
+use Rattle.theory.specs.Put.{length-recordsTo}
+use Rattle.theory.specs.ArchiveWords.{Described, archive-nodes, archive-pages, archive-parent}
+use Rattle.theory.specs.ArchiveBack.{read-write, archive-next, begin-back, end-back}
+use Rattle.archive.specs.Links.{nextWith, Linked, nextWith-cong}
 
 -- an archive, and the tree and the plan that write it
-pub record Told (a t m : List ℕ) : Type 0 where
-  pub plan : Planned t m
-  pub same : archiveOf t m ≡ a
+pub record WrittenBy (e : Edition) (a t m : List ℕ) : Type 0 where
+  pub plan : Judged t m
+  pub same : archiveOf e t m ≡ a
 
-pub told : (a : List ℕ) → isArchive a ≡ true → Told a (tableIn a) (marksIn a)
-told a e = let r = read-write a e in record { plan = feasible-planned (tableIn a) (marksIn a) (r .0); same = r .1 }
+pub written-by : (e : Edition) (a : List ℕ) → isArchive e a ≡ true → WrittenBy e a (tableIn e a) (marksIn e a)
+written-by e a y =
+    let r = read-write e a y in
+    record { plan = feasible-judged (tableIn e a) (marksIn e a) (r .feasible); same = r .same }
 
-module _ {a t m : List ℕ} (w : Told a t m) where
-  pub told-nodes : nodeCount a ≡ nodeCount t
-  told-nodes = ap nodeCount (sym (w .same)) ∙ archive-nodes t m
+module _ {e : Edition} (d : Described e) {a t m : List ℕ} (w : WrittenBy e a t m) where
+  pub by-nodes : nodesIn e a ≡ nodeCount t
+  by-nodes = ap (nodesIn e) (sym (w .same)) ∙ archive-nodes d t m
 
-  pub told-pages : pagesIn a ≡ pageCount t m
-  told-pages = ap pagesIn (sym (w .same)) ∙ archive-pages t m
+  pub by-pages : pagesIn e a ≡ pageCount t m
+  by-pages = ap (pagesIn e) (sym (w .same)) ∙ archive-pages d t m
 
-  told-parent : (v : ℕ) → 1 ≤ v → v ≤ nodeCount t → parentIn a v ≡ parentAt t v
-  told-parent v low high = ap (λ x. parentIn x v) (sym (w .same)) ∙ archive-parent t m v low high
+  by-parent : (v : ℕ) → 1 ≤ v → v ≤ nodeCount t → parentIn e a v ≡ parentAt t v
+  by-parent v low high = ap (λ x. parentIn e x v) (sym (w .same)) ∙ archive-parent d t m v low high
 
-  told-small : (v : ℕ) → 1 ≤ v → v ≤ nodeCount t → parentIn a v < slots
-  told-small v low high = omega (arith, told-parent v low high, parentAt-less t v low, w .plan .tree .sound .count-high)
+  by-small : (v : ℕ) → 1 ≤ v → v ≤ nodeCount t → parentIn e a v < slots
+  by-small v low high = omega (arith, by-parent v low high, parentAt-less t v low, w .plan .tree .sound .count-high)
 
-  told-next : (v : ℕ) → 1 ≤ v → v ≤ nodeCount t → nextIn a v ≡ nextAt t v
-  told-next v low high = ap (λ x. nextIn x v) (sym (w .same)) ∙ archive-next (w .plan) v low high
+  by-next : (v : ℕ) → 1 ≤ v → v ≤ nodeCount t → nextIn e a v ≡ nextAt t v
+  by-next v low high = ap (λ x. nextIn e x v) (sym (w .same)) ∙ archive-next d (w .plan) v low high
 
-  pub told-first : (q b : ℕ) → 1 ≤ q → q ≤ pageCount t m → Page t m q b → pageFieldIn a q 0 ≡ b
-  told-first q b low high r = ap (λ x. pageFieldIn x q 0) (sym (w .same)) ∙ archive-page t m q b 0 low high r (omega arith)
+  pub by-begin : (q b : ℕ) → 1 ≤ q → q ≤ pageCount t m → Page t m q b → pageFieldIn e a q 0 ≡ b
+  by-begin q b low high r = ap (λ x. pageFieldIn e x q 0) (sym (w .same)) ∙ begin-back d (w .plan) q b low high r
 
-  pub told-last : (q b : ℕ) → 1 ≤ q → q ≤ pageCount t m → Page t m q b → pageFieldIn a q 1 ≡ runLast t m b
-  told-last q b low high r = ap (λ x. pageFieldIn x q 1) (sym (w .same)) ∙ archive-page t m q b 1 low high r (omega arith)
+  pub by-end : (q b : ℕ) → 1 ≤ q → q ≤ pageCount t m → Page t m q b → pageFieldIn e a q 1 ≡ runLast t m b
+  by-end q b low high r = ap (λ x. pageFieldIn e x q 1) (sym (w .same)) ∙ end-back d (w .plan) q b low high r
 
 -- ---- Parents and links
-
--- the parents of the nodes 1 to v, where they fit
-abbrev pub Loaded : List ℕ → ℕ → List ℕ → Type 0
-Loaded a v l = Upto v (λ u. (getD l u 0 < slots) × (parentIn a u < slots → getD l u 0 ≡ parentIn a u))
 
 -- a number that fits, or 0
 unfoldable pub fitted : ℕ → ℕ
@@ -83,77 +85,70 @@ pub fitted-same : (x : ℕ) → x < slots → fitted x ≡ x
 unfolding fitted
 fitted-same x h = pick-true (ltb x slots) x 0 (lt-ltb x slots h)
 
-pub loaded-turn : (a l : List ℕ) (v x : ℕ) → Loaded a v l → length l ≡ slots → v + 1 < slots → x ≡ fitted (parentIn a (v + 1))
-    → Loaded a (v + 1) (set l (v + 1) x)
-loaded-turn a l v x h long less e u low high = go (eqb u (v + 1)) refl
+-- the parents of the nodes 1 to v, where they fit
+abbrev pub Loaded : Edition → List ℕ → ℕ → List ℕ → Type 0
+Loaded e a v l = Upto v (λ u. getD l u 0 ≡ fitted (parentIn e a u))
+
+pub loaded-turn : (e : Edition) (a l : List ℕ) (v x : ℕ) → Loaded e a v l → length l ≡ slots → v + 1 < slots
+    → x ≡ fitted (parentIn e a (v + 1)) → Loaded e a (v + 1) (set l (v + 1) x)
+loaded-turn e a l v x h long less is u low high = go (eqb u (v + 1)) refl
   where
-    go : (b : Bool) → eqb u (v + 1) ≡ b
-        → (getD (set l (v + 1) x) u 0 < slots) × (parentIn a u < slots → getD (set l (v + 1) x) u 0 ≡ parentIn a u)
+    go : (b : Bool) → eqb u (v + 1) ≡ b → getD (set l (v + 1) x) u 0 ≡ fitted (parentIn e a u)
     go true q =
         let same : u ≡ v + 1 = eqb-true u (v + 1) q in
-        let here : getD (set l (v + 1) x) u 0 ≡ x =
-        ap (λ j. getD (set l (v + 1) x) j 0) same ∙ getD-set-same l (v + 1) x 0 (omega arith) in (
-          omega (arith, here, e, fitted-small (parentIn a (v + 1))),
-          λ k. here ∙ e ∙ fitted-same (parentIn a (v + 1)) (rw same at k) ∙ ap (parentIn a) (sym same),
-        )
+        ap (λ j. getD (set l (v + 1) x) j 0) same ∙ getD-set-same l (v + 1) x 0 (omega arith)
+        ∙ is ∙ ap (λ j. fitted (parentIn e a j)) (sym same)
     go false q =
         let other : u ≡ v + 1 → ⊥ = eqb-false u (v + 1) q in
-        let old : getD (set l (v + 1) x) u 0 ≡ getD l u 0 = getD-set-other l (v + 1) u x 0 other in
-        let r = h u low (omega arith) in
-        (omega (arith, old, r .0), λ k. old ∙ r .1 k)
+        getD-set-other l (v + 1) u x 0 other ∙ h u low (omega arith)
 
 -- the links of the parents of an archive are its siblings
-pub told-links : {a t m : List ℕ} → Told a t m → (parents links : List ℕ) → Loaded a (nodeCount a) parents → Linked parents (nodeCount a) links
-    → (v : ℕ) → 1 ≤ v → v ≤ nodeCount a → pick (eqb v 1) 0 (getD links v 0) ≡ nextIn a v
-unfolding nextIn nextWith
-told-links {a} {t} {m} w parents links loaded linked v low high =
-    ap (pick (eqb v 1) 0)
-    (linked v low high
-    ∙ nextWith-cong (λ u. getD parents u 0) (parentIn a) (nodeCount a) v (getD parents v 0) (λ u one le. is u one le)
-    ∙ ap (nextWith (parentIn a) (nodeCount a) v) (is v low high))
-  where
-    is : (u : ℕ) → 1 ≤ u → u ≤ nodeCount a → getD parents u 0 ≡ parentIn a u
-    is u one le = loaded u one le .1 (told-small w u one (omega (arith, told-nodes w)))
+module _ {e : Edition} (d : Described e) {a t m : List ℕ} (w : WrittenBy e a t m) (parents links : List ℕ)
+    (loaded : Loaded e a (nodesIn e a) parents) (linked : Linked parents (nodesIn e a) links) where
+  pub links-in : (v : ℕ) → 1 ≤ v → v ≤ nodesIn e a → pick (eqb v 1) 0 (getD links v 0) ≡ nextIn e a v
+  unfolding nextIn nextWith
+  links-in v low high =
+      ap (pick (eqb v 1) 0)
+      (linked v low high
+      ∙ nextWith-cong (λ u. getD parents u 0) (parentIn e a) (nodesIn e a) v (getD parents v 0) is
+      ∙ ap (nextWith (parentIn e a) (nodesIn e a) v) (is v low high))
+    where
+      is : (u : ℕ) → 1 ≤ u → u ≤ nodesIn e a → getD parents u 0 ≡ parentIn e a u
+      is u one le = loaded u one le ∙ fitted-same (parentIn e a u) (by-small d w u one (omega (arith, by-nodes d w)))
 
--- for the marks: the link of node 1 is 0 too
-pub told-onward : {a t m : List ℕ} → Told a t m → (parents links : List ℕ) → Loaded a (nodeCount a) parents → Linked parents (nodeCount a) links
-    → (v : ℕ) → 1 ≤ v → v ≤ nodeCount a → pick (eqb v 1) 0 (getD links v 0) ≡ nextAt t v
-told-onward w parents links loaded linked v low high =
-    told-links w parents links loaded linked v low high ∙ told-next w v low (omega (arith, told-nodes w))
+  pub links-at : (v : ℕ) → 1 ≤ v → v ≤ nodesIn e a → pick (eqb v 1) 0 (getD links v 0) ≡ nextAt t v
+  links-at v low high = links-in v low high ∙ by-next d w v low (omega (arith, by-nodes d w))
 
 -- ---- The table
 
-unfoldable pub treeRow : List ℕ → List ℕ → ℕ → List ℕ
-treeRow a links v = nodeFieldIn a v 0 ∷ nodeFieldIn a v 1 ∷ firstIn a v ∷ pick (eqb v 1) 0 (getD links v 0) ∷ []
+unfoldable pub treeRow : Edition → List ℕ → List ℕ → ℕ → List ℕ
+treeRow e a links v =
+    nodeFieldIn e a v 0 ∷ nodeFieldIn e a v 1 ∷ firstIn e a v ∷ pick (eqb v 1) 0 (getD links v 0) ∷ []
 
-four-treeRow : (a l : List ℕ) (v : ℕ) → length (treeRow a l v) ≡ 4
+pub tree-wide : (e : Edition) (a l : List ℕ) (v : ℕ) → length (treeRow e a l v) ≡ 4
 unfolding treeRow
-four-treeRow a l v = refl
+tree-wide e a l v = refl
 
-unfoldable pub treeUpto : List ℕ → List ℕ → ℕ → List ℕ
-treeUpto a links v = nodeCount a ∷ limitOf a ∷ listTo v (treeRow a links)
+-- a record as it is put
+pub tree-row : (e : Edition) (a l : List ℕ) (v weight label first next : ℕ) → weight ≡ nodeFieldIn e a v 0
+    → label ≡ nodeFieldIn e a v 1 → first ≡ firstIn e a v → next ≡ pick (eqb v 1) 0 (getD l v 0)
+    → treeRow e a l v ≡ weight ∷ label ∷ first ∷ next ∷ []
+unfolding treeRow
+tree-row e a l v weight label first next p q r s = rw (p, q, r, s)
 
-pub length-treeUpto : (a l : List ℕ) (v : ℕ) → length (treeUpto a l v) ≡ 2 + 4 * v
+-- the head and the records of the nodes 1 to v
+unfoldable pub treeUpto : Edition → List ℕ → List ℕ → ℕ → List ℕ
+treeUpto e a links v = nodesIn e a ∷ limitIn e a ∷ listTo v (treeRow e a links)
+
+pub length-treeUpto : (e : Edition) (a l : List ℕ) (v : ℕ) → length (treeUpto e a l v) ≡ 2 + 4 * v
 unfolding treeUpto
-length-treeUpto a l v = omega (arith, length-fours (treeRow a l) (four-treeRow a l) v)
+length-treeUpto e a l v = omega (arith, length-recordsTo (treeRow e a l) 4 (tree-wide e a l) v)
 
-pub tree-start : (a l : List ℕ) → treeUpto a l 0 ≡ nodeCount a ∷ limitOf a ∷ []
-unfolding treeUpto
-tree-start a l = rw (listTo-zero (treeRow a l))
-
-pub tree-turn : (a l out out′ : List ℕ) (v i weight label first next : ℕ) → Starts out (treeUpto a l v) → i ≡ 2 + 4 * v → 2 * i + 8 ≤ length out
-    → out′ ≡ putRecord out i weight label first next → weight ≡ nodeFieldIn a (v + 1) 0 → label ≡ nodeFieldIn a (v + 1) 1
-    → first ≡ firstIn a (v + 1) → next ≡ pick (eqb (v + 1) 1) 0 (getD l (v + 1) 0) → Starts out′ (treeUpto a l (v + 1))
-unfolding treeUpto treeRow
-tree-turn a l out out′ v i weight label first next h at room e p q r s =
-    let more : listTo (v + 1) (treeRow a l) ≡ listTo v (treeRow a l) ++ treeRow a l (v + 1) = rw (add-one v) (listTo-suc v (treeRow a l)) in
-    let put = starts-record out (treeUpto a l v) i weight label first next h (omega (arith, length-treeUpto a l v)) room in
-    rw (e, more, ← p, ← q, ← r, ← s) put
-
-pub tree-told : (a l : List ℕ) → Upto (nodeCount a) (λ v. pick (eqb v 1) 0 (getD l v 0) ≡ nextIn a v)
-    → bytesOf (treeUpto a l (nodeCount a)) ≡ tableIn a
+pub tree-told : (e : Edition) (a l : List ℕ)
+    → Upto (nodesIn e a) (λ v. pick (eqb v 1) 0 (getD l v 0) ≡ nextIn e a v)
+    → bytesOf (treeUpto e a l (nodesIn e a)) ≡ tableIn e a
 unfolding treeUpto treeRow tableIn
-tree-told a l h =
-    ap (λ (r : List ℕ). bytesOf (nodeCount a ∷ limitOf a ∷ r))
-    (listTo-cong (nodeCount a) (treeRow a l) _
-    (λ v low high. ap (λ n. nodeFieldIn a v 0 ∷ nodeFieldIn a v 1 ∷ firstIn a v ∷ n ∷ []) (h v low high)))
+tree-told e a l h =
+    ap (λ (r : List ℕ). bytesOf (nodesIn e a ∷ limitIn e a ∷ r))
+    (listTo-cong (nodesIn e a) (treeRow e a l) _
+    (λ v low high. ap (λ n. nodeFieldIn e a v 0 ∷ nodeFieldIn e a v 1 ∷ firstIn e a v ∷ n ∷ []) (h v low high)))

@@ -1,8 +1,7 @@
 -- What the archive's code is written against.
 pub mod Size
-pub mod Put
-pub mod Onward
-pub mod Records
+pub mod Links
+pub mod RecordsOf
 pub mod Answers
-pub mod Decode
-pub mod Ends
+pub mod DecodeTable
+pub mod DecodeMarks

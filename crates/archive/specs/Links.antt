@@ -1,4 +1,5 @@
--- The next number with a key, and the pass from n down to 1 that finds it. Defines nextWith, Linked, Fit, Seen, LinkedFrom. Assumes nothing.
+-- The next number with a key, and the pass from n down to 1 that finds it. Defines nextWith, Linked, Fit, Seen,
+-- LinkedFrom. Assumes nothing.
 use Prim.Native.Nat.{ℕ, _-_, _≤_, _<_}
 use native.Mathlib.Omega.{arith}
 use mathlib.Core.Bool.{Bool, true, false, _&&_}
@@ -11,11 +12,12 @@ use lib.Dec.{eqb, ltb}
 use borrow.Author.Tests.{eqb-true, eqb-false, eq-eqb, ne-eqb, lt-ltb, le-ltb}
 use Rattle.model.specs.Basics.{atPlace, firstTo}
 use Rattle.theory.specs.Bools.{and-true, and-false-left, and-false-right}
-use Rattle.theory.specs.Ranges.{Upto, atPlace-at, atPlace-nowhere, place-cases, firstTo-none, firstTo-first, firstTo-cong, firstTo-at, order-cases}
+use Rattle.theory.specs.Ranges.{Upto, atPlace-at, atPlace-nowhere, firstTo-none, firstTo-first}
+use Rattle.theory.specs.Ranges.{firstTo-cong, order-cases}
 use Rattle.model.specs.Table.{slots}
+use Rattle.theory.specs.ArchiveBack.{found-small}
 use Rattle.judge.specs.Rows.{Row}
 use Rattle.model.specs.declared.Place.{Place}
-use Rattle.model.specs.declared.Place.the-variants.{At, Nowhere}
 
 -- the next of v + 1 to n that f gives the key k, or 0
 unfoldable pub nextWith : (ℕ → ℕ) → ℕ → ℕ → ℕ → ℕ
@@ -34,7 +36,8 @@ module _ (f : ℕ → ℕ) (n : ℕ) where
   unfolding nextWith
   nextWith-none k =
       atPlace-nowhere (firstTo n (λ u. ltb n u && eqb (f u) k)) (λ u. u) 0
-      (firstTo-none n (λ u. ltb n u && eqb (f u) k) (λ u low high. and-false-left (ltb n u) (eqb (f u) k) (le-ltb n u high)))
+      (firstTo-none n (λ u. ltb n u && eqb (f u) k)
+      (λ u low high. and-false-left (ltb n u) (eqb (f u) k) (le-ltb n u high)))
 
   nextWith-here : (v : ℕ) → 1 ≤ v → v ≤ n → nextWith f n (v - 1) (f v) ≡ v
   unfolding nextWith
@@ -52,7 +55,8 @@ module _ (f : ℕ → ℕ) (n : ℕ) where
   unfolding nextWith
   nextWith-skip v k low other =
       ap (λ (o : Place). atPlace o (λ u. u) 0)
-      (firstTo-cong n (λ u. ltb (v - 1) u && eqb (f u) k) (λ u. ltb v u && eqb (f u) k) (λ u a b. same u (order-cases u v)))
+      (firstTo-cong n (λ u. ltb (v - 1) u && eqb (f u) k) (λ u. ltb v u && eqb (f u) k)
+      (λ u a b. same u (order-cases u v)))
     where
       same : (u : ℕ) → (u < v) ⊎ ((u ≡ v) ⊎ (v < u)) → (ltb (v - 1) u && eqb (f u) k) ≡ (ltb v u && eqb (f u) k)
       same u (inl h) = ap (λ b. b && eqb (f u) k) (le-ltb (v - 1) u (omega arith) ∙ sym (le-ltb v u (omega arith)))
@@ -63,24 +67,15 @@ module _ (f : ℕ → ℕ) (n : ℕ) where
 
   pub nextWith-le : (v k : ℕ) → nextWith f n v k ≤ n
   unfolding nextWith
-  nextWith-le v k = go (place-cases (firstTo n (λ u. ltb v u && eqb (f u) k)))
-    where
-      go : ((u : ℕ) × (firstTo n (λ u. ltb v u && eqb (f u) k) ≡ At u)) ⊎ (firstTo n (λ u. ltb v u && eqb (f u) k) ≡ Nowhere)
-          → atPlace (firstTo n (λ u. ltb v u && eqb (f u) k)) (λ u. u) 0 ≤ n
-      go (inl x) =
-          omega (
-            arith,
-            atPlace-at (firstTo n (λ u. ltb v u && eqb (f u) k)) (x .0) (λ u. u) 0 (x .1),
-            firstTo-at n (x .0) (λ u. ltb v u && eqb (f u) k) (x .1) .high,
-          )
-      go (inr e) = omega (arith, atPlace-nowhere (firstTo n (λ u. ltb v u && eqb (f u) k)) (λ u. u) 0 e)
+  nextWith-le v k = found-small n (λ u. ltb v u && eqb (f u) k)
 
 -- keys that agree
 pub nextWith-cong : (f g : ℕ → ℕ) (n v k : ℕ) → Upto n (λ u. f u ≡ g u) → nextWith f n v k ≡ nextWith g n v k
 unfolding nextWith
 nextWith-cong f g n v k h =
     ap (λ (o : Place). atPlace o (λ u. u) 0)
-    (firstTo-cong n (λ u. ltb v u && eqb (f u) k) (λ u. ltb v u && eqb (g u) k) (λ u a b. ap (λ x. ltb v u && eqb x k) (h u a b)))
+    (firstTo-cong n (λ u. ltb v u && eqb (f u) k) (λ u. ltb v u && eqb (g u) k)
+    (λ u a b. ap (λ x. ltb v u && eqb x k) (h u a b)))
 
 -- ---- The pass: what was seen of each key after v, and the links of the numbers after v
 
@@ -97,7 +92,8 @@ module _ (f : ℕ → ℕ) (n : ℕ) where
   pub linked-start : (l : List ℕ) → LinkedFrom f n n l
   linked-start l u low high = absurd (omega arith)
 
-  pub seen-turn : (l : List ℕ) (v : ℕ) → Seen f n v l → length l ≡ slots → 1 ≤ v → v ≤ n → f v < slots → Seen f n (v - 1) (set l (f v) v)
+  pub seen-turn : (l : List ℕ) (v : ℕ) → Seen f n v l → length l ≡ slots → 1 ≤ v → v ≤ n → f v < slots
+      → Seen f n (v - 1) (set l (f v) v)
   seen-turn l v h long low high fits k within = go (eqb k (f v)) refl
     where
       go : (b : Bool) → eqb k (f v) ≡ b → getD (set l (f v) v) k 0 ≡ nextWith f n (v - 1) k
@@ -116,7 +112,8 @@ module _ (f : ℕ → ℕ) (n : ℕ) where
       go : (b : Bool) → eqb u v ≡ b → getD (set l v (getD s (f v) 0)) u 0 ≡ nextWith f n u (f u)
       go true e =
           let same : u ≡ v = eqb-true u v e in
-          ap (λ j. getD (set l v (getD s (f v) 0)) j 0) same ∙ getD-set-same l v (getD s (f v) 0) 0 fits ∙ seen (f v) key
+          ap (λ j. getD (set l v (getD s (f v) 0)) j 0) same ∙ getD-set-same l v (getD s (f v) 0) 0 fits
+          ∙ seen (f v) key
           ∙ ap (λ j. nextWith f n j (f j)) (sym same)
       go false e =
           let other : u ≡ v → ⊥ = eqb-false u v e in

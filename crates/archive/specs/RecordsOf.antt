@@ -1,136 +1,142 @@
--- The words of an archive as the writer puts them: the head, the page records of the runs begun up to a node, and the node records.
--- Defines headWords, runsUpto, pagesUpto, nodeRow, NodesPut. Proves all-put: these words are the archive. Assumes nothing.
-use Prim.Native.Nat.{ℕ, suc, _+_, _-_, _*_, _≤_}
+-- The page and node records of an archive as the writer puts them, from the arrays of a layout; and that head and
+-- records so put are the archive.
+-- Defines pageRow, nodeRow. Proves head-put, all-put, next-of-page, page-fits. Assumes nothing.
+use Prim.Native.Nat.{ℕ, _+_, _-_, _*_, _≤_, _<_}
 use native.Mathlib.Omega.{arith}
-use native.Mathlib.Numerals.{add-one}
-use mathlib.Core.Bool.{true, false}
-use mathlib.Core.Path.{_≡_, refl, sym, _∙_, ap}
-use mathlib.Core.List.{List, [], _∷_, _++_, append-assoc, append-nil}
+use native.Mathlib.Nat.{mul-le-mul-left}
+use mathlib.Core.Path.{_≡_, refl, sym, _∙_, ap, ap₂}
+use mathlib.Core.List.{List, [], _∷_, _++_}
 use lib.ListN.{length, getD, length-append}
-use Rattle.model.specs.Basics.{pick, countTo, listTo}
+use Rattle.model.specs.Basics.{listTo}
 use Rattle.model.specs.Table.{nodeCount, limitOf, weightAt, labelAt}
-use Rattle.model.specs.Plan.{begins, hasMark, parentAt, pageCount, pageWeight, runLast}
-use Rattle.model.specs.Runs.{Run, runsOf}
-use Rattle.model.specs.Archive.{nextPage, pageRecords, nextOnPage, nodeRecord, archiveOf, archiveBytes}
-use Rattle.theory.specs.Ranges.{Upto, listTo-zero, listTo-suc, listTo-cong}
-use Rattle.theory.specs.Chosen.{chosen, chosen-yes, chosen-no, length-chosen}
-use Rattle.theory.specs.RunsMarked.{planRun}
-use Rattle.theory.specs.ArchiveWords.{pageRow, length-pageRecords, pageRecords-snoc, length-fours}
+use Rattle.model.specs.Plan.{parentAt, pageOf, pageCount, pageWeight}
+use Rattle.model.specs.Runs.{pageRun}
+use Rattle.model.specs.Archive.{headWords, nextPage, pageRecord, nextOnPage, nodeRecord, archiveOf, archiveBytes}
+use Rattle.model.specs.declared.Edition.{Edition}
+use Rattle.theory.specs.Ranges.{listTo-cong}
+use Rattle.theory.specs.TableFacts.{AcceptedFacts}
+use Rattle.theory.specs.PlanPass.{pageOf-le}
+use Rattle.theory.specs.Put.{putWord, length-putWord, Starts, starts-none, starts-word, starts-all, RecordsPut}
+use Rattle.theory.specs.Put.{length-recordsTo}
+use Rattle.theory.specs.ArchiveWords.{Described, length-nodeRecord}
 use Rattle.judge.specs.Rows.{Row}
-use Rattle.archive.specs.Put.{putRecord, Starts, starts-record, starts-all}
+use Rattle.archive.specs.Links.{nextWith, Linked, Fit, nextWith-cong}
 
-unfoldable pub headWords : List ℕ → List ℕ → List ℕ
-headWords t m = nodeCount t ∷ limitOf t ∷ pageCount t m ∷ []
+-- ---- The head
 
--- the runs begun by the nodes 1 to n
-abbrev pub runsUpto : List ℕ → List ℕ → ℕ → List Run
-runsUpto t m n = chosen (hasMark m begins) (planRun t m) n
+-- the three words of the first edition's head
+pub head-put : {e : Edition} → Described e → (t m o o′ : List ℕ) (n k p : ℕ)
+    → o′ ≡ putWord (putWord (putWord o (e .head - 3) n) (e .head - 2) k) (e .head - 1) p
+    → n ≡ nodeCount t → k ≡ limitOf t → p ≡ pageCount t m → 2 * e .head ≤ length o → Starts o′ (headWords e t m)
+unfolding headWords
+head-put {e} d t m o o′ n k p at n-is k-is p-is room =
+    let three : e .head ≡ 3 = sym (d .head t m) in
+    let o₁ : List ℕ = putWord o 0 n in
+    let o₂ : List ℕ = putWord o₁ 1 k in
+    let l₁ : length o₁ ≡ length o = length-putWord o 0 n in
+    let l₂ : length o₂ ≡ length o₁ = length-putWord o₁ 1 k in
+    let s₁ = starts-word o [] 0 n (starts-none o) refl (omega arith) in
+    let s₂ = starts-word o₁ (n ∷ []) 1 k s₁ refl (omega arith) in
+    let s₃ = starts-word o₂ (n ∷ k ∷ []) 2 p s₂ refl (omega arith) in
+    rw (at, three, ← n-is, ← k-is, ← p-is) s₃
 
--- the head and the records of their pages
-unfoldable pub pagesUpto : List ℕ → List ℕ → ℕ → List ℕ
-pagesUpto t m n = headWords t m ++ pageRecords t m 1 (runsUpto t m n)
+-- ---- Page records
 
-module _ (t m : List ℕ) where
-  pub length-pagesUpto : (n : ℕ) → length (pagesUpto t m n) ≡ 3 + 4 * countTo n (hasMark m begins)
-  unfolding pagesUpto headWords
-  length-pagesUpto n =
-      omega (
-        arith,
-        length-pageRecords t m 1 (runsUpto t m n),
-        length-chosen (hasMark m begins) (planRun t m) n,
-      )
+-- page p's record, with its first node, last sibling and weight from three lists
+unfoldable pub pageRow : List ℕ → List ℕ → List ℕ → ℕ → ℕ → List ℕ
+pageRow firsts lasts weights pages p =
+    getD firsts p 0 ∷ getD lasts p 0 ∷ getD weights p 0 ∷ nextPage p pages ∷ []
 
-  pub pages-start : pagesUpto t m 0 ≡ headWords t m
-  unfolding pagesUpto pageRecords
-  pages-start =
-      ap (λ (rs : List Run). headWords t m ++ pageRecords t m 1 rs)
-      (listTo-zero (λ v. pick (hasMark m begins v) (planRun t m v ∷ []) []))
-      ∙ append-nil (headWords t m)
+pub page-wide : {e : Edition} → Described e → (firsts lasts weights : List ℕ) (pages p : ℕ)
+    → length (pageRow firsts lasts weights pages p) ≡ e .page
+unfolding pageRow pageRecord
+page-wide d firsts lasts weights pages p = d .page [] [] p
 
-  pub pages-no : (v : ℕ) → hasMark m begins (v + 1) ≡ false → pagesUpto t m (v + 1) ≡ pagesUpto t m v
-  unfolding pagesUpto
-  pages-no v e =
-      rw (add-one v)
-      (ap (λ (rs : List Run). headWords t m ++ pageRecords t m 1 rs)
-      (chosen-no (hasMark m begins) (planRun t m) v (rw (add-one v) at e)))
+-- a record as it is put
+pub page-row : (firsts lasts weights : List ℕ) (pages p after : ℕ) → after ≡ nextPage p pages
+    → pageRow firsts lasts weights pages p ≡ getD firsts p 0 ∷ getD lasts p 0 ∷ getD weights p 0 ∷ after ∷ []
+unfolding pageRow
+page-row firsts lasts weights pages p after is = rw is
 
-  pub pages-yes : (v : ℕ) → hasMark m begins (v + 1) ≡ true
-      → pagesUpto t m (v + 1)
-      ≡ pagesUpto t m v
-      ++ ((v + 1) ∷ runLast t m (v + 1) ∷ pageWeight t m (countTo v (hasMark m begins) + 1)
-      ∷ nextPage (countTo v (hasMark m begins) + 1) (pageCount t m) ∷ [])
-  unfolding pagesUpto pageRow
-  pages-yes v e = rw (add-one v) (named ∙ sym (append-assoc (headWords t m) (pageRecords t m 1 (runsUpto t m v)) _))
-    where
-      r : Run
-      r = planRun t m (suc v)
-
-      n : ℕ
-      n = countTo v (hasMark m begins)
-
-      place : 1 + length (runsUpto t m v) ≡ n + 1
-      place = omega (arith, length-chosen (hasMark m begins) (planRun t m) v)
-
-      named : headWords t m ++ pageRecords t m 1 (runsUpto t m (suc v))
-          ≡ headWords t m ++ (pageRecords t m 1 (runsUpto t m v) ++ pageRow t m (n + 1) r)
-      named =
-          ap (λ (l : List ℕ). headWords t m ++ l)
-          (ap (pageRecords t m 1) (chosen-yes (hasMark m begins) (planRun t m) v (rw (add-one v) at e))
-          ∙ pageRecords-snoc t m 1 (runsUpto t m v) r
-          ∙ ap (λ q. pageRecords t m 1 (runsUpto t m v) ++ pageRow t m q r) place)
+-- there is room for page record p + 1
+pub page-room : {e : Edition} → Described e → (pages p i long : ℕ) → p < pages → i ≡ e .head + e .page * p
+    → archiveBytes e pages 0 ≤ long → 2 * i + 8 ≤ long
+page-room {e} d pages p i long less at room =
+    let next : p + 1 ≤ pages = omega arith in omega (arith, d .page-low, mul-le-mul-left (e .page) next)
 
 -- ---- Node records
 
--- a node's record, with the parent and the next node of its page from two lists
+-- node v's record, with its parent and the next node of its page from two lists
 unfoldable pub nodeRow : List ℕ → List ℕ → List ℕ → ℕ → List ℕ
 nodeRow t parents onward v = weightAt t v ∷ labelAt t v ∷ getD parents v 0 ∷ getD onward v 0 ∷ []
 
-four-nodeRow : (t p o : List ℕ) (v : ℕ) → length (nodeRow t p o v) ≡ 4
+pub node-wide : (t parents onward : List ℕ) (v : ℕ) → length (nodeRow t parents onward v) ≡ 4
 unfolding nodeRow
-four-nodeRow t p o v = refl
+node-wide t parents onward v = refl
 
--- the words ws, put before, and the records of the nodes 1 to v
-abbrev pub NodesPut : List ℕ → List ℕ → List ℕ → ℕ → ℕ → List ℕ → List ℕ → Type 0
-NodesPut t p o pages v start out =
-    (ws : List ℕ) → length ws ≡ 3 + 4 * pages → Starts start ws → Starts out (ws ++ listTo v (nodeRow t p o))
+-- a record as it is put
+pub node-row : (t parents onward : List ℕ) (v weight label : ℕ) → weight ≡ weightAt t v → label ≡ labelAt t v
+    → nodeRow t parents onward v ≡ weight ∷ label ∷ getD parents v 0 ∷ getD onward v 0 ∷ []
+unfolding nodeRow
+node-row t parents onward v weight label weight-is label-is = rw (weight-is, label-is)
 
-module _ (t p o : List ℕ) where
-  pub nodes-start : (pages : ℕ) (out : List ℕ) → NodesPut t p o pages 0 out out
-  nodes-start pages out ws long h = rw (listTo-zero (nodeRow t p o), append-nil ws) h
+-- ---- The whole archive
 
-  pub nodes-turn : (pages v i : ℕ) (start out : List ℕ) → NodesPut t p o pages v start out → i ≡ 3 + 4 * pages + 4 * v
-      → 2 * i + 8 ≤ length out
-      → NodesPut t p o pages (v + 1) start
-      (putRecord out i (weightAt t (v + 1)) (labelAt t (v + 1)) (getD p (v + 1) 0) (getD o (v + 1) 0))
-  unfolding nodeRow
-  nodes-turn pages v i start out h at room ws long begun =
-      let more : listTo (v + 1) (nodeRow t p o) ≡ listTo v (nodeRow t p o) ++ nodeRow t p o (v + 1) = rw (add-one v) (listTo-suc v (nodeRow t p o)) in
-      let s = starts-record out (ws ++ listTo v (nodeRow t p o)) i (weightAt t (v + 1)) (labelAt t (v + 1)) (getD p (v + 1) 0) (getD o (v + 1) 0)
-      (h ws long begun)
-      (omega (arith, length-append ws (listTo v (nodeRow t p o)), length-fours (nodeRow t p o) (four-nodeRow t p o) v))
-      room in
-      rw (more, ← append-assoc ws (listTo v (nodeRow t p o)) (nodeRow t p o (v + 1))) s
+module _ {e : Edition} (d : Described e) (t m : List ℕ) where
+  -- head, page records and node records, put one after the other from rows that are those of the tree and the plan
+  pub all-put : (firsts lasts weights parents onward : List ℕ) (pages : ℕ) → pages ≡ pageCount t m
+      → Row (pageCount t m) (λ p. pageRun t m p .first) firsts → Row (pageCount t m) (λ p. pageRun t m p .last) lasts
+      → Row (pageCount t m) (pageWeight t m) weights → Row (nodeCount t) (parentAt t) parents
+      → Row (nodeCount t) (nextOnPage t m) onward
+      → (o₁ o₂ o₃ : List ℕ) → Starts o₁ (headWords e t m)
+      → RecordsPut (pageRow firsts lasts weights pages) (e .head) pages o₁ o₂
+      → RecordsPut (nodeRow t parents onward) (e .head + e .page * pages) (nodeCount t) o₂ o₃
+      → length o₃ ≡ archiveBytes e pages (nodeCount t) → o₃ ≡ archiveOf e t m
+  unfolding archiveOf
+  all-put firsts lasts weights parents onward pages is firsts-are lasts-are weights-are parents-are onward-are o₁ o₂ o₃
+      h p n long =
+      starts-all o₃ (front ++ listTo (nodeCount t) (nodeRecord t m)) (rw nodes-same at (n front words begun))
+      (omega (
+        arith,
+        length-append front (listTo (nodeCount t) (nodeRecord t m)),
+        words,
+        length-recordsTo (nodeRecord t m) 4 (length-nodeRecord t m) (nodeCount t),
+      ))
+    where
+      front : List ℕ
+      front = headWords e t m ++ listTo (pageCount t m) (pageRecord e t m)
 
--- all words: the archive
-pub all-put : (t m p o out : List ℕ) → Row (nodeCount t) (parentAt t) p
-    → Row (nodeCount t) (nextOnPage t m) o → length out ≡ archiveBytes (pageCount t m) (nodeCount t)
-    → Starts out (pagesUpto t m (nodeCount t) ++ listTo (nodeCount t) (nodeRow t p o)) → out ≡ archiveOf t m
-unfolding archiveOf pagesUpto headWords runsOf
-all-put t m p o out parents onward long h =
-    let same : listTo (nodeCount t) (nodeRow t p o) ≡ listTo (nodeCount t) (nodeRecord t m) =
-    listTo-cong (nodeCount t) (nodeRow t p o) (nodeRecord t m) row in
-    let s = rw same at h in
-    starts-all out (pagesUpto t m (nodeCount t) ++ listTo (nodeCount t) (nodeRecord t m)) s
-    (omega (arith, ap (λ l. length (pagesUpto t m (nodeCount t) ++ l)) same, words))
-  where
-    row : Upto (nodeCount t) (λ v. nodeRow t p o v ≡ nodeRecord t m v)
-    row v low high = unfold nodeRow nodeRecord in rw (parents v low high, onward v low high)
+      pages-same : listTo pages (pageRow firsts lasts weights pages) ≡ listTo (pageCount t m) (pageRecord e t m)
+      pages-same =
+          ap (λ k. listTo k (pageRow firsts lasts weights k)) is
+          ∙ listTo-cong (pageCount t m) (pageRow firsts lasts weights (pageCount t m)) (pageRecord e t m)
+          (λ q low high. unfold pageRow pageRecord in
+          rw (firsts-are q low high, lasts-are q low high, weights-are q low high))
 
-    words : length (pagesUpto t m (nodeCount t) ++ listTo (nodeCount t) (nodeRow t p o)) ≡ 3 + 4 * pageCount t m + 4 * nodeCount t
-    words = unfold pageCount in
-        omega (
-          arith,
-          length-append (pagesUpto t m (nodeCount t)) (listTo (nodeCount t) (nodeRow t p o)),
-          length-pagesUpto t m (nodeCount t),
-          length-fours (nodeRow t p o) (four-nodeRow t p o) (nodeCount t),
-        )
+      nodes-same : listTo (nodeCount t) (nodeRow t parents onward) ≡ listTo (nodeCount t) (nodeRecord t m)
+      nodes-same =
+          listTo-cong (nodeCount t) (nodeRow t parents onward) (nodeRecord t m)
+          (λ v low high. unfold nodeRow nodeRecord in rw (parents-are v low high, onward-are v low high))
+
+      words : length front ≡ e .head + e .page * pages
+      words =
+          length-append (headWords e t m) (listTo (pageCount t m) (pageRecord e t m))
+          ∙ ap₂ _+_ (d .head t m)
+          (length-recordsTo (pageRecord e t m) (e .page) (d .page t m) (pageCount t m) ∙ ap (_*_ (e .page)) (sym is))
+
+      begun : Starts o₂ front
+      begun = rw pages-same at (p (headWords e t m) (d .head t m) h)
+
+-- the next node of the same page, from the pages of the nodes
+pub next-of-page : (t m page onward : List ℕ) (n : ℕ) → n ≡ nodeCount t → Row (nodeCount t) (pageOf t m) page
+    → Linked page n onward → Row (nodeCount t) (nextOnPage t m) onward
+unfolding nextWith nextOnPage
+next-of-page t m page onward n n-is row h v low high =
+    h v low (omega arith)
+    ∙ ap (λ k. nextWith (λ u. getD page u 0) k v (getD page v 0)) n-is
+    ∙ nextWith-cong (λ u. getD page u 0) (pageOf t m) (nodeCount t) v (getD page v 0) row
+    ∙ ap (nextWith (pageOf t m) (nodeCount t) v) (row v low high)
+
+pub page-fits : {t : List ℕ} → AcceptedFacts t → (m page : List ℕ) → Row (nodeCount t) (pageOf t m) page
+    → Fit (nodeCount t) page
+page-fits {t} a m page row v low high = omega (arith, row v low high, pageOf-le t m v, a .sound .count-high)

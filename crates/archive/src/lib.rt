@@ -1,8 +1,7 @@
-// The archive: its writer and its reader. Refusals 12 and 13.
+// The archive: its writer and its reader, in an edition. Refusals 12 and 13.
 mod decode;
 pub mod fields;
-mod onward;
-mod put;
+mod links;
 mod read;
 mod records;
 pub mod size;

@@ -1,9 +1,9 @@
-// The next number with the same key, for each number: the next node of the same page, and the next node with the same parent. One pass
-// from the last number to the first keeps the last one seen of each key.
+// The next number with the same key, for each number: the next node of the same page, and the next node with the same
+// parent. One pass from the last number to the first keeps the last one seen of each key.
 use table::SLOTS;
 ghost use Prim.Native.Nat.{_<_};
 ghost use Rattle.model.specs.Table.{slots};
-ghost use Rattle.archive.specs.Onward.{Linked, Fit};
+ghost use Rattle.archive.specs.Links.{Linked, Fit};
 
 pub fn link_next(keys: &[u16; SLOTS], nodes: u16) -> [u16; SLOTS]
     requires { ⌜ (nodes < slots) × Fit nodes (now keys) ⌝ }

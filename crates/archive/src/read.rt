@@ -1,18 +1,25 @@
-// The archive's reader. It decodes a tree and a plan, has the writer write them, and accepts where that gives the very same bytes.
+// The archive's reader. It decodes a tree and a plan, has the writer write them, and accepts where that gives the very
+// same bytes.
 use crate::decode::decode;
+use crate::fields::nodes_in;
 use crate::size::MOST_BYTES;
 use crate::size::MOST_NODES;
 use crate::size::MOST_TABLE;
-use crate::write::write_archive;
+use crate::size::first_edition;
+use crate::write::write_edition;
 use model::Answer;
+use model::Edition;
+use table::read_tree;
 use table::refuse;
 use table::table_bytes;
-use table::words::node_count;
 ghost use mathlib.Core.Path.{_≡_};
+ghost use Prim.Native.Nat.{_≤_};
 ghost use lib.ListN.{length};
 ghost use Rattle.model.specs.Basics.{sameList};
+ghost use Rattle.model.specs.Archive.{firstEdition, nodesIn};
 ghost use Rattle.model.specs.Refusals.{readArchive};
 ghost use Rattle.model.specs.Demand.{ReadPromise};
+ghost use Rattle.archive.specs.Size.{InRoom};
 ghost use Rattle.archive.specs.Answers.{restored, CopyJudged};
 
 // Whether two strings of bytes are the same.
@@ -44,16 +51,19 @@ fn copy_bytes(from: &[u8], to: &mut [u8])
     }
 }
 
-// The writer's answer where it writes this archive of the tree and the plan, and else 13.
-fn judge_copy(archive: &[u8], tree: &[u8], plan: &[u8]) -> Answer
-    ensures { λ r. ⌜ CopyJudged (now (archive .entry)) (now (tree .entry)) (now (plan .entry)) r ⌝ }
+// The writer's answer where it writes this archive of the tree and the plan, and else 13. It goes on from the answer of
+// what judges the tree here.
+fn judge_copy(e: Edition, archive: &[u8], tree: &[u8], plan: &[u8]) -> Answer
+    requires { ⌜ InRoom e × (nodesIn e (now archive) ≤ e .most) ⌝ }
+    ensures { λ r. ⌜ CopyJudged e (now (archive .entry)) (now (tree .entry)) (now (plan .entry)) r ⌝ }
 {
     let size = archive.len();
     if MOST_BYTES < size {
         return refuse(13, 0);
     }
     let mut copy = [0u8; MOST_BYTES];
-    let answer = write_archive(tree, plan, &mut copy[..size]);
+    let judged = read_tree(tree);
+    let answer = write_edition(e, judged, tree, plan, &mut copy[..size]);
     if answer.number != 0 {
         return refuse(13, 0);
     }
@@ -63,22 +73,23 @@ fn judge_copy(archive: &[u8], tree: &[u8], plan: &[u8]) -> Answer
     refuse(13, 0)
 }
 
-// Entry: the archive reader. 13, then 12, then 8. What was written reads back, and what is read is what writing gives.
-pub fn read_archive(archive: &[u8], table: &mut [u8], marks: &mut [u8]) -> Answer
-    ensures { λ r. ⌜ restored r (now (table .exit)) (now (marks .exit)) ≡ readArchive (now (archive .entry)) (now (table .entry)) (now (marks .entry)) ⌝ }
-    ensures { λ r. ⌜ ReadPromise (now (archive .entry)) (now (table .entry)) (now (marks .entry)) r (now (table .exit)) (now (marks .exit)) ⌝ }
+// The reader of an edition: 13, then 12, then 8.
+fn read_edition(e: Edition, archive: &[u8], table: &mut [u8], marks: &mut [u8]) -> Answer
+    requires { ⌜ InRoom e ⌝ }
+    ensures { λ r. ⌜ restored r (now (table .exit)) (now (marks .exit))
+        ≡ readArchive e (now (archive .entry)) (now (table .entry)) (now (marks .entry)) ⌝ }
 {
-    let nodes = node_count(archive);
-    let count = nodes as usize;
-    if MOST_NODES < count {
+    let nodes = nodes_in(e, archive);
+    if e.most < nodes {
         return refuse(13, 0);
     }
+    let count = nodes as usize;
     let mut tree = [0u8; MOST_TABLE];
     let mut plan = [0u8; MOST_NODES];
-    decode(archive, &mut tree, &mut plan);
+    decode(e, archive, &mut tree, &mut plan);
     let size = table_bytes(nodes);
     let bytes = size as usize;
-    let answer = judge_copy(archive, &tree[..bytes], &plan[..count]);
+    let answer = judge_copy(e, archive, &tree[..bytes], &plan[..count]);
     if answer.number != 0 {
         return answer;
     }
@@ -91,4 +102,14 @@ pub fn read_archive(archive: &[u8], table: &mut [u8], marks: &mut [u8]) -> Answe
     copy_bytes(&tree[..bytes], table);
     copy_bytes(&plan[..count], marks);
     answer
+}
+
+// Entry: the archive reader. What was written reads back, and what is read is what writing gives.
+pub fn read_archive(archive: &[u8], table: &mut [u8], marks: &mut [u8]) -> Answer
+    ensures { λ r. ⌜ restored r (now (table .exit)) (now (marks .exit))
+        ≡ readArchive firstEdition (now (archive .entry)) (now (table .entry)) (now (marks .entry)) ⌝ }
+    ensures { λ r. ⌜ ReadPromise firstEdition (now (archive .entry)) (now (table .entry)) (now (marks .entry))
+        r (now (table .exit)) (now (marks .exit)) ⌝ }
+{
+    read_edition(first_edition(), archive, table, marks)
 }

@@ -1,44 +1,31 @@
-// The page records and the node records of an archive, put into an output of its length.
-use crate::put::put_record;
-use judge::marks::mark_at;
+// The head, the page records and the node records of an archive, put into an output of its length.
+use model::Edition;
 use table::SLOTS;
+use table::put::put_record;
+use table::put::put_word;
 use table::words::label_at;
-use table::words::next_at;
 use table::words::node_count;
 use table::words::weight_at;
 ghost use mathlib.Core.Path.{_≡_};
-ghost use mathlib.Core.Bool.{_&&_, not};
-ghost use Prim.Native.Nat.{_≤_, _<_};
-ghost use lib.Dec.{eqb};
-ghost use lib.ListN.{length};
+ghost use Prim.Native.Nat.{_+_, _-_, _*_, _≤_, _<_};
+ghost use lib.ListN.{length, getD};
 ghost use Rattle.model.specs.Table.{nodeCount, slots};
-ghost use Rattle.model.specs.Plan.{hasMark, continues, runLast, pageCount, pageWeight};
 ghost use Rattle.model.specs.Archive.{nextPage, archiveBytes};
-ghost use Rattle.theory.specs.TableFacts.{SoundFacts};
-ghost use Rattle.theory.specs.ArchiveBack.{Planned};
-ghost use Rattle.judge.specs.Rows.{Row};
-ghost use Rattle.archive.specs.Put.{Starts};
-ghost use Rattle.archive.specs.Records.{headWords, pagesUpto, NodesPut};
+ghost use Rattle.theory.specs.Ranges.{Upto};
+ghost use Rattle.theory.specs.Put.{putWord, RecordsPut};
+ghost use Rattle.archive.specs.Size.{InRoom};
+ghost use Rattle.archive.specs.RecordsOf.{pageRow, nodeRow};
 
-// Whether a link leads on along a run.
-fn leads_on(marks: &[u8], next: u16) -> bool
-    ensures { λ r. ⌜ r ≡ (not (eqb next 0) && hasMark (now (marks .entry)) continues next) ⌝ }
+// N, K and P, the last three words of the head.
+pub fn put_head(e: Edition, nodes: u16, limit: u16, pages: u16, out: &mut [u8])
+    requires { ⌜ InRoom e ⌝ }
+    ensures { λ r. ⌜ now (out .exit)
+        ≡ putWord (putWord (putWord (now (out .entry)) (e .head - 3) nodes) (e .head - 2) limit) (e .head - 1) pages ⌝ }
 {
-    (next != 0) & (mark_at(marks, next) == 2)
-}
-
-// The last sibling of the run that node v is in.
-fn find_last(table: &[u8], marks: &[u8], v: u16) -> u16
-    requires { ⌜ SoundFacts (now table) × (1 ≤ v) × (v ≤ nodeCount (now table)) ⌝ }
-    ensures { λ r. ⌜ r ≡ runLast (now (table .entry)) (now (marks .entry)) v ⌝ }
-{
-    let mut last = v;
-    let mut next = next_at(table, v);
-    while leads_on(marks, next) {
-        last = next;
-        next = next_at(table, last);
-    }
-    last
+    let head = e.head as u32;
+    put_word(out, head - 3, nodes);
+    put_word(out, head - 2, limit);
+    put_word(out, head - 1, pages);
 }
 
 // The page after page p, or 0 after the last.
@@ -50,40 +37,48 @@ fn page_after(p: u16, pages: u16) -> u16
 }
 
 // The page records, after the head.
-pub fn put_pages(table: &[u8], marks: &[u8], weights: &[u32; SLOTS], pages: u16, out: &mut [u8])
-    requires { ⌜ Planned (now table) (now marks) × (pages ≡ pageCount (now table) (now marks))
-        × Row pages (pageWeight (now table) (now marks)) (now weights)
-        × (length (now out) ≡ archiveBytes pages (nodeCount (now table)))
-        × Starts (now out) (headWords (now table) (now marks)) ⌝ }
-    ensures { λ r. ⌜ Starts (now (out .exit)) (pagesUpto (now (table .entry)) (now (marks .entry)) (nodeCount (now (table .entry)))) ⌝ }
+pub fn put_pages<'a>(
+    e: Edition,
+    firsts: &'a [u16; SLOTS],
+    lasts: &'a [u16; SLOTS],
+    weights: &'a [u32; SLOTS],
+    pages: u16,
+    out: &mut [u8],
+)
+    requires { ⌜ InRoom e × (pages < slots) × Upto pages (λ p. getD (now weights) p 0 < 65536)
+        × (archiveBytes e pages 0 ≤ length (now out)) ⌝ }
+    ensures { λ r. ⌜ RecordsPut (pageRow (now (firsts .entry)) (now (lasts .entry)) (now (weights .entry)) pages)
+        (e .head) pages (now (out .entry)) (now (out .exit)) ⌝ }
 {
-    let nodes = node_count(table);
-    let mut page: u16 = 0;
-    let mut v: u16 = 0;
-    while v < nodes {
-        v += 1;
-        if mark_at(marks, v) == 1 {
-            page += 1;
-            let last = find_last(table, marks, v);
-            let weight = weights[page as usize] as u16;
-            let after = page_after(page, pages);
-            put_record(out, 4 * page - 1, v, last, weight, after);
-        }
+    let mut at = e.head as u32;
+    let mut p: u16 = 0;
+    while p < pages {
+        p += 1;
+        let first = firsts[p as usize];
+        let last = lasts[p as usize];
+        let weight = weights[p as usize] as u16;
+        let after = page_after(p, pages);
+        put_record(out, at, first, last, weight, after);
+        at += e.page as u32;
     }
 }
 
 // The node records, after the page records.
-pub fn put_nodes(
+pub fn put_nodes<'a>(
+    e: Edition,
     table: &[u8],
-    parents: &[u16; SLOTS],
-    onward: &[u16; SLOTS],
+    parents: &'a [u16; SLOTS],
+    onward: &'a [u16; SLOTS],
     pages: u16,
     out: &mut [u8],
 )
-    requires { ⌜ (nodeCount (now table) < slots) × (pages < slots) × (length (now out) ≡ archiveBytes pages (nodeCount (now table))) ⌝ }
-    ensures { λ r. ⌜ NodesPut (now (table .entry)) (now (parents .entry)) (now (onward .entry)) pages (nodeCount (now (table .entry))) (now (out .entry)) (now (out .exit)) ⌝ }
+    requires { ⌜ InRoom e × (nodeCount (now table) < slots) × (pages < slots)
+        × (length (now out) ≡ archiveBytes e pages (nodeCount (now table))) ⌝ }
+    ensures { λ r. ⌜ RecordsPut (nodeRow (now (table .entry)) (now (parents .entry)) (now (onward .entry)))
+        (e .head + e .page * pages) (nodeCount (now (table .entry))) (now (out .entry)) (now (out .exit)) ⌝ }
 {
     let nodes = node_count(table);
+    let mut at = (e.head as u32) + (e.page as u32) * (pages as u32);
     let mut v: u16 = 0;
     while v < nodes {
         v += 1;
@@ -91,6 +86,7 @@ pub fn put_nodes(
         let label = label_at(table, v);
         let parent = parents[v as usize];
         let after = onward[v as usize];
-        put_record(out, 4 * pages + 4 * v - 1, weight, label, parent, after);
+        put_record(out, at, weight, label, parent, after);
+        at += 4;
     }
 }

@@ -5,6 +5,7 @@ use Prim.Native.Nat.{ℕ}
 use Rattle.model.specs.Refusals.{Planned, Written, Restored}
 use Rattle.model.specs.Demand.{WeightPromise, PlanPromise, BestPromise, WritePromise, ReadPromise}
 use Rattle.model.specs.declared.Answer.{Answer}
+use Rattle.model.specs.declared.Edition.{Edition}
 use Rattle.embed.specs.declared.Figures.{Figures}
 use Rattle.embed.specs.Figures.{figuresOf}
 
@@ -34,11 +35,11 @@ PlanFigures t m s f marks scratch = FiguresOf (λ r. PlanPromise t m s r marks s
 abbrev pub BestFigures : List ℕ → List ℕ → List ℕ → Figures → List ℕ → Type 0
 BestFigures t m s f marks = FiguresOf (λ r. BestPromise t m s r marks) f
 
-abbrev pub WriteFigures : List ℕ → List ℕ → List ℕ → Figures → List ℕ → Type 0
-WriteFigures t m out f archive = FiguresOf (λ r. WritePromise t m out r archive) f
+abbrev pub WriteFigures : Edition → List ℕ → List ℕ → List ℕ → Figures → List ℕ → Type 0
+WriteFigures e t m out f archive = FiguresOf (λ r. WritePromise e t m out r archive) f
 
-abbrev pub ReadFigures : List ℕ → List ℕ → List ℕ → Figures → List ℕ → List ℕ → Type 0
-ReadFigures a table marks f t m = FiguresOf (λ r. ReadPromise a table marks r t m) f
+abbrev pub ReadFigures : Edition → List ℕ → List ℕ → List ℕ → Figures → List ℕ → List ℕ → Type 0
+ReadFigures e a table marks f t m = FiguresOf (λ r. ReadPromise e a table marks r t m) f
 
 pub record WriteLeft : Type 0 where
   pub figures : Figures

@@ -3,9 +3,12 @@ use model::Answer;
 use model::Beside;
 use model::Verdict;
 ghost use mathlib.Core.Path.{_≡_};
-ghost use Rattle.model.specs.Refusals.{readTree, judgePlan, planBest, planLevel, planSingle, planPair, writeArchive, readArchive};
+ghost use Rattle.model.specs.Archive.{firstEdition};
+ghost use Rattle.model.specs.Refusals.{readTree, judgePlan, planBest, planLevel, planSingle, planPair, writeArchive};
+ghost use Rattle.model.specs.Refusals.{readArchive};
 ghost use Rattle.embed.specs.Figures.{figuresBy, figuresOf};
-ghost use Rattle.embed.specs.Left.{WeightFigures, left, leftBy, PlanFigures, BestFigures, filled, filledBy, WriteFigures, refilled, refilledBy, ReadFigures};
+ghost use Rattle.embed.specs.Left.{WeightFigures, left, leftBy, PlanFigures, BestFigures};
+ghost use Rattle.embed.specs.Left.{filled, filledBy, WriteFigures, refilled, refilledBy, ReadFigures};
 
 // A number and a place, and the verdict's page count and root weight, both 0 unless the number is 0.
 #[repr(C)]
@@ -71,9 +74,12 @@ pub extern "C" fn balduqen_judge(table: &[u8], marks: &[u8]) -> Figures
 
 #[no_mangle]
 pub extern "C" fn balduqen_plan_best(table: &[u8], marks: &mut [u8], scratch: &mut [u32]) -> Figures
-    ensures { λ r. ⌜ left r (now (marks .exit)) (now (scratch .exit)) ≡ leftBy (planBest (now (table .entry)) (now (marks .entry)) (now (scratch .entry))) ⌝ }
-    ensures { λ r. ⌜ PlanFigures (now (table .entry)) (now (marks .entry)) (now (scratch .entry)) r (now (marks .exit)) (now (scratch .exit)) ⌝ }
-    ensures { λ r. ⌜ BestFigures (now (table .entry)) (now (marks .entry)) (now (scratch .entry)) r (now (marks .exit)) ⌝ }
+    ensures { λ r. ⌜ left r (now (marks .exit)) (now (scratch .exit))
+        ≡ leftBy (planBest (now (table .entry)) (now (marks .entry)) (now (scratch .entry))) ⌝ }
+    ensures { λ r. ⌜ PlanFigures (now (table .entry)) (now (marks .entry)) (now (scratch .entry))
+        r (now (marks .exit)) (now (scratch .exit)) ⌝ }
+    ensures { λ r. ⌜ BestFigures (now (table .entry)) (now (marks .entry)) (now (scratch .entry))
+        r (now (marks .exit)) ⌝ }
 {
     flatten(planner::plan_best(table, marks, scratch))
 }
@@ -84,8 +90,10 @@ pub extern "C" fn balduqen_plan_level(
     marks: &mut [u8],
     scratch: &mut [u32],
 ) -> Figures
-    ensures { λ r. ⌜ left r (now (marks .exit)) (now (scratch .exit)) ≡ leftBy (planLevel (now (table .entry)) (now (marks .entry)) (now (scratch .entry))) ⌝ }
-    ensures { λ r. ⌜ PlanFigures (now (table .entry)) (now (marks .entry)) (now (scratch .entry)) r (now (marks .exit)) (now (scratch .exit)) ⌝ }
+    ensures { λ r. ⌜ left r (now (marks .exit)) (now (scratch .exit))
+        ≡ leftBy (planLevel (now (table .entry)) (now (marks .entry)) (now (scratch .entry))) ⌝ }
+    ensures { λ r. ⌜ PlanFigures (now (table .entry)) (now (marks .entry)) (now (scratch .entry))
+        r (now (marks .exit)) (now (scratch .exit)) ⌝ }
 {
     flatten(planner::plan_level(table, marks, scratch))
 }
@@ -96,24 +104,30 @@ pub extern "C" fn balduqen_plan_single(
     marks: &mut [u8],
     scratch: &mut [u32],
 ) -> Figures
-    ensures { λ r. ⌜ left r (now (marks .exit)) (now (scratch .exit)) ≡ leftBy (planSingle (now (table .entry)) (now (marks .entry)) (now (scratch .entry))) ⌝ }
-    ensures { λ r. ⌜ PlanFigures (now (table .entry)) (now (marks .entry)) (now (scratch .entry)) r (now (marks .exit)) (now (scratch .exit)) ⌝ }
+    ensures { λ r. ⌜ left r (now (marks .exit)) (now (scratch .exit))
+        ≡ leftBy (planSingle (now (table .entry)) (now (marks .entry)) (now (scratch .entry))) ⌝ }
+    ensures { λ r. ⌜ PlanFigures (now (table .entry)) (now (marks .entry)) (now (scratch .entry))
+        r (now (marks .exit)) (now (scratch .exit)) ⌝ }
 {
     flatten(planner::plan_single(table, marks, scratch))
 }
 
 #[no_mangle]
 pub extern "C" fn balduqen_plan_pair(table: &[u8], marks: &mut [u8], scratch: &mut [u32]) -> Figures
-    ensures { λ r. ⌜ left r (now (marks .exit)) (now (scratch .exit)) ≡ leftBy (planPair (now (table .entry)) (now (marks .entry)) (now (scratch .entry))) ⌝ }
-    ensures { λ r. ⌜ PlanFigures (now (table .entry)) (now (marks .entry)) (now (scratch .entry)) r (now (marks .exit)) (now (scratch .exit)) ⌝ }
+    ensures { λ r. ⌜ left r (now (marks .exit)) (now (scratch .exit))
+        ≡ leftBy (planPair (now (table .entry)) (now (marks .entry)) (now (scratch .entry))) ⌝ }
+    ensures { λ r. ⌜ PlanFigures (now (table .entry)) (now (marks .entry)) (now (scratch .entry))
+        r (now (marks .exit)) (now (scratch .exit)) ⌝ }
 {
     flatten(planner::plan_pair(table, marks, scratch))
 }
 
 #[no_mangle]
 pub extern "C" fn balduqen_write_archive(table: &[u8], marks: &[u8], archive: &mut [u8]) -> Figures
-    ensures { λ r. ⌜ filled r (now (archive .exit)) ≡ filledBy (writeArchive (now (table .entry)) (now (marks .entry)) (now (archive .entry))) ⌝ }
-    ensures { λ r. ⌜ WriteFigures (now (table .entry)) (now (marks .entry)) (now (archive .entry)) r (now (archive .exit)) ⌝ }
+    ensures { λ r. ⌜ filled r (now (archive .exit))
+        ≡ filledBy (writeArchive firstEdition (now (table .entry)) (now (marks .entry)) (now (archive .entry))) ⌝ }
+    ensures { λ r. ⌜ WriteFigures firstEdition (now (table .entry)) (now (marks .entry)) (now (archive .entry))
+        r (now (archive .exit)) ⌝ }
 {
     flatten(archive::write_archive(table, marks, archive))
 }
@@ -124,8 +138,10 @@ pub extern "C" fn balduqen_read_archive(
     table: &mut [u8],
     marks: &mut [u8],
 ) -> Figures
-    ensures { λ r. ⌜ refilled r (now (table .exit)) (now (marks .exit)) ≡ refilledBy (readArchive (now (archive .entry)) (now (table .entry)) (now (marks .entry))) ⌝ }
-    ensures { λ r. ⌜ ReadFigures (now (archive .entry)) (now (table .entry)) (now (marks .entry)) r (now (table .exit)) (now (marks .exit)) ⌝ }
+    ensures { λ r. ⌜ refilled r (now (table .exit)) (now (marks .exit))
+        ≡ refilledBy (readArchive firstEdition (now (archive .entry)) (now (table .entry)) (now (marks .entry))) ⌝ }
+    ensures { λ r. ⌜ ReadFigures firstEdition (now (archive .entry)) (now (table .entry)) (now (marks .entry))
+        r (now (table .exit)) (now (marks .exit)) ⌝ }
 {
     flatten(archive::read_archive(archive, table, marks))
 }

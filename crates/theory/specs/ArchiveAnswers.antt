@@ -1,7 +1,7 @@
--- The answers of the archive's writer and reader, case by case, and what each tells. The writer is also told as it goes on from the
--- tree's answer, whatever that is: so a reader may judge its tree otherwise than the writer's entry does.
--- Defines filmAnswer, writeFrom, WriteDone. Proves write-then, write-done, writer-done, writer-refused; read-none, read-table,
--- read-marks, read-done, reader-done, read-thirteen. Assumes nothing.
+-- The answers of the archive's writer and reader, case by case, and what each tells. The writer is also told as it goes
+-- on from the tree's answer, whatever that is: so a reader may judge its tree otherwise than the writer's entry does.
+-- Defines filmAnswer, writeFrom, WriteDone. Proves write-entry, write-done, writer-done, writer-refused; read-none,
+-- read-table, read-marks, read-done, reader-done, read-thirteen. Assumes nothing.
 use Prim.Native.Nat.{ℕ, _≤_}
 use native.Mathlib.Omega.{arith}
 use mathlib.Core.Bool.{Bool, true, false, not, _&&_, true≢false}
@@ -10,13 +10,14 @@ use mathlib.Core.List.{List, [], _∷_}
 use lib.ListN.{length}
 use lib.Dec.{eqb}
 use borrow.Author.Tests.{eq-eqb, ne-eqb, not-false}
-use Rattle.model.specs.Basics.{pick, when, atPlace, every, sameList}
+use Rattle.model.specs.Basics.{pick, when, every, sameList}
 use Rattle.model.specs.Table.{nodeCount, tableBytes}
 use Rattle.model.specs.Plan.{pageCount, verdictOf}
 use Rattle.model.specs.Archive.{archiveOf, archiveBytes, nodesIn, tableIn, marksIn}
 use Rattle.model.specs.Refusals.{Check, badMarks, badOutput, noArchive, markChecks, judgeChecks, filmChecks, backChecks}
-use Rattle.model.specs.Refusals.{writeChecks, readChecks, passes, feasiblePlan, answerOf, refused, firstOf, readTree, judgePlan}
-use Rattle.model.specs.Refusals.{Written, writeArchive, isArchive, Restored, readArchive}
+use Rattle.model.specs.Refusals.{writeChecks, readChecks, passes, feasiblePlan, answerOf, refused, firstOf, readTree}
+use Rattle.model.specs.Refusals.{judgePlan}
+use Rattle.model.specs.Refusals.{Written, writeArchive, isArchive, readArchive}
 use Rattle.model.specs.declared.Edition.{Edition}
 use Rattle.model.specs.declared.Place.the-variants.{At, Nowhere}
 use Rattle.model.specs.declared.Answer.{Answer}
@@ -27,8 +28,7 @@ use Rattle.theory.specs.Checks.{never-first, accepted-pass, mark-plain, 
 use Rattle.theory.specs.Checks.{andThen, then-next, then-stands, then-both}
 use Rattle.theory.specs.JudgeAnswers.{marksAnswer, judge-then}
 use Rattle.theory.specs.TableFacts.{AcceptedFacts}
-use Rattle.theory.specs.PlanFeasible.{Judged, marks-judged, feasible-parts, feasible-judged, judged-verdict, judge-feasible}
-use Rattle.theory.specs.PlanFeasible.{feasible-judge}
+use Rattle.theory.specs.PlanFeasible.{Judged, marks-judged, feasible-parts, feasible-judged, judged-verdict}
 use Rattle.theory.specs.ArchiveWords.{Described, length-archive}
 use Rattle.theory.specs.ArchiveBack.{sameList-true, read-write}
 
@@ -67,13 +67,16 @@ equal x n h = when-false (not (eqb x n)) n (ap not (eq-eqb x n h))
 pub feasible-zero : (t m : List ℕ) → feasiblePlan t m ≡ true → answerOf (verdictOf t m) .number ≡ 0
 feasible-zero t m f = ap (λ v. answerOf v .number) (judged-verdict (feasible-judged t m f))
 
--- the tree's and the marks' answers were acceptance: nothing is found in the plan, and the answer is its verdict's
-pub marks-accepted : (t m : List ℕ) → AcceptedFacts t → marksAnswer t m .number ≡ 0
-    → Judged t m × (marksAnswer t m ≡ answerOf (verdictOf t m))
+-- the judge, going on from the tree's answer r, accepts: nothing is found in the plan, and the answer is its verdict's
+pub judged-from : (t m : List ℕ) (r j : Answer) → j ≡ andThen r (marksAnswer t m) → (r .number ≡ 0 → AcceptedFacts t)
+    → j .number ≡ 0 → Judged t m × (j ≡ answerOf (verdictOf t m))
 unfolding marksAnswer
-marks-accepted t m a z =
-    let p = accepted-pass (markChecks t m) (answerOf (verdictOf t m)) (mark-plain t m .0) z in
-    (marks-judged t m a p, firstOf-all (markChecks t m) (answerOf (verdictOf t m)) p)
+judged-from t m r j is facts z =
+    let both = then-both r (marksAnswer t m) (sym (ap (λ (x : Answer). x .number) is) ∙ z) in
+    let p = accepted-pass (markChecks t m) (answerOf (verdictOf t m)) (mark-plain t m .0) (both .1) in (
+      marks-judged t m (facts (both .0)) p,
+      is ∙ then-next r (marksAnswer t m) (both .0) ∙ firstOf-all (markChecks t m) (answerOf (verdictOf t m)) p,
+    )
 
 module _ (e : Edition) (t m out : List ℕ) where
   abbrev size : ℕ
@@ -119,13 +122,14 @@ module _ (e : Edition) (t m out : List ℕ) where
     from-short z other =
         from-by false (sym (then-next j filmAnswer z ∙ ap (λ (x : Answer × Bool). x .0) (film-short other))) refl
 
-    pub from-done : AcceptedFacts t → j .number ≡ 0 → length out ≡ archiveBytes e (pageCount t m) (nodeCount t)
+    pub from-done : (r .number ≡ 0 → AcceptedFacts t) → j .number ≡ 0
+        → length out ≡ archiveBytes e (pageCount t m) (nodeCount t)
         → record { answer = j; archive = archiveOf e t m } ≡ writeFrom r
     unfolding pick filmAnswer
-    from-done a z fits =
-        let parts = then-both r (marksAnswer t m) (sym (ap (λ (x : Answer). x .number) is) ∙ z) in
-        let mine : j ≡ verdict = is ∙ then-next r (marksAnswer t m) (parts .0) ∙ marks-accepted t m a (parts .1) .1 in
-        from-by true (mine ∙ sym (then-next j filmAnswer z ∙ ap (λ (x : Answer × Bool). x .0) (film-long fits)))
+    from-done facts z fits =
+        from-by true
+        (judged-from t m r j is facts z .1
+        ∙ sym (then-next j filmAnswer z ∙ ap (λ (x : Answer × Bool). x .0) (film-long fits)))
         (eq-eqb (j .number) 0 z)
 
   -- ---- The entry
@@ -140,7 +144,8 @@ module _ (e : Edition) (t m out : List ℕ) where
       ap (λ (x : Answer). x .number) (firstOf-all (writeChecks e t m out) verdict p)
       ∙ feasible-zero t m (write-feasible p)
 
-  zero-passes : (b : Bool) → passes (writeChecks e t m out) ≡ b → eqb (firstOf (writeChecks e t m out) verdict .number) 0 ≡ b
+  zero-passes : (b : Bool) → passes (writeChecks e t m out) ≡ b
+      → eqb (firstOf (writeChecks e t m out) verdict .number) 0 ≡ b
   zero-passes true p = eq-eqb _ 0 (write-zero p)
   zero-passes false p =
       ne-eqb _ 0
@@ -158,11 +163,19 @@ module _ (e : Edition) (t m out : List ℕ) where
       ∙ sym
       (then-stands _ _ (λ z. true≢false (sym (accepted-pass (judgeChecks t m) verdict (judge-never t m) z) ∙ p)))
 
-  -- the entry goes on from the tree reader's answer
-  pub write-then : writeFrom (readTree t) ≡ writeArchive e t m out
+  write-then : writeFrom (readTree t) ≡ writeArchive e t m out
   unfolding writeFrom writeArchive
   write-then =
-      rw (← judge-then t m, ← answer-then (passes (judgeChecks t m)) refl, zero-passes (passes (writeChecks e t m out)) refl)
+      rw (
+        ← judge-then t m,
+        ← answer-then (passes (judgeChecks t m)) refl,
+        zero-passes (passes (writeChecks e t m out))
+            refl,
+      )
+
+  -- the entry goes on from the tree reader's answer
+  pub write-entry : {w : Written} (r : Answer) → w ≡ writeFrom r → r ≡ readTree t → w ≡ writeArchive e t m out
+  write-entry r h is = h ∙ ap writeFrom is ∙ write-then
 
   pub write-done : feasiblePlan t m ≡ true → length out ≡ archiveBytes e (pageCount t m) (nodeCount t)
       → writeArchive e t m out ≡ record { answer = answerOf (verdictOf t m); archive = archiveOf e t m }
@@ -228,13 +241,15 @@ module _ (e : Edition) (a t m : List ℕ) where
   unfolding pick readChecks noArchive
   read-none n =
       restored-by false
-      (outcome-stop (noArchive (isArchive e a)) (backChecks nodes t m) told 0 (when-true (not (isArchive e a)) 0 (ap not n)))
+      (outcome-stop (noArchive (isArchive e a)) (backChecks nodes t m) told 0
+      (when-true (not (isArchive e a)) 0 (ap not n)))
 
   module _ (is : isArchive e a ≡ true) where
     archive-next : outcome (readChecks e a t m) told ≡ outcome (backChecks nodes t m) told
     unfolding readChecks noArchive
     archive-next =
-        outcome-next (noArchive (isArchive e a)) (backChecks nodes t m) told (when-false (not (isArchive e a)) 0 (ap not is))
+        outcome-next (noArchive (isArchive e a)) (backChecks nodes t m) told
+        (when-false (not (isArchive e a)) 0 (ap not is))
 
     -- 12
     pub read-table : (length t ≡ tableBytes (nodesIn e a) → ⊥)
@@ -259,7 +274,8 @@ module _ (e : Edition) (a t m : List ℕ) where
           → record { answer = refused 8 (nodesIn e a); table = t; marks = m } ≡ readArchive e a t m
       unfolding pick badMarks
       read-marks other =
-          restored-by false (table-next ∙ outcome-stop (badMarks nodes m) [] told nodes (unequal (length m) nodes other))
+          restored-by false
+          (table-next ∙ outcome-stop (badMarks nodes m) [] told nodes (unequal (length m) nodes other))
 
       pub read-done : length m ≡ nodesIn e a
           → record {

@@ -1,5 +1,6 @@
--- Writing and reading back, in an edition. The archive of an accepted tree and a feasible plan tells that very table and those very
--- marks, so it passes the reader's test; an archive that passes the test is written by the tree and the plan that it tells.
+-- Writing and reading back, in an edition. The archive of an accepted tree and a feasible plan tells that very table
+-- and those very marks, so it passes the reader's test; an archive that passes the test is written by the tree and the
+-- plan that it tells.
 -- Defines tableRow. Proves judged-light, write-read, read-write, tableIn-bytes. Assumes nothing.
 use Prim.Native.Nat.{ℕ, zero, suc, _+_, _-_, _*_, _/_, _%_, _≤_, _<_}
 use native.Mathlib.Omega.{arith}
@@ -17,15 +18,18 @@ use Rattle.model.specs.Table.{weightAt, labelAt, firstAt, nextAt}
 use Rattle.model.specs.Plan.{parentAt, stays, begins, continues, markAt, hasMark}
 use Rattle.model.specs.Plan.{heavyPage, pageCount, pageWeight, runLast}
 use Rattle.model.specs.Runs.{Run}
-use Rattle.model.specs.Archive.{archiveOf, nodesIn, limitIn, pagesIn, pageFieldIn, nodeFieldIn, parentIn, firstIn, nextIn}
+use Rattle.model.specs.Archive.{archiveOf, nodesIn, limitIn, pagesIn, pageFieldIn, nodeFieldIn, parentIn, firstIn}
+use Rattle.model.specs.Archive.{nextIn}
 use Rattle.model.specs.Archive.{tableIn, beginsIn, continuesIn, markIn, marksIn}
 use Rattle.model.specs.Refusals.{feasiblePlan, isArchive}
 use Rattle.model.specs.declared.Edition.{Edition}
 use Rattle.model.specs.declared.Place.{Place}
 use Rattle.model.specs.declared.Place.the-variants.{At, Nowhere}
 use Rattle.theory.specs.Bools.{both-true, and-true, and-false-left}
-use Rattle.theory.specs.Ranges.{Upto, pick-true, pick-false, atPlace-at, atPlace-nowhere, place-cases, countTo-none}
-use Rattle.theory.specs.Ranges.{firstTo-cong, firstTo-at, firstTo-nowhere, listTo-cong, length-listTo, getD-listTo}
+use Rattle.theory.specs.Ranges.{Upto, pick-true, pick-false, atPlace-at, atPlace-nowhere, place-cases}
+use Rattle.theory.specs.Ranges.{countTo-none}
+use Rattle.theory.specs.Ranges.{firstTo-cong, firstTo-at, firstTo-nowhere, listTo-cong, length-listTo}
+use Rattle.theory.specs.Ranges.{getD-listTo}
 use Rattle.theory.specs.TableFacts.{SoundFacts}
 use Rattle.theory.specs.Chosen.{countTo-mono, countTo-pass, countTo-some}
 use Rattle.theory.specs.SiblingsByParent.{first-by-parent, next-by-parent}
@@ -35,7 +39,8 @@ use Rattle.theory.specs.Words.{Words, word-small, bytesOf-words, words-b
 use Rattle.theory.specs.PagesByNumber.{Page, page-first, page-run}
 use Rattle.theory.specs.Put.{length-recordsTo, getD-recordsTo}
 use Rattle.theory.specs.ArchiveWords.{Described, archive-nodes}
-use Rattle.theory.specs.ArchiveWords.{archive-limit, archive-pages, archive-begin, archive-end, archive-node, archive-parent}
+use Rattle.theory.specs.ArchiveWords.{archive-limit, archive-pages, archive-begin, archive-end, archive-node}
+use Rattle.theory.specs.ArchiveWords.{archive-parent}
 
 -- a feasible plan's pages are within the limit
 pub judged-light : {t m : List ℕ} → Judged t m → Upto (pageCount t m) (λ q. pageWeight t m q ≤ limitOf t)
@@ -153,7 +158,8 @@ module _ {e : Edition} (d : Described e) {t m : List ℕ} (p : Judged t m) where
   unfolding tableIn s
   write-read-table b =
       ap bytesOf
-      (ap₂ (λ n k. n ∷ k ∷ listTo n (λ v. nodeFieldIn e a v 0 ∷ nodeFieldIn e a v 1 ∷ firstIn e a v ∷ nextIn e a v ∷ []))
+      (ap₂
+      (λ n k. n ∷ k ∷ listTo n (λ v. nodeFieldIn e a v 0 ∷ nodeFieldIn e a v 1 ∷ firstIn e a v ∷ nextIn e a v ∷ []))
       (archive-nodes d t m) (archive-limit d t m)
       ∙ ap (λ (r : List ℕ). nodeCount t ∷ limitOf t ∷ r) (listTo-cong (nodeCount t) _ (tableRow t) row-back))
       ∙ table-words t b (s .bytes)
@@ -282,7 +288,8 @@ module _ {e : Edition} (d : Described e) {t m : List ℕ} (p : Judged t m) where
         continued = countTo (pagesIn e a) (continuesIn e a v)
 
         not-first : (markAt m v ≡ 1 → ⊥)
-            → pick (ltb 0 begun) begins (pick (ltb 0 continued) continues stays) ≡ pick (ltb 0 continued) continues stays
+            → pick (ltb 0 begun) begins (pick (ltb 0 continued) continues stays) ≡ pick (ltb 0 continued) continues
+            stays
         not-first other = pick-false (ltb 0 begun) begins _ (le-ltb 0 begun (omega (arith, begins-no other)))
 
         go : (b : Bool) → eqb (markAt m v) 1 ≡ b → (c : Bool) → eqb (markAt m v) 2 ≡ c
@@ -333,7 +340,8 @@ sameList-true (x ∷ xs) (y ∷ ys) e =
     ap₂ _∷_ (eqb-true x y (both .0)) (sameList-true xs ys (both .1))
 
 -- what an accepted tree and a feasible plan write, of no more nodes than the edition takes, is an archive
-pub write-read : {e : Edition} → Described e → {t m : List ℕ} → Bytes t → feasiblePlan t m ≡ true → nodeCount t ≤ e .most
+pub write-read : {e : Edition} → Described e → {t m : List ℕ} → Bytes t → feasiblePlan t m ≡ true
+    → nodeCount t ≤ e .most
     → (tableIn e (archiveOf e t m) ≡ t) × (marksIn e (archiveOf e t m) ≡ m) × (isArchive e (archiveOf e t m) ≡ true)
 unfolding isArchive
 write-read {e} d {t} {m} b f few =
@@ -369,7 +377,8 @@ read-write e a y =
 
 -- ---- What an archive of bytes tells is bytes
 
-found-small : (n : ℕ) (p : ℕ → Bool) → atPlace (firstTo n p) (λ u. u) 0 ≤ n
+-- a place that is found is not above the last
+pub found-small : (n : ℕ) (p : ℕ → Bool) → atPlace (firstTo n p) (λ u. u) 0 ≤ n
 found-small n p = go (place-cases (firstTo n p))
   where
     go : ((u : ℕ) × (firstTo n p ≡ At u)) ⊎ (firstTo n p ≡ Nowhere) → atPlace (firstTo n p) (λ u. u) 0 ≤ n

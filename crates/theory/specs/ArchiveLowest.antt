@@ -1,7 +1,8 @@
--- Demand 3 read off the archive's bytes, in an edition: page count, the weight in page record 1 and the runs in the page records are the
--- plan's; so where a planner promises that its plan is the lowest, the archive of that plan is the lowest too.
+-- Demand 3 read off the archive's bytes, in an edition: page count, the weight in page record 1 and the runs in the
+-- page records are the plan's; so where a planner promises that its plan is the lowest, the archive of that plan is the
+-- lowest too.
 -- Proves archive-runs, archive-root, plan-feasible, film-lowest. Assumes nothing.
-use Prim.Native.Nat.{ℕ, suc, _+_, _-_, _≤_, _<_}
+use Prim.Native.Nat.{ℕ, suc, _-_, _≤_, _<_}
 use native.Mathlib.Omega.{arith}
 use mathlib.Core.Path.{_≡_, sym, _∙_, ap, ap₂}
 use mathlib.Core.Bool.{true}
@@ -10,7 +11,7 @@ use lib.ListN.{getD}
 use lib.Seq.{ext-getD}
 use Rattle.model.specs.Basics.{listTo}
 use Rattle.model.specs.Plan.{pageCount, pageWeight, verdictOf}
-use Rattle.model.specs.Runs.{Run, rootRun, runsOf, pageRun}
+use Rattle.model.specs.Runs.{rootRun, runsOf, pageRun}
 use Rattle.model.specs.Archive.{archiveOf, pagesIn}
 use Rattle.model.specs.Refusals.{answerOf, feasiblePlan}
 use Rattle.model.specs.Demand.{PlanLent, PlanPromise, BestPromise, runIn, runsIn, rootIn, LowestOnFilm}
@@ -46,7 +47,8 @@ module _ {e : Edition} (d : Described e) (t m : List ℕ) where
       ext-getD rootRun (listTo (pagesIn e a) (λ q. runIn e a q ∷ [])) (runsOf t m)
       (long ∙ archive-pages d t m ∙ sym (length-runsOf t m))
       (λ i h.
-      let less : i < pagesIn e a = rw long at h in getD-listTo (pagesIn e a) i (runIn e a) rootRun less ∙ run-back i less)
+      let less : i < pagesIn e a =
+      rw long at h in getD-listTo (pagesIn e a) i (runIn e a) rootRun less ∙ run-back i less)
 
   pub archive-root : 1 ≤ pageCount t m → rootIn e (archiveOf e t m) ≡ pageWeight t m 1
   unfolding rootIn
@@ -60,7 +62,8 @@ rootBeside (Given (Feasible pages root)) = root
 rootBeside (Given (Failed c)) = 0
 rootBeside Nothing = 0
 
-module _ {t m s marks scratch : List ℕ} {r : Answer} (p : PlanPromise t m s r marks scratch) (ready : PlanLent t m s) where
+module _ {t m s marks scratch : List ℕ} {r : Answer} (p : PlanPromise t m s r marks scratch)
+    (ready : PlanLent t m s) where
   pub plan-feasible : feasiblePlan t marks ≡ true
   plan-feasible = p .accepts ready .1
 
@@ -78,7 +81,8 @@ module _ {t m s marks scratch : List ℕ} {r : Answer} (p : PlanPromise t m s r 
         ≡ answerOf (Feasible (pagesIn e film) (rootIn e film))
     film-figures = ap₂ (λ (x y : ℕ). answerOf (Feasible x y)) (sym (archive-pages d t marks)) (sym root-back)
 
-    pub film-lowest : BestPromise t m s r marks → LowestOnFilm e t (archiveOf e t marks) r (answerOf (verdictOf t marks))
+    pub film-lowest : BestPromise t m s r marks
+        → LowestOnFilm e t (archiveOf e t marks) r (answerOf (verdictOf t marks))
     film-lowest b =
         let answer = p .accepts ready .0 in
         let low = b .lowest ready in

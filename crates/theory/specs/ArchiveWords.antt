@@ -1,20 +1,19 @@
--- The words of an archive of an edition: its length, its head, and the fields of its page and node records, read back as they were
--- written. They hold of any table and marks. What the laws take of an edition is said once, in Described, and first-described says it of
--- the first.
--- Defines Described. Proves first-described; length-archive and archive-nodes to archive-parent.
--- Assumes nothing.
-use Prim.Native.Nat.{ℕ, zero, suc, _+_, _-_, _*_, _≤_, _<_}
+-- The words of an archive of an edition: its length, its head, and the fields of its page and node records, read back
+-- as they were written. They hold of any table and marks. What the laws take of an edition is said once, in Described,
+-- and first-described says it of the first.
+-- Defines Described. Proves first-described; length-archive and archive-nodes to archive-parent. Assumes nothing.
+use Prim.Native.Nat.{ℕ, suc, _+_, _-_, _*_, _≤_, _<_}
 use native.Mathlib.Omega.{arith}
 use native.Mathlib.Nat.{mul-le-mul-left}
 use mathlib.Core.Bool.{true}
-use mathlib.Core.Path.{_≡_, refl, sym, _∙_, ap}
+use mathlib.Core.Path.{_≡_, refl, _∙_, ap}
 use mathlib.Core.List.{List, [], _∷_, _++_}
 use lib.ListN.{length, getD, length-append, List·getD-append}
 use lib.Seq.{getD-append-add}
 use Rattle.model.specs.Basics.{listTo}
-use Rattle.model.specs.Table.{Bytes, wordAt, bytesOf, nodeCount, limitOf, weightAt, labelAt}
-use Rattle.model.specs.Plan.{begins, hasMark, parentAt, pageCount, pageWeight}
-use Rattle.model.specs.Runs.{rootRun, runsOf, pageRun}
+use Rattle.model.specs.Table.{wordAt, nodeCount, limitOf, weightAt, labelAt}
+use Rattle.model.specs.Plan.{parentAt, pageCount, pageWeight}
+use Rattle.model.specs.Runs.{pageRun}
 use Rattle.model.specs.Archive.{firstEdition, headWords, pageRecord, nextOnPage, nodeRecord, archiveOf, archiveBytes}
 use Rattle.model.specs.Archive.{nodesIn, limitIn, pagesIn, pageFieldIn, nodeFieldIn, parentIn}
 use Rattle.model.specs.Refusals.{acceptedTree}
@@ -25,22 +24,24 @@ use Rattle.theory.specs.Put.{length-recordsTo, getD-recordsTo}
 
 -- ---- What the laws take of an edition
 
--- its head has as many words as it says, and N, K and P are the last three of them; a page record has as many words as it says, and the
--- first three are first node, last sibling and weight; and it takes every accepted tree
+-- its head has as many words as it says, and N, K and P are the last three of them; a page record has as many words as
+-- it says, of which there are four at least, and the first three are first node, last sibling and weight; and it takes
+-- every accepted tree
 pub record Described (e : Edition) : Type 0 where
   pub head-low : 3 ≤ e .head
   pub head : (t m : List ℕ) → length (headWords e t m) ≡ e .head
   pub nodes-at : (t m : List ℕ) → getD (headWords e t m) (e .head - 3) 0 ≡ nodeCount t
   pub limit-at : (t m : List ℕ) → getD (headWords e t m) (e .head - 2) 0 ≡ limitOf t
   pub pages-at : (t m : List ℕ) → getD (headWords e t m) (e .head - 1) 0 ≡ pageCount t m
-  pub page-low : 3 ≤ e .page
+  pub page-low : 4 ≤ e .page
   pub page : (t m : List ℕ) (p : ℕ) → length (pageRecord e t m p) ≡ e .page
   pub first-at : (t m : List ℕ) (p : ℕ) → getD (pageRecord e t m p) 0 0 ≡ pageRun t m p .first
   pub last-at : (t m : List ℕ) (p : ℕ) → getD (pageRecord e t m p) 1 0 ≡ pageRun t m p .last
   pub weight-at : (t m : List ℕ) (p : ℕ) → getD (pageRecord e t m p) 2 0 ≡ pageWeight t m p
   pub most : (t : List ℕ) → acceptedTree t ≡ true → nodeCount t ≤ e .most
 
--- The first edition takes every accepted tree because its limit is not below the table's. No other law makes the one limit of the other.
+-- The first edition takes every accepted tree because its limit is not below the table's. No other law makes the one
+-- limit of the other.
 pub first-described : Described firstEdition
 unfolding headWords pageRecord
 first-described =

@@ -1,7 +1,7 @@
--- What the archive's entries promise beside their equations, in an edition: the writer demand 3 (write-promise), the reader demand 2
--- (read-promise). They rest on the promises of the planner and the judge, and on the laws of writing and reading back. Assumes nothing.
-use Prim.Native.Nat.{ℕ, _≤_}
-use native.Mathlib.Omega.{arith}
+-- What the archive's entries promise beside their equations, in an edition: the writer demand 3 (write-promise), the
+-- reader demand 2 (read-promise). They rest on the promises of the planner and the judge, and on the laws of writing
+-- and reading back. Assumes nothing.
+use Prim.Native.Nat.{ℕ}
 use mathlib.Core.Bool.{true, false, true≢false}
 use mathlib.Core.Path.{_≡_, refl, sym, _∙_, ap, ap₂}
 use mathlib.Core.List.{List}
@@ -9,7 +9,8 @@ use lib.ListN.{length}
 use Rattle.model.specs.Table.{Bytes, nodeCount, tableBytes}
 use Rattle.model.specs.Plan.{pageCount, verdictOf}
 use Rattle.model.specs.Archive.{archiveOf, archiveBytes, nodesIn, tableIn, marksIn}
-use Rattle.model.specs.Refusals.{feasiblePlan, answerOf, planBest, Written, writeArchive, isArchive, Restored, readArchive}
+use Rattle.model.specs.Refusals.{feasiblePlan, answerOf, planBest, Written, writeArchive, isArchive, Restored}
+use Rattle.model.specs.Refusals.{readArchive}
 use Rattle.model.specs.Demand.{PlanLent, LowestOnFilm, WritePromise, WrittenFrom, ReadPromise}
 use Rattle.model.specs.declared.Verdict.the-variants.{Feasible, Failed}
 use Rattle.model.specs.declared.Beside.{Beside}

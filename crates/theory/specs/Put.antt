@@ -1,4 +1,5 @@
--- Words put into a string of bytes, one after the other and in records. Defines putWord, putRecord, Starts, RecordsPut. Assumes nothing.
+-- Words put into a string of bytes, one after the other and in records. Defines putWord, putRecord, Starts, RecordsPut.
+-- Assumes nothing.
 use Prim.Native.Nat.{ℕ, zero, suc, _+_, _-_, _*_, _/_, _%_, _≤_, _<_}
 use native.Mathlib.Omega.{arith}
 use native.Mathlib.Nat.{mul-le-mul-left}
@@ -28,10 +29,6 @@ pub length-putWord : (o : List ℕ) (i w : ℕ) → length (putWord o i w) ≡ l
 unfolding putWord
 length-putWord o i w = simp length-set
 
-pub length-putRecord : (o : List ℕ) (i a b c d : ℕ) → length (putRecord o i a b c d) ≡ length o
-unfolding putRecord
-length-putRecord o i a b c d = simp length-putWord
-
 bytesOf-append : (xs ys : List ℕ) → bytesOf (xs ++ ys) ≡ bytesOf xs ++ bytesOf ys
 unfolding bytesOf
 bytesOf-append [] ys = refl
@@ -41,15 +38,18 @@ pub starts-none : (o : List ℕ) → Starts o []
 unfolding Starts bytesOf
 starts-none o = refl
 
-pub starts-word : (o ws : List ℕ) (i w : ℕ) → Starts o ws → i ≡ length ws → 2 * i + 2 ≤ length o → Starts (putWord o i w) (ws ++ (w ∷ []))
+pub starts-word : (o ws : List ℕ) (i w : ℕ) → Starts o ws → i ≡ length ws → 2 * i + 2 ≤ length o
+    → Starts (putWord o i w) (ws ++ (w ∷ []))
 unfolding Starts putWord bytesOf
 starts-word o ws i w h at room =
     let first : List ℕ = set o (2 * i) (w / 256) in
     let long : 2 * length (ws ++ (w ∷ [])) ≡ suc (suc (2 * i)) = omega (arith, length-append ws (w ∷ [])) in
     let odd : 2 * i + 1 ≡ suc (2 * i) = omega arith in
-    let two : take (suc (suc (2 * i))) (set first (suc (2 * i)) (w % 256)) ≡ take (suc (2 * i)) first ++ (w % 256 ∷ []) =
+    let two : take (suc (suc (2 * i))) (set first (suc (2 * i)) (w % 256))
+    ≡ take (suc (2 * i)) first ++ (w % 256 ∷ []) =
     take-suc-set first (suc (2 * i)) (w % 256) (rw (length-set o (2 * i) (w / 256)) (omega arith)) in
-    let one : take (suc (2 * i)) first ≡ take (2 * i) o ++ (w / 256 ∷ []) = take-suc-set o (2 * i) (w / 256) (omega arith) in
+    let one : take (suc (2 * i)) first ≡ take (2 * i) o ++ (w / 256 ∷ []) =
+    take-suc-set o (2 * i) (w / 256) (omega arith) in
     let none : take (2 * i) o ≡ bytesOf ws = ap (λ j. take (2 * j) o) at ∙ h in
     rw (long, odd, two, one, none, bytesOf-append ws (w ∷ []), append-assoc)
 

@@ -9,8 +9,11 @@ use Rattle.embed.proofs.balduqen_read_archive.Tie as tie
 returns : tie.Need-returns
 returns c =
     let p = c .before .before .before .before .before .read-archive in
-    let same = c .flatten .ensures in
-    (ap (λ (f : Figures). refilled f (p .last .1 .0) (p .last .1 .1 .0)) same ∙ ap refilledBy (p .ensures .0), record { answer = p .result; figures = same; promise = p .ensures .1 })
+    let same = c .flatten .ensures in (
+      ap (λ (f : Figures). refilled f (p .last .1 .0) (p .last .1 .1 .0)) same
+          ∙ ap refilledBy (p .ensures .0),
+      record { answer = p .result; figures = same; promise = p .ensures .1 },
+    )
 
 pub balduqen-read-archive-spec : {M : Type 1} → statement M
 balduqen-read-archive-spec =

@@ -9,8 +9,11 @@ use Rattle.embed.proofs.balduqen_write_archive.Tie as tie
 returns : tie.Need-returns
 returns c =
     let p = c .before .before .before .write-archive in
-    let same = c .flatten .ensures in
-    (ap (λ (f : Figures). filled f (p .last .1 .1 .0)) same ∙ ap filledBy (p .ensures .0), record { answer = p .result; figures = same; promise = p .ensures .1 })
+    let same = c .flatten .ensures in (
+      ap (λ (f : Figures). filled f (p .last .1 .1 .0)) same
+          ∙ ap filledBy (p .ensures .0),
+      record { answer = p .result; figures = same; promise = p .ensures .1 },
+    )
 
 pub balduqen-write-archive-spec : {M : Type 1} → statement M
 balduqen-write-archive-spec =

@@ -5,7 +5,7 @@ use native.Mathlib.Omega.{arith}
 use lib.ListN.{length, getD, length-set, replicate, getD-replicate}
 use lib.Dec.{eqb}
 use Rattle.model.specs.Table.{slots}
-use Rattle.archive.specs.Ends.{MarksPass, marks-start, marks-turn}
+use Rattle.archive.specs.DecodeMarks.{MarksPass, marks-start, marks-turn}
 use Rattle.archive.proofs.Decoded.{sibling-small}
 use borrow.Author.Needs.{needs}
 use Rattle.archive.proofs.decode.fill_marks.Statement.{statement}
@@ -23,7 +23,12 @@ next-few : (n : tie.After-sibling-of Inv-loop μ-loop) → n .sibling-of .result
 next-few n =
     let v = n .before .before .before .before .before .loop .v + 1 in
     let link = n .before .before .before .before .before .before .before .pre .1 v (omega arith) (omega arith) in
-    omega (arith, n .sibling-of .ensures, sibling-small (eqb v 1) (getD (n .before .before .before .before .before .before .before .args .links .now) v 0) link)
+    omega (
+      arith,
+      n .sibling-of .ensures,
+      sibling-small (eqb v 1)
+          (getD (n .before .before .before .before .before .before .before .args .links .now) v 0) link,
+    )
 
 loop-holds : tie.Need-loop-holds Inv-loop μ-loop
 loop-holds c =
@@ -31,7 +36,8 @@ loop-holds c =
       omega arith,
       refl,
       refl,
-      marks-start (a .lasts .now) (a .links .now) (a .nodes) (a .plan .now) (replicate slots 0) (λ k fits. getD-replicate slots k 0 0 fits),
+      marks-start (a .lasts .now) (a .links .now) (a .nodes) (a .plan .now) (replicate slots 0)
+          (λ k fits. getD-replicate slots k 0 0 fits),
     )
 
 slice-write-plan : tie.Need-slice-write-plan Inv-loop μ-loop
@@ -59,7 +65,8 @@ loop-again c =
       simp length-set (l .inv .1),
       simp length-set (l .inv .2),
       marks-turn (a .lasts .now) (a .links .now) (a .nodes) (l .v) (l .plan) (l .due) _ _ _ (l .inv .3) (l .inv .1) less
-          (omega (arith, l .inv .2, start .pre .2, start .pre .0)) (c .before .before .before .run-end .ensures) (c .mark-for .ensures) (c .before .sibling-of .ensures),
+          (omega (arith, l .inv .2, start .pre .2, start .pre .0)) (c .before .before .before .run-end .ensures)
+          (c .mark-for .ensures) (c .before .sibling-of .ensures),
     )
 
 same-length : tie.Need-same-length Inv-loop μ-loop

@@ -8,17 +8,20 @@ use Rattle.archive.proofs.decode.first_in.Tie as tie
 
 returns : tie.Need-returns
 returns c =
-    first-last (c .before .before .before .args .archive .now) (c .before .before .before .args .v) (omega (arith, c .before .node-count .ensures, c .if1 .taken))
+    let a = c .before .before .before .args in
+    first-last (a .e) (a .archive .now) (a .v) (omega (arith, c .before .nodes-in .ensures, c .if1 .taken))
 
 returns-2 : tie.Need-returns-2
 returns-2 c =
     let a = c .before .before .before .before .before .args in
-    first-yes (a .archive .now) (a .v) (omega (arith, c .before .before .before .node-count .ensures, c .before .before .if1 .left)) (sym (c .before .parent-in .ensures) ∙ c .if2 .taken)
+    first-yes (a .e) (a .archive .now) (a .v)
+    (omega (arith, c .before .before .before .nodes-in .ensures, c .before .before .if1 .left))
+    (sym (c .before .parent-in .ensures) ∙ c .if2 .taken)
 
 returns-3 : tie.Need-returns-3
 returns-3 c =
     let a = c .before .before .before .before .before .args in
-    first-no (a .archive .now) (a .v) (λ e. c .if2 .left (c .before .parent-in .ensures ∙ e))
+    first-no (a .e) (a .archive .now) (a .v) (λ e. c .if2 .left (c .before .parent-in .ensures ∙ e))
 
 pub first-in-spec : {M : Type 1} → statement M
 first-in-spec =

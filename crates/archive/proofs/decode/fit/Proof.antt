@@ -1,7 +1,7 @@
 -- `archive::decode::fit` meets its contract. Assumes nothing.
 use borrow.Author.Tests.{lt-ltb, le-ltb}
 use Rattle.model.specs.Basics.{pick}
-use Rattle.archive.specs.Decode.{fitted}
+use Rattle.archive.specs.DecodeTable.{fitted}
 use Rattle.archive.proofs.decode.fit.Statement.{statement}
 use Rattle.archive.proofs.decode.fit.Tie as tie
 

@@ -4,25 +4,25 @@ use Prim.Native.Nat.{_-_, _≤_, _<_}
 use native.Mathlib.Omega.{arith}
 use lib.ListN.{length, length-set, replicate, getD-replicate}
 use Rattle.model.specs.Table.{slots}
-use Rattle.archive.specs.Decode.{fitted, fitted-small}
-use Rattle.archive.specs.Ends.{LastsPass, last-start, lasts-turn, lasts-end}
+use Rattle.archive.specs.DecodeTable.{fitted, fitted-small}
+use Rattle.archive.specs.DecodeMarks.{LastsPass, last-start, lasts-turn, lasts-end}
 use borrow.Author.Needs.{needs}
 use Rattle.archive.proofs.decode.load_lasts.Statement.{statement}
 use Rattle.archive.proofs.decode.load_lasts.Tie as tie
 
 abbrev Inv-loop : tie.InvT-loop
-Inv-loop archive pages lasts₀ q₀ lasts q =
-    (length lasts ≡ slots) × (q ≤ pages) × LastsPass archive q lasts
+Inv-loop e archive pages lasts₀ q₀ lasts q = (length lasts ≡ slots) × (q ≤ pages) × LastsPass e archive q lasts
 
 abbrev μ-loop : tie.MeasureT-loop
-μ-loop archive pages lasts₀ q₀ lasts q = pages - q
+μ-loop e archive pages lasts₀ q₀ lasts q = pages - q
 
 -- what is taken for a first node is a place of the array
 first-few : (f : tie.After-fit2 Inv-loop μ-loop) → f .fit2 .result < slots
 first-few f = omega (arith, f .fit2 .ensures, fitted-small (f .before .page-field .result))
 
 loop-holds : tie.Need-loop-holds Inv-loop μ-loop
-loop-holds c = (refl, omega arith, λ t m w. last-start w (replicate slots 0) (λ k fits. getD-replicate slots k 0 0 fits))
+loop-holds c =
+    (refl, omega arith, λ t m w. last-start w (replicate slots 0) (λ k fits. getD-replicate slots k 0 0 fits))
 
 cast-lasts : tie.Need-cast-lasts Inv-loop μ-loop
 cast-lasts c = let few = first-few (c .before) in search needs
@@ -36,20 +36,23 @@ array-write-lasts c = let few = first-few (c .before) in search needs
 loop-again : tie.Need-loop-again Inv-loop μ-loop
 loop-again c =
     let l = c .before .before .before .before .loop in
-    let a = c .before .before .before .before .before .before .before .before .args in
-    let count = c .before .before .before .before .before .fit .ensures ∙ ap fitted (c .before .before .before .before .before .before .pages-in .ensures) in (
+    let f = c .before .before .before .before .before in
+    let start = f .before .before .before in
+    let count = f .fit .ensures ∙ ap fitted (f .before .pages-in .ensures) in (
       simp length-set (l .inv .0),
       omega arith,
-      lasts-turn (a .archive .now) (l .lasts) (l .q) _ _ _ (l .inv .2) (l .inv .0) (c .before .before .before .loop-test .taken) count
+      lasts-turn (start .pre .is) (start .args .archive .now) (l .lasts) (l .q) _ (l .inv .2) count _ _ (l .inv .0)
+          (c .before .before .before .loop-test .taken)
           (c .before .fit2 .ensures ∙ ap fitted (c .before .before .page-field .ensures)) (c .page-field2 .ensures),
     )
 
 returns : tie.Need-returns Inv-loop μ-loop
 returns c =
     let l = c .before .loop in
-    let a = c .before .before .before .before .before .args in
+    let start = c .before .before .before .before .before in
     let count = c .before .before .fit .ensures ∙ ap fitted (c .before .before .before .pages-in .ensures) in
-    λ t m w. lasts-end (a .archive .now) (l .lasts) (l .q) _ (l .inv .2) (c .loop-test .left) count t m w
+    λ t m w. lasts-end (start .pre .is) (start .args .archive .now) (l .lasts) (l .q) _ (l .inv .2) count
+    (c .loop-test .left) t m w
 
 pub load-lasts-spec : {M : Type 1} → statement M
 load-lasts-spec =

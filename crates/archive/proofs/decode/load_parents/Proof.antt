@@ -4,17 +4,16 @@ use Prim.Native.Nat.{_-_, _≤_}
 use native.Mathlib.Omega.{arith}
 use lib.ListN.{length, length-set}
 use Rattle.model.specs.Table.{slots}
-use Rattle.archive.specs.Decode.{Loaded, fitted, loaded-turn}
+use Rattle.archive.specs.DecodeTable.{Loaded, fitted, loaded-turn}
 use borrow.Author.Needs.{needs}
 use Rattle.archive.proofs.decode.load_parents.Statement.{statement}
 use Rattle.archive.proofs.decode.load_parents.Tie as tie
 
 abbrev Inv-loop : tie.InvT-loop
-Inv-loop archive nodes parents₀ v₀ parents v =
-    (length parents ≡ slots) × (v ≤ nodes) × Loaded archive v parents
+Inv-loop e archive nodes parents₀ v₀ parents v = (length parents ≡ slots) × (v ≤ nodes) × Loaded e archive v parents
 
 abbrev μ-loop : tie.MeasureT-loop
-μ-loop archive nodes parents₀ v₀ parents v = nodes - v
+μ-loop e archive nodes parents₀ v₀ parents v = nodes - v
 
 loop-holds : tie.Need-loop-holds Inv-loop μ-loop
 loop-holds c = (refl, omega arith, λ u low high. absurd (omega arith))
@@ -26,7 +25,8 @@ loop-again c =
     let a = start .args in (
       simp length-set (l .inv .0),
       omega arith,
-      loaded-turn (a .archive .now) (l .parents) (l .v) _ (l .inv .2) (l .inv .0) (omega (arith, c .before .before .loop-test .taken, start .pre))
+      loaded-turn (a .e) (a .archive .now) (l .parents) (l .v) _ (l .inv .2) (l .inv .0)
+          (omega (arith, c .before .before .loop-test .taken, start .pre .1))
           (c .fit .ensures ∙ ap fitted (c .before .parent-in .ensures)),
     )
 

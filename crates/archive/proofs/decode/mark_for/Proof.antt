@@ -1,7 +1,7 @@
 -- `archive::decode::mark_for` meets its contract. Assumes nothing.
 use borrow.Author.Tests.{eq-eqb, ne-eqb}
 use Rattle.model.specs.Basics.{pick}
-use Rattle.archive.specs.Ends.{markFor}
+use Rattle.archive.specs.DecodeMarks.{markFor}
 use Rattle.archive.proofs.decode.mark_for.Statement.{statement}
 use Rattle.archive.proofs.decode.mark_for.Tie as tie
 

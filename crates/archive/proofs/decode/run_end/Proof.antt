@@ -1,7 +1,7 @@
 -- `archive::decode::run_end` meets its contract. Assumes nothing.
 use borrow.Author.Tests.{eq-eqb, ne-eqb, le-leb, lt-leb}
 use Rattle.model.specs.Basics.{pick}
-use Rattle.archive.specs.Ends.{runEnd}
+use Rattle.archive.specs.DecodeMarks.{runEnd}
 use Rattle.archive.proofs.decode.run_end.Statement.{statement}
 use Rattle.archive.proofs.decode.run_end.Tie as tie
 

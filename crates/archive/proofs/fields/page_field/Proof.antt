@@ -9,4 +9,4 @@ unfolding pageFieldIn
 returns c = c .field-after .ensures
 
 pub page-field-spec : {M : Type 1} → statement M
-page-field-spec = tie.close (tie.spec (λ c κs. search needs) returns)
+page-field-spec = tie.close (tie.spec (λ c. search needs) (λ c κs. search needs) returns)

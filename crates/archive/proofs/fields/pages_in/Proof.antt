@@ -9,4 +9,4 @@ unfolding pagesIn
 returns c = c .word-at .ensures
 
 pub pages-in-spec : {M : Type 1} → statement M
-pages-in-spec = tie.close (tie.spec (λ c κs. search needs) returns)
+pages-in-spec = tie.close (tie.spec (λ c. search needs) (λ c. search needs) (λ c κs. search needs) returns)

@@ -1,4 +1,4 @@
--- `archive::onward::link_next` meets its contract: what was seen of each key so far, and the links of the nodes passed.
+-- `archive::links::link_next` meets its contract: what was seen of each key so far, and the links of the nodes passed.
 -- Assumes nothing.
 use mathlib.Core.Path.{_≡_}
 use mathlib.Core.Path.{refl}
@@ -7,10 +7,10 @@ use native.Mathlib.Omega.{arith}
 use lib.ListN.{length, getD}
 use lib.ListN.{length-set, replicate, getD-replicate}
 use Rattle.model.specs.Table.{slots}
-use Rattle.archive.specs.Onward.{Seen, LinkedFrom, seen-start, seen-turn, linked-start, linked-turn}
+use Rattle.archive.specs.Links.{Seen, LinkedFrom, seen-start, seen-turn, linked-start, linked-turn}
 use borrow.Author.Needs.{needs}
-use Rattle.archive.proofs.onward.link_next.Statement.{statement}
-use Rattle.archive.proofs.onward.link_next.Tie as tie
+use Rattle.archive.proofs.links.link_next.Statement.{statement}
+use Rattle.archive.proofs.links.link_next.Tie as tie
 
 abbrev Inv-loop : tie.InvT-loop
 Inv-loop keys nodes seen₀ next₀ v₀ seen next v =
@@ -21,11 +21,18 @@ abbrev μ-loop : tie.MeasureT-loop
 μ-loop keys nodes seen₀ next₀ v₀ seen next v = v
 
 -- a key is a place of the arrays
-key-few : (k : tie.After-key Inv-loop μ-loop) → getD (k .before .before .before .args .keys .now) (k .before .before .loop .v) 0 < slots
+key-few : (k : tie.After-key Inv-loop μ-loop)
+    → getD (k .before .before .before .args .keys .now) (k .before .before .loop .v) 0 < slots
 key-few k = k .before .before .before .pre .1 (k .before .before .loop .v) (omega arith) (omega arith)
 
 loop-holds : tie.Need-loop-holds Inv-loop μ-loop
-loop-holds c = (refl, refl, omega arith, seen-start _ _ (replicate slots 0) (λ k fits. getD-replicate slots k 0 0 fits), linked-start _ _ (replicate slots 0))
+loop-holds c = (
+  refl,
+  refl,
+  omega arith,
+  seen-start _ _ (replicate slots 0) (λ k fits. getD-replicate slots k 0 0 fits),
+  linked-start _ _ (replicate slots 0),
+)
 
 cast-key-2 : tie.Need-cast-key-2 Inv-loop μ-loop
 cast-key-2 c = let few = key-few c in search needs
@@ -50,8 +57,10 @@ loop-again c =
       simp length-set (l .inv .0),
       simp length-set (l .inv .1),
       omega arith,
-      seen-turn (λ u. getD keys u 0) (start .args .nodes) (l .seen) (l .v) (l .inv .3) (l .inv .0) (omega arith) (l .inv .2) (key-few c),
-      linked-turn (λ u. getD keys u 0) (start .args .nodes) (l .seen) (l .next) (l .v) (l .inv .3) (l .inv .4) (omega (arith, l .inv .1, start .pre .0)) (key-few c) (omega arith),
+      seen-turn (λ u. getD keys u 0) (start .args .nodes) (l .seen) (l .v) (l .inv .3) (l .inv .0) (omega arith)
+          (l .inv .2) (key-few c),
+      linked-turn (λ u. getD keys u 0) (start .args .nodes) (l .seen) (l .next) (l .v) (l .inv .3) (l .inv .4)
+          (omega (arith, l .inv .1, start .pre .0)) (key-few c) (omega arith),
     )
 
 returns : tie.Need-returns Inv-loop μ-loop

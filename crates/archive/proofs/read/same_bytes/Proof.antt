@@ -3,7 +3,7 @@ use mathlib.Core.Path.{_≡_}
 use Prim.Native.Nat.{_-_, _≤_}
 use native.Mathlib.Omega.{arith}
 use lib.ListN.{length}
-use Rattle.archive.proofs.Decoded.{SameUpto, same-start, same-turn, bytes-yes, bytes-long, bytes-differ}
+use Rattle.archive.proofs.SameBytes.{SameUpto, same-start, same-turn, bytes-yes, bytes-long, bytes-differ}
 use borrow.Author.Needs.{needs}
 use Rattle.archive.proofs.read.same_bytes.Statement.{statement}
 use Rattle.archive.proofs.read.same_bytes.Tie as tie
@@ -29,8 +29,12 @@ returns-2 c = bytes-differ _ _ (c .before .before .before .before .loop .i) (c .
 loop-again : tie.Need-loop-again Inv-loop μ-loop
 loop-again c =
     let l = c .before .before .before .before .loop in
-    let a = c .before .before .before .before .before .before .args in
-    (omega (arith, c .before .before .before .loop-test .taken), l .inv .1, same-turn (a .a .now) (a .b .now) (l .i) (l .inv .2) (c .if2 .left))
+    let a = c .before .before .before .before .before .before .args in (
+      omega (arith, c .before .before .before .loop-test .taken),
+      l .inv .1,
+      same-turn (a .a .now) (a .b .now) (l .i)
+          (l .inv .2) (c .if2 .left),
+    )
 
 returns-3 : tie.Need-returns-3 Inv-loop μ-loop
 returns-3 c =

@@ -1,11 +1,11 @@
 -- `archive::write::fill_archive` meets its contract. Assumes nothing.
-use mathlib.Core.Path.{ap, _∙_}
+use mathlib.Core.Path.{_∙_}
+use Prim.Native.Nat.{_<_}
 use native.Mathlib.Omega.{arith}
-use Rattle.model.specs.Archive.{archiveBytes}
-use Rattle.model.specs.Table.{nodeCount}
+use Rattle.model.specs.Table.{slots}
 use Rattle.theory.specs.JudgeAnswers.{pageCount-le}
-use Rattle.archive.specs.Records.{pagesUpto, all-put}
-use Rattle.archive.proofs.Turns.{page-fits, head-start, onward-is, all-pages-length}
+use Rattle.theory.specs.ArchiveBack.{judged-light}
+use Rattle.archive.specs.RecordsOf.{head-put, all-put, next-of-page, page-fits}
 use borrow.Author.Needs.{needs}
 use Rattle.archive.proofs.write.fill_archive.Statement.{statement}
 use Rattle.archive.proofs.write.fill_archive.Tie as tie
@@ -15,55 +15,70 @@ link-next-requires c κs =
     let start = c .before .before .before .before .before .before .before in
     let a = start .args in
     let count = c .before .before .before .node-count .ensures in (
-      omega (arith, start .pre .0 .tree .sound .count-high),
-      λ v low high. page-fits (start .pre .0 .tree) (a .marks .now) (a .t3 .page) (start .pre .1 .page-is) v low (omega arith),
+      omega (arith, start .pre .1 .tree .sound .count-high),
+      λ v low high.
+          page-fits (start .pre .1 .tree) (a .marks .now) (a .t4 .page) (start .pre .2 .page-is) v low (omega arith),
     )
 
 put-pages-requires : tie.Need-put-pages-requires
 put-pages-requires c κs =
-    let start = c .before .before .before .before .before .before .before .before .before .before .before .before .before .before .before in
+    let h = c .before .before .before .before .before .before .before in
+    let start = h .before .before .before .before .before .before .before .before .before .before in
     let a = start .args in
-    let count = c .before .before .before .before .before .before .before .before .before .before .before .node-count .ensures in
-    let limit = c .before .before .before .before .before .before .before .before .before .before .limit-of .ensures in
-    let head = c .before .before .before .before .before .put-head in
-    let begun =
-    head-start (a .table .now) (a .marks .now) (a .out .now) (head .last .0) _ _ _ (head .ensures) count limit (start .pre .1 .pages-are)
-    (omega (arith, start .pre .2)) in (
+    let few = pageCount-le (a .table .now) (a .marks .now) in
+    let sound = start .pre .1 .tree .sound in
+    let pages : a .t4 .pages < slots = omega (arith, start .pre .2 .pages-are) in (
       start .pre .0,
-      start .pre .1 .pages-are,
+      pages,
       λ q low high.
-          start .pre .1 .weights-are q
-          (omega (arith, start .pre .1 .pages-are, pageCount-le (a .table .now) (a .marks .now), start .pre .0 .tree .sound .count-high)),
-      begun .0 ∙ start .pre .2,
-      begun .1,
+          omega (
+            arith,
+            start .pre .2 .weights-are q (omega arith),
+            judged-light (start .pre .1) q low (omega (arith, start .pre .2 .pages-are)),
+          ),
+      omega (arith, h .put-head .kept .1 .1 .1 .1 .0, start .pre .3),
     )
 
 put-nodes-requires : tie.Need-put-nodes-requires
 put-nodes-requires c κs =
-    let start = c .before .before .before .before .before .before .before .before .before .before .before .before .before .before .before .before .before .before .before .before .before .before in
+    let h =
+    c .before .before .before .before .before .before .before .before .before .before .before .before .before .before in
+    let start = h .before .before .before .before .before .before .before .before .before .before in
     let a = start .args in
-    let head = c .before .before .before .before .before .before .before .before .before .before .before .before .put-head in
-    let pages = c .before .before .before .before .before .before .put-pages in (
-      omega (arith, start .pre .0 .tree .sound .count-high),
-      omega (arith, start .pre .1 .pages-are, pageCount-le (a .table .now) (a .marks .now), start .pre .0 .tree .sound .count-high),
-      pages .kept .1 .1 .1 .1 .0 ∙ head .kept .0 ∙ start .pre .2,
+    let few = pageCount-le (a .table .now) (a .marks .now) in
+    let sound = start .pre .1 .tree .sound in (
+      start .pre .0,
+      omega arith,
+      omega (arith, start .pre .2 .pages-are),
+      c .before .before .before .before .before .before .put-pages .kept .1 .1 .1 .1 .1 .0
+          ∙ h .put-head .kept .1 .1 .1 .1 .0 ∙ start .pre .3,
     )
 
 returns : tie.Need-returns
 returns c =
-    let start = c .before .before .before .before .before .before .before .before .before .before .before .before .before .before .before .before .before .before .before .before .before .before .before .before .before in
+    let p = c .before .before .before .before .before .before .before .before .before in
+    let pages = p .put-pages in
+    let h = p .before .before .before .before .before .before .before .before in
+    let start = h .before .before .before .before .before .before .before .before .before .before in
     let a = start .args in
-    let count = c .before .before .before .before .before .before .before .before .before .before .before .before .before .before .before .before .before .before .before .before .before .node-count .ensures in
-    let onward = c .before .before .before .before .before .before .before .before .before .before .before .before .before .before .before .before .before .link-next in
-    let head = c .before .before .before .before .before .before .before .before .before .before .before .before .before .before .before .put-head in
-    let pages = c .before .before .before .before .before .before .before .before .before .put-pages in
+    let t = a .table .now in
+    let m = a .marks .now in
+    let plan = start .pre .2 in
+    let good = start .pre .1 .marked in
+    let d = start .pre .0 .is in
+    let count = h .before .before .before .before .before .before .node-count .ensures in
+    let limit = h .before .before .before .before .before .limit-of .ensures in
+    let onward = h .before .before .link-next in
     let nodes = c .before .before .put-nodes in
-    all-put (a .table .now) (a .marks .now) (a .t3 .parents) (onward .result) (nodes .last .1 .1 .1 .1 .0) (start .pre .1 .parents-are)
-    (onward-is (a .table .now) (a .marks .now) (a .t3 .page) (onward .result) _ count (start .pre .1 .page-is) (onward .ensures))
-    (nodes .kept .1 .1 .1 .1 .0 ∙ pages .kept .1 .1 .1 .1 .0 ∙ head .kept .0 ∙ start .pre .2
-    ∙ ap (λ k. archiveBytes k (nodeCount (a .table .now))) (start .pre .1 .pages-are))
-    (nodes .ensures (pagesUpto (a .table .now) (a .marks .now) (nodeCount (a .table .now)))
-    (omega (arith, all-pages-length (a .table .now) (a .marks .now), start .pre .1 .pages-are)) (pages .ensures))
+    all-put d t m (a .t4 .firsts) (a .t4 .lasts) (a .t4 .weights) (a .t4 .parents) (onward .result) (a .t4 .pages)
+    (plan .pages-are) (plan .firsts-are good) (plan .lasts-are good)
+    (λ q low high. plan .weights-are q (omega (arith, pageCount-le t m, start .pre .1 .tree .sound .count-high)))
+    (plan .parents-are) (next-of-page t m (a .t4 .page) (onward .result) _ count (plan .page-is) (onward .ensures))
+    _ _ _
+    (head-put d t m (a .out .now) _ _ _ _ (h .put-head .ensures) count limit (plan .pages-are)
+    (omega (arith, start .pre .3)))
+    (pages .ensures) (nodes .ensures)
+    (nodes .kept .1 .1 .1 .1 .1 .0 ∙ pages .kept .1 .1 .1 .1 .1 .0 ∙ h .put-head .kept .1 .1 .1 .1 .0 ∙ start .pre .3)
 
 pub fill-archive-spec : {M : Type 1} → statement M
 fill-archive-spec =
