@@ -1,40 +1,49 @@
--- One turn of the judge's pass, for node v + 1 after the nodes 1 to v, and what the pass has at its end. Defines LayoutTo. Assumes nothing.
+-- One turn of the judge's pass, for node v + 1 after the nodes 1 to v, and what the pass has at its end.
+-- Defines LayoutTo, Sized. Assumes nothing.
 use mathlib.Core.Path.{_≡_, refl, sym, ap, ap₂, _∙_}
-use mathlib.Core.Bool.{Bool, true, false, not, _||_}
+use mathlib.Core.Bool.{Bool, true, false, not, _&&_, _||_}
 use mathlib.Core.List.{List}
 use lib.Dec.{eqb, ltb}
 use Prim.Native.Nat.{ℕ, zero, suc, _+_, _-_, _*_, _≤_, _<_}
 use native.Mathlib.Omega.{arith}
 use native.Mathlib.Numerals.{add-one}
-use lib.ListN.{length, getD, set, replicate, getD-replicate}
+use lib.ListN.{length, getD, set, replicate, getD-replicate, length-set}
 use lib.Seq.{getD-set-same, getD-set-other}
 use borrow.Author.Tests.{eqb-true, eqb-false, eq-eqb, ne-eqb}
-use Rattle.model.specs.Basics.{pick, when, atPlace, sumTo, countTo, firstTo, lastTo}
+use Rattle.model.specs.Basics.{pick, when, atPlace, countTo, firstTo, lastTo}
 use Rattle.model.specs.Table.{maxNodes, maxLimit, slots, nodeCount, limitOf, weightAt, nextAt}
-use Rattle.model.specs.Plan.{prevAt, parentAt, markAt, hasMark, begins, inRun, goodMark, pageOf, pageCount, pageWeight, badMark, heavyPage}
+use Rattle.model.specs.Plan.{prevAt, parentAt, markAt, hasMark, begins, inRun, goodMark, pageOf}
+use Rattle.model.specs.Plan.{pageCount, pageWeight, badMark, heavyPage}
 use Rattle.model.specs.declared.Place.{Place}
-use Rattle.model.specs.declared.Place.the-variants.{At, Nowhere}
-use Rattle.theory.specs.Ranges.{pick-true, pick-false, sumTo-zero, sumTo-suc, countTo-zero, countTo-suc, countTo-le, firstTo-zero, firstTo-suc, firstTo-cong, lastTo-zero, lastTo-yes, lastTo-no}
+use Rattle.model.specs.declared.Place.the-variants.{At}
+use Rattle.theory.specs.Ranges.{pick-true, pick-false, countTo-zero, countTo-suc, countTo-le}
+use Rattle.theory.specs.Ranges.{firstTo-zero, firstTo-suc, firstTo-cong, lastTo-zero, lastTo-yes, lastTo-no}
+use Rattle.theory.specs.Sums.{sumTo-most}
 use Rattle.theory.specs.TableFacts.{AcceptedFacts}
 use Rattle.theory.specs.TableLinks.{next-le, prevAt-less}
 use Rattle.theory.specs.PlanPass.{stepBack, back-less, pageOf-none, pageOf-le, pageOf-step, parentAt-step}
-use Rattle.theory.specs.Sums.{sumTo-most}
-use Rattle.theory.specs.PagesByNumber.{lastOnPage, lastOnPage-zero, lastOnPage-on, lastOnPage-off, first-found, last-found}
+use Rattle.theory.specs.PlanPass.{weightTo, weightTo-zero, weightTo-suc}
+use Rattle.theory.specs.PagesByNumber.{lastOnPage, lastOnPage-zero, lastOnPage-on, lastOnPage-off}
+use Rattle.theory.specs.PagesByNumber.{first-found, last-found}
 use Rattle.theory.specs.JudgeAnswers.{pageCount-le}
 use Rattle.judge.specs.declared.pages.Layout.{Layout}
-use Rattle.judge.specs.Rows.{Row, goodCase, IsLayout}
+use Rattle.judge.specs.Rows.{Row, goodCase, IsLayout, noLayout}
+
+-- what stands at w after a store of x at q, where x is g q and all else had its g already
+stored : (g : ℕ → ℕ) (l : List ℕ) (q x w : ℕ) → q < length l → x ≡ g q → ((w ≡ q → ⊥) → getD l w 0 ≡ g w)
+    → getD (set l q x) w 0 ≡ g w
+stored g l q x w fits e other = go (eqb w q) refl
+  where
+    go : (b : Bool) → eqb w q ≡ b → getD (set l q x) w 0 ≡ g w
+    go true s =
+        let same : w ≡ q = eqb-true w q s in
+        ap (λ (k : ℕ). getD (set l q x) k 0) same ∙ getD-set-same l q x 0 fits ∙ e ∙ ap g (sym same)
+    go false s = getD-set-other l q w x 0 (eqb-false w q s) ∙ other (eqb-false w q s)
 
 -- one more node
-row-add : (f : ℕ → ℕ) (l : List ℕ) (v x : ℕ) → Row v f l → v + 1 < length l → x ≡ f (v + 1) → Row (v + 1) f (set l (v + 1) x)
-row-add f l v x row fits e u low high = go (eqb u (v + 1)) refl
-  where
-    go : (b : Bool) → eqb u (v + 1) ≡ b → getD (set l (v + 1) x) u 0 ≡ f u
-    go true q =
-        let same : u ≡ v + 1 = eqb-true u (v + 1) q in
-        ap (λ (k : ℕ). getD (set l (v + 1) x) k 0) same ∙ getD-set-same l (v + 1) x 0 fits ∙ e ∙ ap f (sym same)
-    go false q =
-        let other : u ≡ v + 1 → ⊥ = eqb-false u (v + 1) q in
-        getD-set-other l (v + 1) u x 0 other ∙ row u low (omega arith)
+row-add : (f : ℕ → ℕ) (l : List ℕ) (v x : ℕ) → Row v f l → v + 1 < length l → x ≡ f (v + 1)
+    → Row (v + 1) f (set l (v + 1) x)
+row-add f l v x row fits e u low high = stored f l (v + 1) x u fits e (λ other. row u low (omega arith))
 
 -- ---- The sibling just before each node
 
@@ -47,22 +56,16 @@ prevs-start t l h w fits = h w fits ∙ sym (lastTo-zero (λ u. eqb (nextAt t u)
 
 prevs-turn : (t l : List ℕ) (v x : ℕ) → PrevsTo t v l → length l ≡ slots → x ≡ nextAt t (v + 1) → x < slots
     → PrevsTo t (v + 1) (set l x (v + 1))
-prevs-turn t l v x h long e fits w within = rw (add-one v) (go (eqb w x) refl)
+prevs-turn t l v x h long e fits w within =
+    rw (add-one v)
+    (stored (λ k. lastTo (suc v) (λ u. eqb (nextAt t u) k)) l x (suc v) w (omega arith)
+    (sym (lastTo-yes v (λ u. eqb (nextAt t u) x) (eq-eqb (nextAt t (suc v)) x next)))
+    (λ other.
+    h w within
+    ∙ sym (lastTo-no v (λ u. eqb (nextAt t u) w) (ne-eqb (nextAt t (suc v)) w (λ z. other (sym z ∙ next))))))
   where
-    at-next : (b : Bool) → eqb x w ≡ b → eqb (nextAt t (suc v)) w ≡ b
-    at-next b q = ap (λ (k : ℕ). eqb k w) (sym (e ∙ ap (nextAt t) (add-one v))) ∙ q
-
-    go : (b : Bool) → eqb w x ≡ b → getD (set l x (suc v)) w 0 ≡ lastTo (suc v) (λ u. eqb (nextAt t u) w)
-    go true q =
-        let same : w ≡ x = eqb-true w x q in
-        ap (λ (k : ℕ). getD (set l x (suc v)) k 0) same
-        ∙ getD-set-same l x (suc v) 0 (omega arith)
-        ∙ sym (lastTo-yes v (λ u. eqb (nextAt t u) w) (at-next true (eq-eqb x w (sym same))))
-    go false q =
-        let other : w ≡ x → ⊥ = eqb-false w x q in
-        getD-set-other l x w (suc v) 0 other
-        ∙ h w within
-        ∙ sym (lastTo-no v (λ u. eqb (nextAt t u) w) (at-next false (ne-eqb x w (λ s. other (sym s)))))
+    next : nextAt t (suc v) ≡ x
+    next = ap (nextAt t) (sym (add-one v)) ∙ sym e
 
 prior-is : (t l : List ℕ) (v : ℕ) → PrevsTo t v l → v + 1 < slots → getD l (v + 1) 0 ≡ prevAt t (v + 1)
 unfolding prevAt
@@ -72,8 +75,8 @@ prior-is t l v h fits =
 
 -- ---- Parents
 
-parent-is : {t : List ℕ} → AcceptedFacts t → (l : List ℕ) (v u x : ℕ) → Row v (parentAt t) l → v < nodeCount t → u ≡ prevAt t (v + 1)
-    → x ≡ pick (eqb u 0) (v + 1 - 1) (getD l u 0) → x ≡ parentAt t (v + 1)
+parent-is : {t : List ℕ} → AcceptedFacts t → (l : List ℕ) (v u x : ℕ) → Row v (parentAt t) l → v < nodeCount t
+    → u ≡ prevAt t (v + 1) → x ≡ pick (eqb u 0) (v + 1 - 1) (getD l u 0) → x ≡ parentAt t (v + 1)
 parent-is {t} a l v u x row less e q =
     q ∙ go (eqb u 0) refl ∙ ap (λ (k : ℕ). pick (eqb k 0) (v + 1 - 1) (parentAt t k)) e
     ∙ sym (parentAt-step (a .sound) (v + 1) (omega arith) (omega arith))
@@ -106,15 +109,15 @@ module _ (t m : List ℕ) where
   home-is l v (suc u) row root high = row (suc u) (omega arith) high
 
   -- the node one step back
-  back-is : (v mark u parent home : ℕ) → mark ≡ markAt m v → u ≡ prevAt t v → parent ≡ parentAt t v → home ≡ pick (eqb mark 2) u parent
-      → home ≡ stepBack t m v
+  back-is : (v mark u parent home : ℕ) → mark ≡ markAt m v → u ≡ prevAt t v → parent ≡ parentAt t v
+      → home ≡ pick (eqb mark 2) u parent → home ≡ stepBack t m v
   back-is v mark u parent home e a b h =
       h ∙ ap₂ (λ (i j : ℕ). pick (eqb mark 2) i j) a b ∙ ap (λ (k : ℕ). pick (eqb k 2) (prevAt t v) (parentAt t v)) e
 
-  page-is : (l : List ℕ) (v mark next home x : ℕ) → Row v (pageOf t m) l → getD l 0 0 ≡ 0 → mark ≡ markAt m (v + 1)
-      → next ≡ countTo (v + 1) (hasMark m begins) → home ≡ stepBack t m (v + 1) → x ≡ pick (eqb mark 1) next (getD l home 0)
-      → x ≡ pageOf t m (v + 1)
-  page-is l v mark next home x row root e q back r =
+  page-turn : (l : List ℕ) (v mark next home x : ℕ) → Row v (pageOf t m) l → getD l 0 0 ≡ 0 → mark ≡ markAt m (v + 1)
+      → next ≡ countTo (v + 1) (hasMark m begins) → home ≡ stepBack t m (v + 1)
+      → x ≡ pick (eqb mark 1) next (getD l home 0) → x ≡ pageOf t m (v + 1)
+  page-turn l v mark next home x row root e q back r =
       r
       ∙ ap (λ (k : ℕ). pick (eqb mark 1) next k)
       (home-is l v home row root (omega (arith, back-less t m (v + 1) (omega arith), back)) ∙ ap (pageOf t m) back)
@@ -127,29 +130,21 @@ module _ (t m : List ℕ) where
 abbrev LastsTo : List ℕ → List ℕ → (ℕ → Bool) → ℕ → List ℕ → Type 0
 LastsTo t m test v l = (p : ℕ) → p < slots → getD l p 0 ≡ lastOnPage t m test v p
 
-lasts-start : (t m : List ℕ) (test : ℕ → Bool) (l : List ℕ) → ((w : ℕ) → w < slots → getD l w 0 ≡ 0) → LastsTo t m test 0 l
+lasts-start : (t m : List ℕ) (test : ℕ → Bool) (l : List ℕ) → ((w : ℕ) → w < slots → getD l w 0 ≡ 0)
+    → LastsTo t m test 0 l
 lasts-start t m test l h p fits = h p fits ∙ sym (lastOnPage-zero t m test p)
 
 lasts-turn : (t m : List ℕ) (test : ℕ → Bool) (l : List ℕ) (v q x : ℕ) → LastsTo t m test v l → length l ≡ slots
-    → q ≡ pageOf t m (v + 1) → q < slots → x ≡ pick (test (v + 1)) (v + 1) (getD l q 0) → LastsTo t m test (v + 1) (set l q x)
-lasts-turn t m test l v q x h long e fits g p within = rw (add-one v) (go (eqb p q) refl)
+    → q ≡ pageOf t m (v + 1) → q < slots → x ≡ pick (test (v + 1)) (v + 1) (getD l q 0)
+    → LastsTo t m test (v + 1) (set l q x)
+lasts-turn t m test l v q x h long e fits g p within =
+    rw (add-one v)
+    (stored (lastOnPage t m test (suc v)) l q x p (omega arith)
+    (g ∙ ap₂ (λ (u k : ℕ). pick (test u) u k) (add-one v) (h q fits) ∙ sym (lastOnPage-on t m test v q here))
+    (λ other. h p within ∙ sym (lastOnPage-off t m test v p (λ z. other (sym z ∙ here)))))
   where
     here : pageOf t m (suc v) ≡ q
     here = ap (pageOf t m) (sym (add-one v)) ∙ sym e
-
-    go : (b : Bool) → eqb p q ≡ b → getD (set l q x) p 0 ≡ lastOnPage t m test (suc v) p
-    go true s =
-        let same : p ≡ q = eqb-true p q s in
-        ap (λ (k : ℕ). getD (set l q x) k 0) same
-        ∙ getD-set-same l q x 0 (omega arith)
-        ∙ g
-        ∙ ap₂ (λ (u k : ℕ). pick (test u) u k) (add-one v) (ap (λ (k : ℕ). getD l k 0) (sym same) ∙ h p within)
-        ∙ sym (lastOnPage-on t m test v p (here ∙ sym same))
-    go false s =
-        let other : p ≡ q → ⊥ = eqb-false p q s in
-        getD-set-other l q p x 0 other
-        ∙ h p within
-        ∙ sym (lastOnPage-off t m test v p (λ z. other (sym z ∙ here)))
 
 in-run : (m : List ℕ) (v : ℕ) → (eqb (markAt m v) 1 || eqb (markAt m v) 2) ≡ inRun m v
 unfolding inRun
@@ -157,44 +152,40 @@ in-run m v = refl
 
 -- ---- Weights
 
--- the weight of those of the nodes 1 to v that the plan has on page p
-unfoldable pub weightTo : ℕ → List ℕ → List ℕ → ℕ → ℕ
-weightTo v t m p = sumTo v (λ u. pick (eqb (pageOf t m u) p) (weightAt t u) 0)
+-- at p, what the nodes 1 to v weigh that are on page p
+abbrev WeightsTo : List ℕ → List ℕ → ℕ → List ℕ → Type 0
+WeightsTo t m v l = (p : ℕ) → p < slots → getD l p 0 ≡ weightTo v t m p
 
-abbrev Weighed : List ℕ → List ℕ → ℕ → List ℕ → Type 0
-Weighed t m v l = (p : ℕ) → p < slots → getD l p 0 ≡ weightTo v t m p
+weights-start : (t m l : List ℕ) → ((w : ℕ) → w < slots → getD l w 0 ≡ 0) → WeightsTo t m 0 l
+weights-start t m l h p fits = h p fits ∙ sym (weightTo-zero t m p)
 
-weights-start : (t m l : List ℕ) → ((w : ℕ) → w < slots → getD l w 0 ≡ 0) → Weighed t m 0 l
-unfolding weightTo
-weights-start t m l h p fits = h p fits ∙ sym (sumTo-zero (λ v. pick (eqb (pageOf t m v) p) (weightAt t v) 0))
-
-weightTo-suc : (v : ℕ) (t m : List ℕ) (p : ℕ)
-    → weightTo (suc v) t m p ≡ weightTo v t m p + pick (eqb (pageOf t m (suc v)) p) (weightAt t (suc v)) 0
-unfolding weightTo
-weightTo-suc v t m p = sumTo-suc v (λ u. pick (eqb (pageOf t m u) p) (weightAt t u) 0)
-
-weights-turn : (t m l : List ℕ) (v q w : ℕ) → Weighed t m v l → length l ≡ slots → q ≡ pageOf t m (v + 1) → q < slots
-    → w ≡ weightAt t (v + 1) → Weighed t m (v + 1) (set l q (getD l q 0 + w))
-weights-turn t m l v q w h long e fits g p within = rw (add-one v) (go (eqb p q) refl ∙ sym (weightTo-suc v t m p))
+weights-turn : (t m l : List ℕ) (v q w : ℕ) → WeightsTo t m v l → length l ≡ slots → q ≡ pageOf t m (v + 1)
+    → q < slots → w ≡ weightAt t (v + 1) → WeightsTo t m (v + 1) (set l q (getD l q 0 + w))
+weights-turn t m l v q w h long e fits g p within =
+    rw (add-one v) (stored (weightTo (suc v) t m) l q (getD l q 0 + w) p (omega arith) on off)
   where
-    here : q ≡ pageOf t m (suc v)
-    here = e ∙ ap (pageOf t m) (add-one v)
+    here : pageOf t m (suc v) ≡ q
+    here = ap (pageOf t m) (sym (add-one v)) ∙ sym e
 
-    go : (b : Bool) → eqb p q ≡ b
-        → getD (set l q (getD l q 0 + w)) p 0 ≡ weightTo v t m p + pick (eqb (pageOf t m (suc v)) p) (weightAt t (suc v)) 0
-    go true s =
-        let same : p ≡ q = eqb-true p q s in
-        let test : eqb (pageOf t m (suc v)) p ≡ true = eq-eqb (pageOf t m (suc v)) p (sym here ∙ sym same) in
-        ap (λ (k : ℕ). getD (set l q (getD l q 0 + w)) k 0) same
-        ∙ getD-set-same l q (getD l q 0 + w) 0 (omega arith)
-        ∙ ap₂ (λ (i j : ℕ). i + j) (ap (λ (k : ℕ). getD l k 0) (sym same) ∙ h p within)
-        (g ∙ ap (weightAt t) (add-one v) ∙ sym (pick-true (eqb (pageOf t m (suc v)) p) (weightAt t (suc v)) 0 test))
-    go false s =
-        let other : p ≡ q → ⊥ = eqb-false p q s in
-        let test : eqb (pageOf t m (suc v)) p ≡ false = ne-eqb (pageOf t m (suc v)) p (λ z. other (sym z ∙ sym here)) in
-        getD-set-other l q p (getD l q 0 + w) 0 other
-        ∙ h p within
-        ∙ omega (arith, pick-false (eqb (pageOf t m (suc v)) p) (weightAt t (suc v)) 0 test)
+    on : getD l q 0 + w ≡ weightTo (suc v) t m q
+    on =
+        omega (
+          arith,
+          h q fits,
+          g ∙ ap (weightAt t) (add-one v),
+          weightTo-suc v t m q,
+          pick-true (eqb (pageOf t m (suc v)) q) (weightAt t (suc v)) 0 (eq-eqb (pageOf t m (suc v)) q here),
+        )
+
+    off : (p ≡ q → ⊥) → getD l p 0 ≡ weightTo (suc v) t m p
+    off other =
+        omega (
+          arith,
+          h p within,
+          weightTo-suc v t m p,
+          pick-false (eqb (pageOf t m (suc v)) p) (weightAt t (suc v)) 0
+              (ne-eqb (pageOf t m (suc v)) p (λ z. other (sym z ∙ here))),
+        )
 
 module _ {t : List ℕ} (a : AcceptedFacts t) where
   pick-most : (b : Bool) (x k : ℕ) → x ≤ k → pick b x 0 ≤ k
@@ -207,7 +198,9 @@ module _ {t : List ℕ} (a : AcceptedFacts t) where
   unfolding weightTo
   weight-most m v p high =
       sumTo-most v maxLimit (λ u. pick (eqb (pageOf t m u) p) (weightAt t u) 0)
-      (λ u c d. pick-most (eqb (pageOf t m u) p) (weightAt t u) maxLimit (omega (arith, a .light u c (omega arith), a .sound .limit-high)))
+      (λ u c d.
+      pick-most (eqb (pageOf t m u) p) (weightAt t u) maxLimit
+      (omega (arith, a .light u c (omega arith), a .sound .limit-high)))
 
 -- ---- Marks
 
@@ -215,135 +208,185 @@ good-case : (t m : List ℕ) (v : ℕ) → goodCase v (markAt m v) (prevAt t v) 
 unfolding goodCase goodMark inRun
 good-case t m v = refl
 
-good-is : (t m : List ℕ) (v mark u prior : ℕ) (g : Bool) → g ≡ goodCase v mark u prior → mark ≡ markAt m v → u ≡ prevAt t v
-    → prior ≡ markAt m u → g ≡ goodMark t m v
+good-is : (t m : List ℕ) (v mark u prior : ℕ) (g : Bool) → g ≡ goodCase v mark u prior → mark ≡ markAt m v
+    → u ≡ prevAt t v → prior ≡ markAt m u → g ≡ goodMark t m v
 good-is t m v mark u prior g e a b d =
     e ∙ ap₂ (λ (i j : ℕ). goodCase v i u j) a d
     ∙ ap (λ (k : ℕ). goodCase v (markAt m v) k (markAt m k)) b
     ∙ good-case t m v
 
+-- a node's number as a place: 0 is none
+abbrev placed : ℕ → Place
+placed n = when (not (eqb n 0)) n
+
+placed-turn : (v b : ℕ) (g : Bool)
+    → placed (pick (eqb b 0 && not g) (suc v) b) ≡ atPlace (placed b) At (when (not g) (suc v))
+unfolding pick when atPlace
+placed-turn v zero true = refl
+placed-turn v zero false = ap (λ (b : Bool). when (not b) (suc v)) (ne-eqb (suc v) 0 (λ z. omega arith))
+placed-turn v (suc b) g = let e : eqb (suc b) 0 ≡ false = ne-eqb (suc b) 0 (λ z. omega arith) in rw (e, e)
+
 -- the first bad mark so far, or else that of the turn
-bad-turn : (t m : List ℕ) (v : ℕ) (bad next : Place) (good : Bool) → bad ≡ firstTo v (λ u. not (goodMark t m u)) → good ≡ goodMark t m (v + 1)
-    → next ≡ atPlace bad At (when (not good) (v + 1)) → next ≡ firstTo (v + 1) (λ u. not (goodMark t m u))
+bad-turn : (t m : List ℕ) (v bad next : ℕ) (good : Bool) → placed bad ≡ firstTo v (λ u. not (goodMark t m u))
+    → good ≡ goodMark t m (v + 1) → next ≡ pick (eqb bad 0 && not good) (v + 1) bad
+    → placed next ≡ firstTo (v + 1) (λ u. not (goodMark t m u))
 bad-turn t m v bad next good h e q =
-    q ∙ ap₂ (λ (o : Place) (b : Bool). atPlace o At (when (not b) (v + 1))) h e
-    ∙ rw (add-one v) (sym (firstTo-suc v (λ u. not (goodMark t m u))))
+    ap placed q
+    ∙ rw (add-one v)
+    (placed-turn v bad good
+    ∙ ap₂ (λ (o : Place) (b : Bool). atPlace o At (when (not b) (suc v))) h (e ∙ ap (goodMark t m) (add-one v))
+    ∙ sym (firstTo-suc v (λ u. not (goodMark t m u))))
 
 -- ---- The pass
 
+-- the arrays have a place for each node
+pub record Sized (r : Layout) : Type 0 where
+  pub parents-long : length (r .parents) ≡ slots
+  pub page-long : length (r .page) ≡ slots
+  pub firsts-long : length (r .firsts) ≡ slots
+  pub lasts-long : length (r .lasts) ≡ slots
+  pub weights-long : length (r .weights) ≡ slots
+
 -- what stands in the arrays after the nodes 1 to v
-pub record LayoutTo (t m : List ℕ) (v : ℕ) (before parents page firsts lasts weights : List ℕ) (pages : ℕ) (bad : Place) : Type 0 where
+pub record LayoutTo (t m : List ℕ) (v : ℕ) (before : List ℕ) (r : Layout) : Type 0 where
+  pub before-long : length before ≡ slots
+  pub sized : Sized r
   pub prevs : PrevsTo t v before
-  pub parents-to : Row v (parentAt t) parents
-  pub page-to : Row v (pageOf t m) page
-  pub page-none : getD page 0 0 ≡ 0
-  pub firsts-to : LastsTo t m (hasMark m begins) v firsts
-  pub lasts-to : LastsTo t m (inRun m) v lasts
-  pub weights-to : Weighed t m v weights
-  pub pages-to : pages ≡ countTo v (hasMark m begins)
-  pub bad-to : bad ≡ firstTo v (λ u. not (goodMark t m u))
+  pub parents-to : Row v (parentAt t) (r .parents)
+  pub page-to : Row v (pageOf t m) (r .page)
+  pub page-none : getD (r .page) 0 0 ≡ 0
+  pub firsts-to : LastsTo t m (hasMark m begins) v (r .firsts)
+  pub lasts-to : LastsTo t m (inRun m) v (r .lasts)
+  pub weights-to : WeightsTo t m v (r .weights)
+  pub pages-to : r .pages ≡ countTo v (hasMark m begins)
+  pub bad-to : placed (r .bad) ≡ firstTo v (λ u. not (goodMark t m u))
 
-abbrev zeros : List ℕ
-zeros = replicate slots 0
-
-pub layout-start : (t m : List ℕ) → LayoutTo t m 0 zeros zeros zeros zeros zeros zeros 0 Nowhere
+pub layout-start : (t m : List ℕ) → LayoutTo t m 0 (replicate slots 0) noLayout
+unfolding when
 layout-start t m =
-    let zero-at : (w : ℕ) → w < slots → _≡_ {A = ℕ} (getD zeros w 0) 0 = λ w fits. getD-replicate slots w 0 0 fits in
+    let zero-at : (w : ℕ) → w < slots → _≡_ {A = ℕ} (getD (replicate slots 0) w 0) 0 =
+    λ w fits. getD-replicate slots w 0 0 fits in
     record {
-      prevs = prevs-start t zeros zero-at;
+      before-long = refl;
+      sized =
+          record { parents-long = refl; page-long = refl; firsts-long = refl; lasts-long = refl; weights-long = refl };
+      prevs = prevs-start t (replicate slots 0) zero-at;
       parents-to = λ u low high. absurd (omega arith);
       page-to = λ u low high. absurd (omega arith);
       page-none = zero-at 0 (omega arith);
-      firsts-to = lasts-start t m (hasMark m begins) zeros zero-at;
-      lasts-to = lasts-start t m (inRun m) zeros zero-at;
-      weights-to = weights-start t m zeros zero-at;
+      firsts-to = lasts-start t m (hasMark m begins) (replicate slots 0) zero-at;
+      lasts-to = lasts-start t m (inRun m) (replicate slots 0) zero-at;
+      weights-to = weights-start t m (replicate slots 0) zero-at;
       pages-to = sym (countTo-zero (hasMark m begins));
       bad-to = sym (firstTo-zero (λ u. not (goodMark t m u)));
     }
 
 -- the turn of node v + 1: what its locals are, and that they have places in the arrays
-module _ {t m : List ℕ} {v : ℕ} {before parents page firsts lasts weights : List ℕ} {pages : ℕ} {bad : Place} (a : AcceptedFacts t)
-    (h : LayoutTo t m v before parents page firsts lasts weights pages bad) (less : v < nodeCount t) where
-  u-is : getD before (v + 1) 0 ≡ prevAt t (v + 1)
+module _ {t m : List ℕ} {v : ℕ} {before : List ℕ} {r : Layout} (a : AcceptedFacts t) (h : LayoutTo t m v before r)
+    (less : v < nodeCount t) where
+  -- the sibling before it
+  abbrev u : ℕ
+  u = getD before (v + 1) 0
+
+  u-is : u ≡ prevAt t (v + 1)
   u-is = prior-is t before v (h .prevs) (omega (arith, a .sound .count-high))
 
-  pub u-fits : getD before (v + 1) 0 < slots
+  pub u-fits : u < slots
   u-fits = omega (arith, u-is, prevAt-less t (v + 1) (omega arith), a .sound .count-high)
 
   pub next-fits : nextAt t (v + 1) < slots
   next-fits = omega (arith, next-le (a .sound) (v + 1) (omega arith) (omega arith), a .sound .count-high)
 
-  pub count-fits : pages ≤ v
+  pub count-fits : r .pages ≤ v
   count-fits = omega (arith, h .pages-to, countTo-le v (hasMark m begins))
 
   -- the node one step back of it
   module _ (mark parent home : ℕ) (mark-is : mark ≡ markAt m (v + 1))
-      (parent-as : parent ≡ pick (eqb (getD before (v + 1) 0) 0) (v + 1 - 1) (getD parents (getD before (v + 1) 0) 0))
-      (home-as : home ≡ pick (eqb mark 2) (getD before (v + 1) 0) parent) where
+      (parent-as : parent ≡ pick (eqb u 0) (v + 1 - 1) (getD (r .parents) u 0))
+      (home-as : home ≡ pick (eqb mark 2) u parent) where
     back-here : home ≡ stepBack t m (v + 1)
     back-here =
-        back-is t m (v + 1) mark (getD before (v + 1) 0) parent home mark-is u-is
-        (parent-is a parents v (getD before (v + 1) 0) parent (h .parents-to) less u-is parent-as) home-as
+        back-is t m (v + 1) mark u parent home mark-is u-is
+        (parent-is a (r .parents) v u parent (h .parents-to) less u-is parent-as) home-as
 
     pub home-fits : home < slots
     home-fits = omega (arith, back-here, back-less t m (v + 1) (omega arith), a .sound .count-high)
 
-    pub page-here : (next p : ℕ) → next ≡ pick (eqb mark 1) (pages + 1) pages → p ≡ pick (eqb mark 1) next (getD page home 0)
-        → p ≡ pageOf t m (v + 1)
+    pub page-here : (next p : ℕ) → next ≡ pick (eqb mark 1) (r .pages + 1) (r .pages)
+        → p ≡ pick (eqb mark 1) next (getD (r .page) home 0) → p ≡ pageOf t m (v + 1)
     page-here next p next-as p-as =
-        page-is t m page v mark next home p (h .page-to) (h .page-none) mark-is (count-turn m v mark pages next (h .pages-to) mark-is next-as)
-        back-here p-as
+        page-turn t m (r .page) v mark next home p (h .page-to) (h .page-none) mark-is
+        (count-turn m v mark (r .pages) next (h .pages-to) mark-is next-as) back-here p-as
 
   pub page-fits : (p : ℕ) → p ≡ pageOf t m (v + 1) → p < slots
   page-fits p e = omega (arith, e, pageOf-le t m (v + 1), a .sound .count-high)
 
-  pub sum-fits : (p : ℕ) → p ≡ pageOf t m (v + 1) → getD weights p 0 ≤ maxNodes * maxLimit
-  sum-fits p e = omega (arith, h .weights-to p (page-fits p e), weight-most a m v p (omega arith), a .sound .count-high)
+  pub weight-fits : (p : ℕ) → p ≡ pageOf t m (v + 1) → getD (r .weights) p 0 ≤ maxNodes * maxLimit
+  weight-fits p e =
+      omega (arith, h .weights-to p (page-fits p e), weight-most a m v p (omega arith), a .sound .count-high)
 
-  pub layout-turn : (mark parent next p first last w x : ℕ) (good : Bool) (prior : ℕ) (bad′ : Place)
-      → length before ≡ slots → length parents ≡ slots → length page ≡ slots → length firsts ≡ slots → length lasts ≡ slots
-      → length weights ≡ slots → mark ≡ markAt m (v + 1) → prior ≡ markAt m (getD before (v + 1) 0)
-      → good ≡ goodCase (v + 1) mark (getD before (v + 1) 0) prior → bad′ ≡ atPlace bad At (when (not good) (v + 1))
-      → parent ≡ pick (eqb (getD before (v + 1) 0) 0) (v + 1 - 1) (getD parents (getD before (v + 1) 0) 0)
-      → next ≡ pick (eqb mark 1) (pages + 1) pages → p ≡ pageOf t m (v + 1)
-      → first ≡ pick (eqb mark 1) (v + 1) (getD firsts p 0) → last ≡ pick (eqb mark 1 || eqb mark 2) (v + 1) (getD lasts p 0)
+  pub layout-turn : (mark parent next p first last w x : ℕ) (good : Bool) (prior bad : ℕ)
+      → mark ≡ markAt m (v + 1) → prior ≡ markAt m u
+      → good ≡ goodCase (v + 1) mark u prior → bad ≡ pick (eqb (r .bad) 0 && not good) (v + 1) (r .bad)
+      → parent ≡ pick (eqb u 0) (v + 1 - 1) (getD (r .parents) u 0)
+      → next ≡ pick (eqb mark 1) (r .pages + 1) (r .pages) → p ≡ pageOf t m (v + 1)
+      → first ≡ pick (eqb mark 1) (v + 1) (getD (r .firsts) p 0)
+      → last ≡ pick (eqb mark 1 || eqb mark 2) (v + 1) (getD (r .lasts) p 0)
       → w ≡ weightAt t (v + 1) → x ≡ nextAt t (v + 1)
-      → LayoutTo t m (v + 1) (set before x (v + 1)) (set parents (v + 1) parent) (set page (v + 1) p) (set firsts p first)
-      (set lasts p last) (set weights p (getD weights p 0 + w)) next bad′
-  layout-turn mark parent next p first last w x good prior bad′ lb lp lg lf ll lw mark-is prior-as good-as bad-as parent-as next-as
-      p-is first-as last-as w-is x-is =
+      → LayoutTo t m (v + 1) (set before x (v + 1))
+      (record {
+        parents = set (r .parents) (v + 1) parent;
+        page = set (r .page) (v + 1) p;
+        firsts = set (r .firsts) p first;
+        lasts = set (r .lasts) p last;
+        weights = set (r .weights) p (getD (r .weights) p 0 + w);
+        pages = next;
+        bad = bad;
+      })
+  layout-turn mark parent next p first last w x good prior bad mark-is prior-as good-as bad-as parent-as next-as p-is
+      first-as last-as w-is x-is =
       let small = a .sound .count-high in
+      let long = h .sized in
       let fits : p < slots = page-fits p p-is in
       let other : 0 ≡ v + 1 → ⊥ = omega arith in
       record {
-        prevs = prevs-turn t before v x (h .prevs) lb x-is (omega (arith, x-is, next-fits));
+        before-long = simp length-set (h .before-long);
+        sized =
+            record {
+              parents-long = simp length-set (long .parents-long);
+              page-long = simp length-set (long .page-long);
+              firsts-long = simp length-set (long .firsts-long);
+              lasts-long = simp length-set (long .lasts-long);
+              weights-long = simp length-set (long .weights-long);
+            };
+        prevs = prevs-turn t before v x (h .prevs) (h .before-long) x-is (omega (arith, x-is, next-fits));
         parents-to =
-            row-add (parentAt t) parents v parent (h .parents-to) (omega arith)
-            (parent-is a parents v (getD before (v + 1) 0) parent (h .parents-to) less u-is parent-as);
-        page-to = row-add (pageOf t m) page v p (h .page-to) (omega arith) p-is;
-        page-none = getD-set-other page (v + 1) 0 p 0 other ∙ h .page-none;
+            row-add (parentAt t) (r .parents) v parent (h .parents-to) (omega (arith, long .parents-long))
+            (parent-is a (r .parents) v u parent (h .parents-to) less u-is parent-as);
+        page-to = row-add (pageOf t m) (r .page) v p (h .page-to) (omega (arith, long .page-long)) p-is;
+        page-none = getD-set-other (r .page) (v + 1) 0 p 0 other ∙ h .page-none;
         firsts-to =
-            lasts-turn t m (hasMark m begins) firsts v p first (h .firsts-to) lf p-is fits
-            (first-as ∙ ap (λ (k : ℕ). pick (eqb k 1) (v + 1) (getD firsts p 0)) mark-is);
+            lasts-turn t m (hasMark m begins) (r .firsts) v p first (h .firsts-to) (long .firsts-long) p-is fits
+            (first-as ∙ ap (λ (k : ℕ). pick (eqb k 1) (v + 1) (getD (r .firsts) p 0)) mark-is);
         lasts-to =
-            lasts-turn t m (inRun m) lasts v p last (h .lasts-to) ll p-is fits
-            (last-as ∙ ap (λ (k : ℕ). pick (eqb k 1 || eqb k 2) (v + 1) (getD lasts p 0)) mark-is
-            ∙ ap (λ (b : Bool). pick b (v + 1) (getD lasts p 0)) (in-run m (v + 1)));
-        weights-to = weights-turn t m weights v p w (h .weights-to) lw p-is fits w-is;
-        pages-to = count-turn m v mark pages next (h .pages-to) mark-is next-as;
+            lasts-turn t m (inRun m) (r .lasts) v p last (h .lasts-to) (long .lasts-long) p-is fits
+            (last-as ∙ ap (λ (k : ℕ). pick (eqb k 1 || eqb k 2) (v + 1) (getD (r .lasts) p 0)) mark-is
+            ∙ ap (λ (b : Bool). pick b (v + 1) (getD (r .lasts) p 0)) (in-run m (v + 1)));
+        weights-to = weights-turn t m (r .weights) v p w (h .weights-to) (long .weights-long) p-is fits w-is;
+        pages-to = count-turn m v mark (r .pages) next (h .pages-to) mark-is next-as;
         bad-to =
-            bad-turn t m v bad bad′ good (h .bad-to)
-            (good-is t m (v + 1) mark (getD before (v + 1) 0) prior good good-as mark-is u-is prior-as) bad-as;
+            bad-turn t m v (r .bad) bad good (h .bad-to)
+            (good-is t m (v + 1) mark u prior good good-as mark-is u-is prior-as) bad-as;
       }
 
-pub layout-end : {t m : List ℕ} {v : ℕ} {before : List ℕ} → AcceptedFacts t → (r : Layout)
-    → LayoutTo t m v before (r .parents) (r .page) (r .firsts) (r .lasts) (r .weights) (r .pages) (r .bad)
+pub layout-end : {t m : List ℕ} {v : ℕ} {before : List ℕ} {r : Layout} → AcceptedFacts t → LayoutTo t m v before r
     → v ≤ nodeCount t → nodeCount t ≤ v → IsLayout t m r
 unfolding weightTo pageWeight pageCount badMark
-layout-end {t} {m} {v} {before} a r h le ge =
+layout-end {t} {m} {v} {before} {r} a h le ge =
     let same : v ≡ nodeCount t = omega arith in
     let all = rw same at h in
-    let fits : (p : ℕ) → p ≤ pageCount t m → p < slots = λ p high. omega (arith, pageCount-le t m, a .sound .count-high) in
+    let fits : (p : ℕ) → p ≤ pageCount t m → p < slots =
+    λ p high. omega (arith, pageCount-le t m, a .sound .count-high) in
     record {
       parents-are = all .parents-to;
       page-is = all .page-to;
@@ -362,5 +405,6 @@ unfolding heavyPage
 heavy-is {t} a m r limit o laid e d =
     e
     ∙ ap₂ (λ (n k : ℕ). firstTo n (λ p. ltb k (getD (r .weights) p 0))) (laid .pages-are) d
-    ∙ firstTo-cong (pageCount t m) (λ p. ltb (limitOf t) (getD (r .weights) p 0)) (λ p. ltb (limitOf t) (pageWeight t m p))
+    ∙ firstTo-cong (pageCount t m) (λ p. ltb (limitOf t) (getD (r .weights) p 0))
+    (λ p. ltb (limitOf t) (pageWeight t m p))
     (λ p low high. ap (ltb (limitOf t)) (laid .weights-are p (omega (arith, pageCount-le t m, a .sound .count-high))))

@@ -1,11 +1,12 @@
--- Defines what the arrays of the judge hold, what its pass over a plan finds, and the test of a mark by numbers. Assumes nothing.
+-- What the arrays of the judge hold, what its pass over a plan finds, and the test of a mark by numbers.
+-- Defines Row, goodCase, noLayout, IsLayout. Assumes nothing.
 use Prim.Native.Nat.{ℕ, _<_}
 use mathlib.Core.Path.{_≡_}
 use mathlib.Core.Bool.{Bool, not, _&&_, _||_}
 use mathlib.Core.List.{List}
-use lib.ListN.{getD}
+use lib.ListN.{getD, replicate}
 use lib.Dec.{eqb}
-use Rattle.model.specs.Basics.{pick}
+use Rattle.model.specs.Basics.{pick, when}
 use Rattle.model.specs.Table.{slots, nodeCount}
 use Rattle.model.specs.Plan.{parentAt, pageOf, pageWeight, pageCount, badMark}
 use Rattle.model.specs.Runs.{pageRun}
@@ -23,6 +24,19 @@ goodCase v mark before prior =
     pick (eqb v 1) (eqb mark 1)
     (pick (eqb mark 2) (not (eqb before 0) && (eqb prior 1 || eqb prior 2)) (eqb mark 0 || eqb mark 1))
 
+-- the layout of no nodes
+abbrev pub noLayout : Layout
+noLayout =
+    record {
+      parents = replicate slots 0;
+      page = replicate slots 0;
+      firsts = replicate slots 0;
+      lasts = replicate slots 0;
+      weights = replicate slots 0;
+      pages = 0;
+      bad = 0;
+    }
+
 -- what the plan m makes of the tree t
 pub record IsLayout (t m : List ℕ) (r : Layout) : Type 0 where
   pub parents-are : Row (nodeCount t) (parentAt t) (r .parents)
@@ -31,4 +45,4 @@ pub record IsLayout (t m : List ℕ) (r : Layout) : Type 0 where
   pub lasts-are : badMark t m ≡ Nowhere → Row (pageCount t m) (λ p. pageRun t m p .last) (r .lasts)
   pub weights-are : (p : ℕ) → p < slots → getD (r .weights) p 0 ≡ pageWeight t m p
   pub pages-are : r .pages ≡ pageCount t m
-  pub bad-is : r .bad ≡ badMark t m
+  pub bad-is : when (not (eqb (r .bad) 0)) (r .bad) ≡ badMark t m

@@ -1,5 +1,5 @@
-// The judge of plans: bad marks, page weights, and the verdict, with the layout that they are told from. Refusals 1 to 8,
-// 10 and 11.
+// The judge of plans: bad marks, page weights, and the verdict, with the layout that they come from. Refusals 1 to
+// 8, 10 and 11.
 pub mod marks;
 pub mod pages;
 
@@ -12,6 +12,7 @@ use pages::Layout;
 use pages::first_heavy;
 use pages::lay_pages;
 use pages::no_layout;
+use table::place_if;
 use table::read_tree;
 use table::refuse;
 use table::words::limit_of;
@@ -99,7 +100,8 @@ fn judge_marks(table: &[u8], marks: &[u8]) -> Judgement
 {
     let layout = lay_pages(table, marks);
     let heavy = first_heavy(&layout.weights, layout.pages, limit_of(table));
-    let answer = give(find_verdict(layout.bad, heavy, layout.pages, layout.weights[1]));
+    let bad = place_if(layout.bad != 0, layout.bad as u32);
+    let answer = give(find_verdict(bad, heavy, layout.pages, layout.weights[1]));
     Judgement { answer, layout }
 }
 

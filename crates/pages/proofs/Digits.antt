@@ -38,7 +38,8 @@ digits-decimal : (f n k : ℕ) → n < 10 ^ suc f → Fewest 10 1 n k → digits
 digits-decimal f n zero fits few = absurd (omega (arith, few .0))
 digits-decimal f n (suc zero) fits few =
     let small : n < 10 = omega (arith, few .1, ten) in
-    ap (λ d. d ∷ []) (digit-is (n % 10) (omega arith) ∙ ap (λ d. 48 + d) (mod-eq-of-lt small)) ∙ sym (one-digit f n small)
+    ap (λ d. d ∷ []) (digit-is (n % 10) (omega arith) ∙ ap (λ d. 48 + d) (mod-eq-of-lt small))
+    ∙ sym (one-digit f n small)
 digits-decimal zero n (suc (suc j)) fits few =
     absurd (omega (arith, fits, ten, few-big n j few, pow-suc 10 j, one-le-pow j 10 (omega arith)))
 digits-decimal (suc f) n (suc (suc j)) fits few =
@@ -46,8 +47,10 @@ digits-decimal (suc f) n (suc (suc j)) fits few =
     let up : 10 ^ suc j ≡ 10 ^ j * 10 = pow-suc 10 j in
     let fits′ : n / 10 < 10 ^ suc f = omega (arith, fits, pow-suc 10 (suc f)) in
     let same : 10 ^ (suc j - 1) ≡ 10 ^ j = ap (λ i. 10 ^ i) (omega arith) in
-    let few′ : Fewest 10 1 (n / 10) (suc j) = (omega arith, omega (arith, few .1, pow-suc 10 (suc j)), λ h. omega arith) in
-    ap₂ (λ (l : List ℕ) (d : ℕ). l ++ (d ∷ [])) (digits-decimal f (n / 10) (suc j) fits′ few′) (digit-is (n % 10) (omega arith))
+    let few′ : Fewest 10 1 (n / 10) (suc j) =
+    (omega arith, omega (arith, few .1, pow-suc 10 (suc j)), λ h. omega arith) in
+    ap₂ (λ (l : List ℕ) (d : ℕ). l ++ (d ∷ [])) (digits-decimal f (n / 10) (suc j) fits′ few′)
+    (digit-is (n % 10) (omega arith))
     ∙ sym (more-digits (suc f) n (omega (arith, one-le-pow j 10 (omega arith))))
 
 -- what the kit put at the start of its array
@@ -60,6 +63,7 @@ module _ (n k : ℕ) (out : List ℕ) (low : n < 4294967296) (few : Fewest 10 1 
   number-long long = omega (arith, ap length number-text, decimal-length n)
 
   -- a word and the number after it
-  pub item-end : {o o₁ o₂ word : List ℕ} {at a b : ℕ} → Appended o at word o₁ a → Appended o₁ a (take k out) o₂ b → Appended o at (item word n) o₂ b
+  pub item-end : {o o₁ o₂ word : List ℕ} {at a b : ℕ} → Appended o at word o₁ a → Appended o₁ a (take k out) o₂ b
+      → Appended o at (item word n) o₂ b
   unfolding item
   item-end h l = rw (← number-text) (appended-then h l)

@@ -11,18 +11,24 @@ use Rattle.model.specs.Refusals.{planBest}
 use Rattle.pages.specs.Text.{scratchLent, answerLines, reportOf}
 use Rattle.pages.specs.Appended.{Filled, reportBytes}
 
-zeros : (most n : ℕ) → n ≤ most → take n (replicate {A = ℕ} most 0) ≡ replicate n 0
-zeros most n h =
+take-zeros : (most n : ℕ) → n ≤ most → take n (replicate {A = ℕ} most 0) ≡ replicate n 0
+take-zeros most n h =
     let all : n + (most - n) ≡ most = omega arith in
     ap (λ k. take n (replicate k 0)) (sym all)
     ∙ ap (take n) (sym (replicate-append-replicate n (most - n) 0))
     ∙ take-at (replicate n 0) (replicate (most - n) 0) n (length-replicate n 0)
 
+-- as many marks as there are nodes
+pub take-long : (most n : ℕ) → n ≤ most → length (take n (replicate {A = ℕ} most 0)) ≡ n
+take-long most n h = ap length (take-zeros most n h) ∙ length-replicate n 0
+
 pub report-whole : (t out : List ℕ) (most n r : ℕ) → n ≡ nodeCount t → n ≤ most
-    → Filled (answerLines t (planBest t (take n (replicate most 0)) (replicate scratchLent 0))) out r → r ≤ reportBytes → reportBytes ≤ length out
-    → Counts r out × (take r out ≡ reportOf t)
+    → Filled (answerLines t (planBest t (take n (replicate most 0)) (replicate scratchLent 0))) out r → r ≤ reportBytes
+    → reportBytes ≤ length out → Counts r out × (take r out ≡ reportOf t)
 unfolding reportOf
 report-whole t out most n r e fits h small room = (
   (omega arith, sym (length-take-le r out (omega arith))),
-  h .bytes ∙ ap (λ m. answerLines t (planBest t m (replicate scratchLent 0))) (zeros most n fits ∙ ap (λ k. replicate k 0) e),
+  h .bytes
+      ∙ ap (λ m. answerLines t (planBest t m (replicate scratchLent 0)))
+      (take-zeros most n fits ∙ ap (λ k. replicate k 0) e),
 )

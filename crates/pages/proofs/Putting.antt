@@ -9,10 +9,12 @@ use lib.Seq.{paste, paste-suc, take-paste, take-all}
 use Rattle.pages.specs.Appended.{Appended}
 
 module _ (out text : List ℕ) (at : ℕ) (room : at + length text ≤ length out) where
-  pub text-turn : (i : ℕ) → i < length text → set (paste out at text i) (at + i) (getD text i 0) ≡ paste out at text (i + 1)
+  pub text-turn : (i : ℕ) → i < length text
+      → set (paste out at text i) (at + i) (getD text i 0) ≡ paste out at text (i + 1)
   text-turn i less = rw (add-one i) (paste-suc out at text i 0 (omega arith) less)
 
-  pub text-end : (i : ℕ) → i ≤ length text → length text ≤ i → Appended out at text (paste out at text i) (at + length text)
+  pub text-end : (i : ℕ) → i ≤ length text → length text ≤ i
+      → Appended out at text (paste out at text i) (at + length text)
   text-end i high low =
       let all : i ≡ length text = omega arith in
       record {

@@ -1,5 +1,5 @@
--- Text appended to a buffer at a position. Defines Appended, Filled, lineBytes, reportBytes. Proves that texts append one after the other, and
--- how long a number is. Assumes nothing.
+-- Text appended to a buffer at a position. Defines Appended, Filled, lineBytes, reportBytes. Proves that texts append
+-- one after the other, and how long a number is. Assumes nothing.
 use Prim.Native.Nat.{ℕ, zero, suc, _+_, _*_, _/_, _%_, _≤_}
 use native.Mathlib.Omega.{arith}
 use mathlib.Core.Bool.{Bool, true, false}
@@ -8,24 +8,25 @@ use mathlib.Core.List.{List, [], _∷_, _++_, append-assoc}
 use lib.ListN.{length, take, length-append}
 use lib.Dec.{ltb}
 use Rattle.model.specs.Basics.{pick}
+use Rattle.model.specs.Table.{maxNodes}
 use Rattle.theory.specs.Ranges.{pick-true, pick-false}
-use Rattle.archive.specs.Size.{archiveNodes}
 use Rattle.pages.specs.Text.{decimalTo, decimal}
 
 -- no line is longer
 abbrev pub lineBytes : ℕ
 lineBytes = 80
 
--- no report is longer: a head line, and a line for each page that an archive may have
+-- no report is longer: a head line, and a line for each page
 abbrev pub reportBytes : ℕ
-reportBytes = lineBytes * (archiveNodes + 1)
+reportBytes = lineBytes * (maxNodes + 1)
 
 -- what stood in front of the position stands there still, the text follows it, and the new position is at its end
 pub record Appended (out : List ℕ) (at : ℕ) (text left : List ℕ) (end : ℕ) : Type 0 where
   pub bytes : take end left ≡ take at out ++ text
   pub place : end ≡ at + length text
 
-pub appended-then : {o o₁ o₂ x y : List ℕ} {at a b : ℕ} → Appended o at x o₁ a → Appended o₁ a y o₂ b → Appended o at (x ++ y) o₂ b
+pub appended-then : {o o₁ o₂ x y : List ℕ} {at a b : ℕ} → Appended o at x o₁ a → Appended o₁ a y o₂ b
+    → Appended o at (x ++ y) o₂ b
 appended-then {o} {o₁} {o₂} {x} {y} {at} {a} {b} h k =
     record {
       bytes = k .bytes ∙ ap (λ (l : List ℕ). l ++ y) (h .bytes) ∙ append-assoc (take at o) x y;

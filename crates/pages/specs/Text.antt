@@ -1,14 +1,15 @@
--- Document 01, the page program: what it writes for the bytes that it read, as one definition. A list of numbers is a string of bytes.
-use Prim.Native.Nat.{ℕ, zero, suc, _+_, _-_, _/_, _%_}
+-- Document 01, the page program: what it writes for the bytes that it read, as one definition. A list of numbers is a
+-- string of bytes.
+use Prim.Native.Nat.{ℕ, zero, suc, _+_, _/_, _%_}
 use Prim.Native.Char.{code}
 use Prim.Native.String.{String, [] as ε, _∷_ as _∷ˢ_}
 use mathlib.Core.List.{List, [], _∷_, _++_}
-use lib.ListN.{getD, replicate}
+use lib.ListN.{replicate}
 use lib.Dec.{eqb, ltb}
 use Rattle.model.specs.Basics.{pick, listTo}
 use Rattle.model.specs.Table.{nodeCount, limitOf}
 use Rattle.model.specs.Plan.{pageCount, pageWeight}
-use Rattle.model.specs.Runs.{Run, rootRun, runsOf}
+use Rattle.model.specs.Runs.{pageRun}
 use Rattle.model.specs.Refusals.{Planned, planBest}
 
 -- ---- Numbers and words
@@ -35,12 +36,14 @@ item word n = word ++ decimal n
 
 -- 'pages 3 root 5 limit 5'
 unfoldable pub headLine : ℕ → ℕ → ℕ → List ℕ
-headLine pages root limit = item (bytes "pages ") pages ++ item (bytes " root ") root ++ item (bytes " limit ") limit ++ bytes "\n"
+headLine pages root limit =
+    item (bytes "pages ") pages ++ item (bytes " root ") root ++ item (bytes " limit ") limit ++ bytes "\n"
 
 -- 'page 2 first 2 last 6 weight 4'
 unfoldable pub pageLine : ℕ → ℕ → ℕ → ℕ → List ℕ
 pageLine page first last weight =
-    item (bytes "page ") page ++ item (bytes " first ") first ++ item (bytes " last ") last ++ item (bytes " weight ") weight ++ bytes "\n"
+    item (bytes "page ") page ++ item (bytes " first ") first ++ item (bytes " last ") last
+    ++ item (bytes " weight ") weight ++ bytes "\n"
 
 -- 'refused 7 at 1'
 unfoldable pub refusalLine : ℕ → ℕ → List ℕ
@@ -48,20 +51,17 @@ refusalLine number place = item (bytes "refused ") number ++ item (bytes " at ")
 
 -- ---- The report
 
--- the run of page p: runs and pages have one order, that of their first nodes
-abbrev pub runAt : List ℕ → List ℕ → ℕ → Run
-runAt t m p = getD (runsOf t m) (p - 1) rootRun
-
 -- a plan: page count, root weight and limit; then a line a page
 unfoldable pub planLines : List ℕ → List ℕ → List ℕ
 planLines t m =
     headLine (pageCount t m) (pageWeight t m 1) (limitOf t)
-    ++ listTo (pageCount t m) (λ p. pageLine p (runAt t m p .first) (runAt t m p .last) (pageWeight t m p))
+    ++ listTo (pageCount t m) (λ p. pageLine p (pageRun t m p .first) (pageRun t m p .last) (pageWeight t m p))
 
 -- an answer with the marks beside it: a refusal is one line
 unfoldable pub answerLines : List ℕ → Planned → List ℕ
 answerLines t made =
-    pick (eqb (made .answer .number) 0) (planLines t (made .marks)) (refusalLine (made .answer .number) (made .answer .place))
+    pick (eqb (made .answer .number) 0) (planLines t (made .marks))
+    (refusalLine (made .answer .number) (made .answer .place))
 
 -- the scratch words that the program lends
 abbrev pub scratchLent : ℕ

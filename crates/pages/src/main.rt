@@ -2,7 +2,6 @@
 mod report;
 mod text;
 
-use archive::size::MOST_NODES;
 use libc::STDIN_FILENO;
 use libc::STDOUT_FILENO;
 use report::report;
@@ -11,8 +10,8 @@ use table::MAX_NODES;
 // One byte more than the longest table, so that a longer one shows.
 const INPUT_BYTES: usize = 4 + 8 * (MAX_NODES as usize) + 1;
 
-// The longest report: a head line, and a line for each page that an archive may have, none over 80 bytes.
-const REPORT_BYTES: usize = 80 * (MOST_NODES + 1);
+// The longest report: a head line, and a line for each page, none over 80 bytes.
+const REPORT_BYTES: usize = 80 * (MAX_NODES as usize + 1);
 
 fn main() {
     let mut table = [0u8; INPUT_BYTES];

@@ -42,14 +42,14 @@ pub fn head_line(out: &mut [u8], at: usize, pages: u32, root: u32, limit: u32) -
 }
 
 // A page: number, first node, last sibling, weight.
-pub fn page_line(out: &mut [u8], at: usize, page: u32, first: u32, last: u32, weight: u32) -> usize
+pub fn page_line(out: &mut [u8], at: usize, page: u16, first: u16, last: u16, weight: u32) -> usize
     requires { ⌜ at + lineBytes ≤ length (now out) ⌝ }
     ensures { λ r. ⌜ Appended (now (out .entry)) at (pageLine page first last weight) (now (out .exit)) r ⌝ }
     ensures { λ r. ⌜ r ≤ at + lineBytes ⌝ }
 {
-    let page_end = put_item(out, at, b"page ", page);
-    let first_end = put_item(out, page_end, b" first ", first);
-    let last_end = put_item(out, first_end, b" last ", last);
+    let page_end = put_item(out, at, b"page ", page as u32);
+    let first_end = put_item(out, page_end, b" first ", first as u32);
+    let last_end = put_item(out, first_end, b" last ", last as u32);
     let weight_end = put_item(out, last_end, b" weight ", weight);
     put_text(out, weight_end, b"\n")
 }

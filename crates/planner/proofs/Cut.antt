@@ -1,5 +1,5 @@
 -- Children are cut one after the other, the heaviest first: one turn, and what is reached at the end.
--- Defines Cut (where the cutting stands). Assumes nothing.
+-- Defines CutSoFar (where the cutting stands). Assumes nothing.
 use Prim.Native.Nat.{ℕ, zero, suc, _+_, _-_, _≤_, _<_}
 use native.Mathlib.Omega.{arith}
 use mathlib.Core.Path.{_≡_, refl, sym, _∙_, ap}
@@ -14,12 +14,14 @@ use Rattle.theory.specs.TableNumbered.{numbered-size, numbered-le}
 use Rattle.theory.specs.Reduce.{Turns}
 use Rattle.theory.specs.ReduceCount.{reduce-stop, reduce-turn}
 use Rattle.theory.specs.TableChain.{chainAt, chain-none, NodeAt, node-at}
-use Rattle.planner.specs.Nodes.{kept, Outside, outside-none, outside-then, outside-store}
-use Rattle.planner.specs.Single.{restAt, largestAt, EarliestAt, LaidAt, members-rest, members-largest, largest-some, earliest-rest, earliest-range, cut-members, cut-rest, cut-laid}
-use Rattle.planner.specs.Settled.{kidsOf}
-use Rattle.planner.specs.Cutting.{Heaviest, CutReady, CutDone, Scanned, mostSum, kidMembers}
+use Rattle.planner.specs.Kept.{kept, Outside, outside-none, outside-then, outside-store}
+use Rattle.planner.specs.SingleMembers.{restAt, largestAt, EarliestAt, LaidAt, members-rest, members-largest}
+use Rattle.planner.specs.SingleMembers.{largest-some, earliestAt-rest, earliestAt-range, cut-members, cut-rest}
+use Rattle.planner.specs.SingleMembers.{cut-laid}
+use Rattle.planner.specs.SingleSettled.{kidsOf}
+use Rattle.planner.specs.SingleCuts.{Heaviest, CutReady, CutDone, ScanReady, mostSum, kidMembers}
 
-pub record Cut (t : List ℕ) (v room : ℕ) (s₀ a₀ s a : List ℕ) (sum : ℕ) : Type 0 where
+pub record CutSoFar (t : List ℕ) (v room : ℕ) (s₀ a₀ s a : List ℕ) (sum : ℕ) : Type 0 where
   pub long : length s ≡ length s₀
   pub marks-long : length a ≡ length a₀
   pub sum-is : sum ≡ restAt t s (firstAt t v) (kidsOf t v)
@@ -33,13 +35,13 @@ module _ {t : List ℕ} {v : ℕ} {s₀ a₀ : List ℕ} (ready : CutReady t s�
   first-high f e = omega (arith, first-le (ready .sound) v (ready .low) (ready .high))
 
   -- what the sum of the children asks
-  pub cut-sums : (f : ℕ) → f ≡ firstAt t v → Scanned t s₀ f × (restAt t s₀ f (chainAt t f) ≤ mostSum)
+  pub cut-sums : (f : ℕ) → f ≡ firstAt t v → ScanReady t s₀ f × (restAt t s₀ f (chainAt t f) ≤ mostSum)
   cut-sums f e = (
     record { sound = ready .sound; high = first-high f e; long = ready .long },
     omega (arith, ap (λ (k : ℕ). restAt t s₀ k (chainAt t k)) e, ready .small),
   )
 
-  pub cut-start : (f sum : ℕ) → f ≡ firstAt t v → sum ≡ restAt t s₀ f (chainAt t f) → Cut t v room s₀ a₀ s₀ a₀ sum
+  pub cut-start : (f sum : ℕ) → f ≡ firstAt t v → sum ≡ restAt t s₀ f (chainAt t f) → CutSoFar t v room s₀ a₀ s₀ a₀ sum
   cut-start f sum e q =
       record {
         long = refl;
@@ -51,7 +53,7 @@ module _ {t : List ℕ} {v : ℕ} {s₀ a₀ : List ℕ} (ready : CutReady t s�
         marks-outside = outside-none v (v + size (kidsOf t v)) a₀;
       }
 
-  module _ {s a : List ℕ} {sum : ℕ} (x : Cut t v room s₀ a₀ s a sum) where
+  module _ {s a : List ℕ} {sum : ℕ} (x : CutSoFar t v room s₀ a₀ s a sum) where
     -- where there is something to cut, there is a child
     cut-some : (f : ℕ) → f ≡ firstAt t v → room < sum → 1 ≤ f
     unfolding restAt
@@ -61,7 +63,7 @@ module _ {t : List ℕ} {v : ℕ} {s₀ a₀ : List ℕ} (ready : CutReady t s�
     cut-some (suc f) e l = omega arith
 
     -- what the scan for the heaviest child asks
-    pub cut-scans : (f : ℕ) → f ≡ firstAt t v → room < sum → Scanned t s f × (1 ≤ f)
+    pub cut-scans : (f : ℕ) → f ≡ firstAt t v → room < sum → ScanReady t s f × (1 ≤ f)
     cut-scans f e l = (
       record { sound = ready .sound; high = first-high f e; long = omega (arith, x .long, ready .long) },
       cut-some f e l,
@@ -77,7 +79,7 @@ module _ {t : List ℕ} {v : ℕ} {s₀ a₀ : List ℕ} (ready : CutReady t s�
       -- what is cut is above 0, and no more than the sum
       pub cut-takes : (0 < k) × (k ≤ sum)
       cut-takes =
-          let r = earliest-rest t s most (firstAt t v) (kidsOf t v) h earliest in
+          let r = earliestAt-rest t s most (firstAt t v) (kidsOf t v) h earliest in
           let p : 0 < most = largest-some t s (firstAt t v) (kidsOf t v) (omega (arith, x .sum-is)) in
           (omega (arith, r .0), omega (arith, r .0, r .1, x .sum-is))
 
@@ -109,13 +111,14 @@ module _ {t : List ℕ} {v : ℕ} {s₀ a₀ : List ℕ} (ready : CutReady t s�
       next-goes-on : reduce room (kidMembers t (set s (h - 1) 0) (set a (h - 1) 1) v) ≡ reduce room (kidMembers t s a v)
       next-goes-on =
           ap (reduce room)
-          (next-members ∙ ap (λ (g : ℕ). takeEarliest g (kidMembers t s a v)) (sym (members-largest t s a (firstAt t v) (kidsOf t v))))
+          (next-members ∙ ap (λ (g : ℕ). takeEarliest g (kidMembers t s a v))
+          (sym (members-largest t s a (firstAt t v) (kidsOf t v))))
           ∙ sym (reduce-turn room (kidMembers t s a v) turns)
 
-      pub cut-turn : Cut t v room s₀ a₀ (set s (h - 1) 0) (set a (h - 1) 1) (sum - k)
+      pub cut-turn : CutSoFar t v room s₀ a₀ (set s (h - 1) 0) (set a (h - 1) 1) (sum - k)
       cut-turn =
-          let range = earliest-range s most h (node .below) earliest in
-          let r = earliest-rest t s most (firstAt t v) (kidsOf t v) h earliest in
+          let range = earliestAt-range s most h (node .below) earliest in
+          let r = earliestAt-rest t s most (firstAt t v) (kidsOf t v) h earliest in
           let high : h ≤ v + size (kidsOf t v) = omega (arith, last-is, range .1) in
           record {
             long = simp length-set (x .long);
@@ -128,9 +131,12 @@ module _ {t : List ℕ} {v : ℕ} {s₀ a₀ : List ℕ} (ready : CutReady t s�
             );
             goes-on = next-goes-on ∙ x .goes-on;
             laid = rw next-members
-                (cut-laid (limitOf t) s a most h (node .below) earliest (omega (arith, last-high, x .marks-long, ready .marks-long)) (x .laid));
-            rests-outside = outside-then (x .rests-outside) (outside-store v (v + size (kidsOf t v)) s h 0 (range .0) high);
-            marks-outside = outside-then (x .marks-outside) (outside-store v (v + size (kidsOf t v)) a h 1 (range .0) high);
+                (cut-laid (limitOf t) s a most h (node .below) earliest
+                (omega (arith, last-high, x .marks-long, ready .marks-long)) (x .laid));
+            rests-outside =
+                outside-then (x .rests-outside) (outside-store v (v + size (kidsOf t v)) s h 0 (range .0) high);
+            marks-outside =
+                outside-then (x .marks-outside) (outside-store v (v + size (kidsOf t v)) a h 1 (range .0) high);
           }
 
     pub cut-end : sum ≤ room → CutDone t v room s₀ a₀ s a sum

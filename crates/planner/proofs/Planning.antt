@@ -1,5 +1,5 @@
--- What all planners share: the refusals 1 to 9, what holds where there is none, and the last step from marks that are laid
--- to the whole outcome and its promises. Assumes nothing.
+-- What all planners share: the refusals 1 to 9, what holds where there is none, and the last step from marks that are
+-- laid to the whole outcome and its promises. Assumes nothing.
 use Prim.Native.Nat.{ℕ, _+_, _*_, _≤_}
 use native.Mathlib.Omega.{arith}
 use native.Mathlib.Nat.{mul-le-mul}
@@ -13,7 +13,8 @@ use Rattle.model.specs.Refusals.{firstOf, readTree, judgePlan, Planned, planned
 use Rattle.model.specs.Demand.{PlanPromise, BestPromise}
 use Rattle.model.specs.declared.Answer.{Answer}
 use Rattle.theory.specs.TableFacts.{AcceptedFacts, accepted-facts}
-use Rattle.theory.specs.Checks.{plan-never, accepted-pass, refused-fails, firstOf-pass, firstOf-stop, firstOf-all, andThen}
+use Rattle.theory.specs.Checks.{plan-never, accepted-pass, refused-fails, firstOf-pass, firstOf-stop, firstOf-all}
+use Rattle.theory.specs.Checks.{andThen}
 use Rattle.theory.specs.PlanFeasible.{Judged, feasible-judged, judge-feasible}
 use Rattle.theory.specs.JudgeAnswers.{tree-accepted, marksAnswer, judge-then}
 use Rattle.theory.specs.PromisePlanner.{passes-lent, planned-done, planned-refused, plan-promise, best-promise}
@@ -38,7 +39,8 @@ module _ (t m s : List ℕ) where
 
 -- the number of words fits
 pub words-fit : (n k : ℕ) → n ≤ maxNodes → k ≤ maxLimit → scratchWords n k ≤ scratchWords maxNodes maxLimit
-words-fit n k a b = mul-le-mul {n₁ = 4 * n} {m₁ = k + 3} {n₂ = 4 * maxNodes} {m₂ = maxLimit + 3} (omega arith) (omega arith)
+words-fit n k a b =
+    mul-le-mul {n₁ = 4 * n} {m₁ = k + 3} {n₂ = 4 * maxNodes} {m₂ = maxLimit + 3} (omega arith) (omega arith)
 
 -- ---- The answer of the checks, and the outcome
 

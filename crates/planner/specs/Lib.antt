@@ -1,8 +1,8 @@
 -- What the planners' contracts cite.
-pub mod Nodes
-pub mod Single
-pub mod Settled
-pub mod Cutting
+pub mod Kept
+pub mod SingleMembers
+pub mod SingleSettled
+pub mod SingleCuts
 pub mod Outcome
-pub mod Sides
-pub mod Pair
+pub mod PairSides
+pub mod PairMarks

@@ -1,4 +1,5 @@
-// What all planners share: the refusals 1 to 9, the words that the scratch keeps of each node, and the clearing of the scratch.
+// What all planners share: the refusals 1 to 9, the words that the scratch keeps of each node, and the clearing of the
+// scratch.
 use model::Answer;
 use table::accept;
 use table::earlier;
@@ -10,11 +11,12 @@ ghost use mathlib.Core.Path.{_≡_};
 ghost use Prim.Native.Nat.{_≤_};
 ghost use lib.ListN.{length, replicate};
 ghost use Rattle.model.specs.Refusals.{planChecks, firstOf, accepted};
-ghost use Rattle.planner.specs.Nodes.{kept};
+ghost use Rattle.planner.specs.Kept.{kept};
 
 // 1 to 9: the answer, or acceptance with no verdict yet.
 pub fn check_plan(table: &[u8], marks: &[u8], scratch: &[u32]) -> Answer
-    ensures { λ r. ⌜ r ≡ firstOf (planChecks (now (table .entry)) (now (marks .entry)) (now (scratch .entry))) accepted ⌝ }
+    ensures { λ r. ⌜ r
+        ≡ firstOf (planChecks (now (table .entry)) (now (marks .entry)) (now (scratch .entry))) accepted ⌝ }
 {
     let tree = read_tree(table);
     if tree.number != 0 {

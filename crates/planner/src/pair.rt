@@ -1,5 +1,6 @@
-// The pair planner: the two-way tree, in which left is the first child and right the next sibling. The remainders of all nodes are
-// weighed from the last to the first; then each node, from the first on, gives its first child and its next sibling their marks.
+// The pair planner: the two-way tree, in which left is the first child and right the next sibling. The remainders of
+// all nodes are weighed from the last to the first; then each node, from the first on, gives its first child and its
+// next sibling their marks.
 use crate::common::kept_at;
 use table::words::first_at;
 use table::words::limit_of;
@@ -13,9 +14,9 @@ ghost use Rattle.model.specs.Basics.{pick};
 ghost use Rattle.model.specs.Table.{maxLimit, nodeCount, limitOf, treeOf};
 ghost use Rattle.model.specs.Steps.{pairMarks};
 ghost use Rattle.theory.specs.PairShape.{unlessCut};
-ghost use Rattle.planner.specs.Cutting.{LayReady};
-ghost use Rattle.planner.specs.Sides.{leftFirst, leftCut, rightCut};
-ghost use Rattle.planner.specs.Pair.{Rests, remainderAt, uncutAfter, put, laidBelow, PairReady, SidesAt};
+ghost use Rattle.planner.specs.Outcome.{LayReady};
+ghost use Rattle.planner.specs.PairSides.{leftFirst, leftCut, rightCut};
+ghost use Rattle.planner.specs.PairMarks.{Rests, remainderAt, uncutAfter, put, laidBelow, PairReady, SidesAt};
 
 // What a node is cut by: the limit, its weight, and the weights of its sides.
 struct Sides {

@@ -95,9 +95,9 @@ record LevelSound (K : ℕ) (ks : List Child) : Type 0 where
   stretch : (s : ℕ) (k : Child) (run : List Child) → s ≤ K → Gainful (k ∷ run) → Reachable K 0 run
       → AllOf (Usable K s (reverseAux (k ∷ run) ks)) (stretched K s (k ∷ run) ks)
 
-sound-nil : (K : ℕ) → LevelSound K []
+level-sound-nil : (K : ℕ) → LevelSound K []
 unfolding entryAt stretched
-sound-nil K =
+level-sound-nil K =
     record {
       entry = λ s h. record { sum = 0; run = noRun; level = empty refl refl; total = omega arith; within = h };
       stretch = λ s k run h g a. tt;
@@ -141,22 +141,22 @@ module _ (K : ℕ) (k : Child) (ks : List Child) (f : Fair K (k ∷ ks)) (before
         ask true e = tt
         ask false e = longer-sound (j ∷ run) g (stopping-less K _ _ e (omega arith))
 
-sound : (K : ℕ) (ks : List Child) → Fair K ks → LevelSound K ks
-sound K [] f = sound-nil K
-sound K (k ∷ ks) f =
-    let before = sound K ks (f .2) in
+level-sound : (K : ℕ) (ks : List Child) → Fair K ks → LevelSound K ks
+level-sound K [] f = level-sound-nil K
+level-sound K (k ∷ ks) f =
+    let before = level-sound K ks (f .2) in
     record {
       entry = entry-sound-cons K k ks f before;
       stretch = λ s j run h g a. stretch-sound-cons K k ks f before s h j run g;
     }
 
 pub entry-sound : (K : ℕ) (ks : List Child) → Fair K ks → (s : ℕ) → s ≤ K → Usable K s ks (entryAt K ks s)
-entry-sound K ks f = sound K ks f .entry
+entry-sound K ks f = level-sound K ks f .entry
 
 -- ---- No usable plan of the level is better
 
 -- of the entries; and of the candidates whose run goes on to the left of members already chosen for
-record Least (K : ℕ) (ks : List Child) : Type 0 where
+record LevelLeast (K : ℕ) (ks : List Child) : Type 0 where
   entry : (s : ℕ) {cs : List Choice} {n x : ℕ} {o : RunSoFar} → Level K ks cs n x o → s + x ≤ K
       → Below (entryAt K ks s) n (s + x)
   stretch : (s t : ℕ) {j : Child} {run : List Child} {cs : List Choice} {m z n x y l : ℕ}
@@ -168,9 +168,9 @@ run-members : {K n x y l : ℕ} {ks : List Child} {cs : List Choice} → Level K
 run-members (begin o h e f p) = omega arith
 run-members (go o e h f s q p) = omega arith
 
-least-nil : (K : ℕ) → Least K []
+level-least-nil : (K : ℕ) → LevelLeast K []
 unfolding entryAt
-least-nil K = record { entry = entry; stretch = λ s t g p l w e h i. absurd (omega (arith, run-members l)) }
+level-least-nil K = record { entry = entry; stretch = λ s t g p l w e h i. absurd (omega (arith, run-members l)) }
   where
     entry : (s : ℕ) {cs : List Choice} {n x : ℕ} {o : RunSoFar} → Level K [] cs n x o → s + x ≤ K
         → Below (entryAt K [] s) n (s + x)
@@ -187,7 +187,7 @@ reachable-left : (K l l′ : ℕ) (k : Child) (run : List Child) → Gainful (k 
 reachable-left K l l′ k [] g e t a = stopping-less K _ _ t (omega (arith, lightest-cons k [] g, lightest-nil))
 reachable-left K l l′ k (j ∷ run) g e t a = stopping-less K _ _ a (omega (arith, lightest-cons k (j ∷ run) g))
 
-module _ {K : ℕ} {k : Child} {ks : List Child} (f : Fair K (k ∷ ks)) (before : Least K ks) (s : ℕ) where
+module _ {K : ℕ} {k : Child} {ks : List Child} (f : Fair K (k ∷ ks)) (before : LevelLeast K ks) (s : ℕ) where
   longer-least : (t : ℕ) {m z n x y l : ℕ} {run : List Child} {cs : List Choice}
       → Gainful run → Picked run m z → Level K (k ∷ ks) cs n x (aRun y l) → y + z ≤ K → Reachable K l run
       → s + x ≤ K → n + m ≤ t
@@ -218,11 +218,11 @@ module _ {K : ℕ} {k : Child} {ks : List Child} (f : Fair K (k ∷ ks)) (before
   entry-least-cons (begin o w e q l) h = run-least (begin o w e q l) h
   entry-least-cons (go o e w q t u l) h = run-least (go o e w q t u l) h
 
-least : (K : ℕ) (ks : List Child) → Fair K ks → Least K ks
+level-least : (K : ℕ) (ks : List Child) → Fair K ks → LevelLeast K ks
 unfolding pick
-least K [] f = least-nil K
-least K (k ∷ ks) f =
-    let before : Least K ks = least K ks (f .2) in
+level-least K [] f = level-least-nil K
+level-least K (k ∷ ks) f =
+    let before : LevelLeast K ks = level-least K ks (f .2) in
     record {
       entry = λ s {cs} {n} {x} l h.
           rw entryAt-cons (winner-below s (candidates K k ks s) n (s + x) (entry-least-cons f before s l h));
@@ -233,4 +233,4 @@ least K (k ∷ ks) f =
 
 pub entry-least : {K n x : ℕ} {ks : List Child} {cs : List Choice} {o : RunSoFar} (s : ℕ) → Fair K ks
     → Level K ks cs n x o → s + x ≤ K → Below (entryAt K ks s) n (s + x)
-entry-least {K} {ks = ks} s f l h = least K ks f .entry s l h
+entry-least {K} {ks = ks} s f l h = level-least K ks f .entry s l h

@@ -68,10 +68,10 @@ data ChainLaid (gains : Bool) (K : ℕ) (c : Chain) (before : List Child) (ds : 
       → n + pagesBelow gains K c ≡ count + pages
       → ChainLaid gains K c before ds n x
 
-laid-none : {gains : Bool} {K n x : ℕ} {before : List Child} {ds : List Choice} {o : RunSoFar}
+chain-laid-end : {gains : Bool} {K n x : ℕ} {before : List Child} {ds : List Choice} {o : RunSoFar}
     → Level K before ds n x o → ChainLaid gains K end before ds n x
 unfolding layMarks pagesBelow
-laid-none {K = K} {o = o} l =
+chain-laid-end {K = K} {o = o} l =
     chainLaid [] refl l (weighs-end K (inRunSoFar o)) (room-zero o l) (omega arith) (omega arith)
 
 -- what a node's children weigh under each plan that it offers
@@ -80,32 +80,32 @@ Offering gains K w kids =
     (b : Bool) (e r : ℕ) → Offers (childOf gains K w (childrenOf gains K kids)) b e r → NodeLaid gains K w kids b e r
 
 -- one sibling more, before those of `next`
-laid-sibling : {gains : Bool} {K w l n x : ℕ} {kids next : Chain} {before : List Child} {ds : List Choice}
+chain-laid-node : {gains : Bool} {K w l n x : ℕ} {kids next : Chain} {before : List Child} {ds : List Choice}
     → Offering gains K w kids
     → ChainLaid gains K next (childOf gains K w (childrenOf gains K kids) ∷ before) ds n x
     → ChainLaid gains K (node w l kids next) before ds n x
 unfolding layMarks pagesBelow
-laid-sibling {w = w} {l} {kids = kids} {next = next} kid (chainLaid own s (stay {o = o} e v) q h t u) =
+chain-laid-node {w = w} {l} {kids = kids} {next} kid (chainLaid own s (stay {o = o} e v) q h t u) =
     let p : NodeLaid _ _ w kids false 0 _ = kid false 0 _ (best refl refl) in
     chainLaid (record { mark = stays; second = false } ∷ own) s v
     (weighs-stays w l kids next _ _ (inRunSoFar o) (p .marks) q) (room-zero o v) (omega arith) (omega arith)
-laid-sibling {w = w} {l} {kids = kids} {next = next} kid (chainLaid own s (begin {b = b} {o = o} f c e z v) q h t u) =
+chain-laid-node {w = w} {l} {kids = kids} {next} kid (chainLaid own s (begin {b = b} {o = o} f c e z v) q h t u) =
     let p : NodeLaid _ _ w kids b _ _ = kid b _ _ f in
     chainLaid (record { mark = begins; second = b } ∷ own) s v
     (weighs-begins w l kids next _ _ (inRunSoFar o) (p .marks) q (omega arith)) (room-zero o v) t (omega arith)
-laid-sibling {w = w} {l} {kids = kids} {next = next} kid (chainLaid own s (go {b = b} f c d e g i v) q h t u) =
+chain-laid-node {w = w} {l} {kids = kids} {next} kid (chainLaid own s (go {b = b} f c d e g i v) q h t u) =
     let p : NodeLaid _ _ w kids b _ _ = kid b _ _ f in
     chainLaid (record { mark = continues; second = b } ∷ own) s v
     (weighs-continues w l kids next _ _ (p .marks) q) (omega arith) t (omega arith)
 
 -- the children of a node, under the plan that the node follows
-laid-children : {gains : Bool} {K n w x e r : ℕ} {b : Bool} {kids : Chain} {ds : List Choice}
+node-laid : {gains : Bool} {K n w x e r : ℕ} {b : Bool} {kids : Chain} {ds : List Choice}
     → ChainLaid gains K kids [] ds n x
     → reverse ds ≡ choicesOf gains K w kids b
     → w + x ≡ r
     → n ≡ bestEntry K w (childrenOf gains K kids) .count + e
     → NodeLaid gains K w kids b e r
-laid-children (chainLaid own s (empty e f) m h t u) c q v =
+node-laid (chainLaid own s (empty e f) m h t u) c q v =
     let mine = sym (reverse-reverse own) ∙ ap reverse s ∙ c in
     record { sum = _; carry = _; pages = _; marks = rw mine at m; total = omega arith; more = omega arith }
 
@@ -118,19 +118,19 @@ unfolding choicesOf pick
 offering gains K w kids f h lay b e r (best p q) =
     let ks : List Child = childrenOf gains K kids in
     let b = node-best K w ks f h in
-    laid-children (lay _ _ _ _ (b .level)) refl (omega (arith, b .total, node-rest gains K w ks)) (omega arith)
+    node-laid (lay _ _ _ _ (b .level)) refl (omega (arith, b .total, node-rest gains K w ks)) (omega arith)
 offering gains K w kids f h lay b e r (second p g q) =
     let ks : List Child = childrenOf gains K kids in
     let b = node-second K w ks f h gains g in
     let total = b .total in
-    laid-children (lay _ _ _ _ (b .level)) refl (omega (arith, node-rest gains K w ks)) (omega (arith, b .more))
+    node-laid (lay _ _ _ _ (b .level)) refl (omega (arith, node-rest gains K w ks)) (omega (arith, b .more))
 
 lay-chain : (gains : Bool) {K n x : ℕ} (c : Chain) (before : List Child) {ds : List Choice} {o : RunSoFar}
     → EachWithin K c → Level K (childrenFrom gains K c before) ds n x o → ChainLaid gains K c before ds n x
 unfolding childrenFrom childrenOf EachWithin
-lay-chain gains end before e l = laid-none l
+lay-chain gains end before e l = chain-laid-end l
 lay-chain gains {K} (node w z kids next) before e l =
-    laid-sibling
+    chain-laid-node
     (offering gains K w kids (children-fair gains K kids [] (e .1) tt) (e .0)
     (λ ds n x o v. lay-chain gains kids [] (e .1) v))
     (lay-chain gains next (childOf gains K w (childrenFrom gains K kids []) ∷ before) (e .2) l)

@@ -1,7 +1,7 @@
 -- Plans of one level: what becomes of a node's children, the last child first, each with its best or its second plan.
 -- They do not depend on the start: at start s a plan is usable if s and what stays are within K.
 -- Defines Fair, stopping, lightestOf, RunSoFar, Level. Proves that a plan where something stays can be made lighter
--- for one page more (`lighter`). Assumes nothing.
+-- for one page more (lighter-plan). Assumes nothing.
 use Prim.Native.Nat.{ℕ, zero, suc, _+_, _-_, _≤_, _<_}
 use mathlib.Core.Path.{_≡_, refl}
 use mathlib.Core.Bool.{Bool, false}
@@ -116,17 +116,17 @@ lighter-stay {n = n} {x′ = x′} f e l p inner (suc a) q =
     let begun = begin (best refl refl) (f .0) more refl l in
     record { choices = _; sum = x′; run = aRun _ 0; level = begun; lighter = omega arith; keeps = tt }
 
-pub lighter : {K n x : ℕ} {ks : List Child} {cs : List Choice} {o : RunSoFar} → Fair K ks → Level K ks cs n x o → 1 ≤ x
-    → Lighter K ks n x o
-lighter f (empty e h) p = absurd (omega arith)
-lighter f (stay {k = k} e l) p = lighter-stay f e l p (λ h. lighter (f .2) l h) (k .rest) refl
-lighter {n = n} f (begin {e = u} {n′ = n′} o h e q l) p =
-    let i : Lighter _ _ _ _ _ = lighter (f .2) l p in
+pub lighter-plan : {K n x : ℕ} {ks : List Child} {cs : List Choice} {o : RunSoFar} → Fair K ks → Level K ks cs n x o
+    → 1 ≤ x → Lighter K ks n x o
+lighter-plan f (empty e h) p = absurd (omega arith)
+lighter-plan f (stay {k = k} e l) p = lighter-stay f e l p (λ h. lighter-plan (f .2) l h) (k .rest) refl
+lighter-plan {n = n} f (begin {e = u} {n′ = n′} o h e q l) p =
+    let i : Lighter _ _ _ _ _ = lighter-plan (f .2) l p in
     let more : n + 1 ≡ n′ + 1 + 1 + u = omega arith in
     let l′ = i .level in
     record { choices = _; sum = i .sum; run = _; level = begin o h more q l′; lighter = i .lighter; keeps = refl }
-lighter {n = n} f (go {e = u} {n′ = n′} o e h q s t l) p =
-    let i : Lighter _ _ _ _ _ = lighter (f .2) l p in
+lighter-plan {n = n} f (go {e = u} {n′ = n′} o e h q s t l) p =
+    let i : Lighter _ _ _ _ _ = lighter-plan (f .2) l p in
     let more : n + 1 ≡ n′ + 1 + u = omega arith in
     let gone = go o e h q s more (rw (i .keeps) at (i .level)) in
     record { choices = _; sum = i .sum; run = _; level = gone; lighter = i .lighter; keeps = refl }

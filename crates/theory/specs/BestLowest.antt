@@ -42,24 +42,24 @@ module _ {t : List ℕ} (a : AcceptedFacts t) where
   abbrev Plans : (ℕ → Chain → List ℕ) → Chain → Type 0
   Plans steps c = (root : ℕ) × FeasibleShape K c (steps K c) root
 
-  judged : (steps : ℕ → Chain → List ℕ)
+  plan-judged : (steps : ℕ → Chain → List ℕ)
       → ((w l : ℕ) (kids : Chain) → EachWithin K (node w l kids end) → Plans steps (node w l kids end))
       → Judged t (steps K (treeOf t))
-  judged steps f =
+  plan-judged steps f =
       let p = by-shape (Plans steps) (λ w l kids e p. f w l kids e) in
       shape-judged a _ (p .0) (p .1)
 
   pub best-judged : Judged t (bestMarks K (treeOf t))
-  best-judged = judged bestMarks (λ w l kids e. (_, best-feasible K w l kids e .feasible))
+  best-judged = plan-judged bestMarks (λ w l kids e. (_, best-feasible K w l kids e .feasible))
 
   pub level-judged : Judged t (levelMarks K (treeOf t))
-  level-judged = judged levelMarks (λ w l kids e. (_, level-feasible K w l kids e .feasible))
+  level-judged = plan-judged levelMarks (λ w l kids e. (_, level-feasible K w l kids e .feasible))
 
   pub single-judged : Judged t (singleMarks K (treeOf t))
-  single-judged = judged singleMarks (λ w l kids e. (_, single-feasible K w l kids e))
+  single-judged = plan-judged singleMarks (λ w l kids e. (_, single-feasible K w l kids e))
 
   pub pair-judged : Judged t (pairMarks K (treeOf t))
-  pair-judged = judged pairMarks (λ w l kids e. (_, pair-feasible K w l kids e))
+  pair-judged = plan-judged pairMarks (λ w l kids e. (_, pair-feasible K w l kids e))
 
   -- the figures of a feasible plan are those of its pages by shape
   page-count-is : (m : List ℕ) → Judged t m → pageCount t m ≡ length (weighed (treeOf t) m .pages)

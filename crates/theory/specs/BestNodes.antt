@@ -1,8 +1,7 @@
 -- The node theorem: the figures of a node, from its children's, mean to its parent what its children's mean to it.
 -- Defines bestEntry, secondEntry, SecondPlan, NoBetter. Proves node-best, node-second (what its best and its second
 -- plan are), node-left (what it leaves at least), node-least (no plan of it is better), children-fair (the figures
--- of a chain).
--- Assumes nothing.
+-- of a chain). Assumes nothing.
 use Prim.Native.Nat.{ℕ, _+_, _-_, _≤_, _<_}
 use mathlib.Core.Path.{_≡_, refl}
 use mathlib.Core.Bool.{Bool, true, false}
@@ -14,7 +13,7 @@ use Rattle.model.specs.Basics.{pick}
 use Rattle.model.specs.Table.{Chain, end, node}
 use Rattle.model.specs.Steps.{Child, Choice, Entry, entryAt, secondStart, gainOf, childOf, childrenFrom}
 use Rattle.theory.specs.PlanShape.{EachWithin}
-use Rattle.theory.specs.BestLevel.{Fair, RunSoFar, Level, lighter}
+use Rattle.theory.specs.BestLevel.{Fair, RunSoFar, Level, lighter-plan}
 use Rattle.theory.specs.BestEntries.{Usable, entry-sound, entry-least}
 
 -- the entry of a node's best plan, and that of its second
@@ -80,7 +79,7 @@ module _ (K w : ℕ) (ks : List Child) (f : Fair K ks) (h : w ≤ K) where
       let e : s ≡ w + (K - W) + 1 = secondStart-is K w W in
       let b = node-best in
       let r = entry-sound K ks f s l in
-      let i = lighter f (b .level) (omega arith) in
+      let i = lighter-plan f (b .level) (omega arith) in
       let fewest = entry-least w f (r .level) (omega arith) in
       let most = entry-least s f (i .level) (omega arith) in
       let differ : secondEntry K w ks .count ≡ bestEntry K w ks .count → ⊥ =

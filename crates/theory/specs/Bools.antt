@@ -1,5 +1,5 @@
 -- Laws of one, two and three Bools, each said once. Of a negation the kit has not-true and not-false. Assumes nothing.
-use mathlib.Core.Bool.{Bool, true, false, _&&_, _||_, true≢false, and-eq-true-iff}
+use mathlib.Core.Bool.{Bool, true, false, _&&_, _||_, true≢false, and-eq-true-iff, and-false}
 use mathlib.Core.Path.{_≡_, refl, sym}
 use mathlib.Core.Logic.{_⊎_, inl, inr}
 
@@ -28,8 +28,7 @@ pub and-false-left : (a b : Bool) → a ≡ false → (a && b) ≡ false
 and-false-left a b e = rw e
 
 pub and-false-right : (a b : Bool) → b ≡ false → (a && b) ≡ false
-and-false-right true b e = e
-and-false-right false b e = refl
+and-false-right a b e = rw (e, and-false)
 
 pub both-true : (a b : Bool) → (a && b) ≡ true → (a ≡ true) × (b ≡ true)
 both-true a b = and-eq-true-iff a b .0

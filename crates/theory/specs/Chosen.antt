@@ -5,28 +5,22 @@ use Prim.Native.Nat.{ℕ, zero, suc, _≤_, _<_}
 use native.Mathlib.Omega.{arith}
 use mathlib.Core.Bool.{Bool, true, false, true≢false}
 use mathlib.Core.Path.{_≡_, refl, sym, _∙_, ap}
-use mathlib.Core.Logic.{_⊎_, inl, inr}
+use mathlib.Core.Logic.{_⊎_, inl, inr, ⊎-elim}
 use mathlib.Core.List.{List, [], _∷_, _++_, append-nil}
 use lib.ListN.{length, getD, length-append, List·getD-append}
 use lib.Seq.{getD-append-seam}
 use lib.Dec.{leb}
 use borrow.Author.Tests.{leb-true, leb-false}
 use Rattle.model.specs.Basics.{pick, countTo, listTo}
+use Rattle.theory.specs.Bools.{bool-cases}
 use Rattle.theory.specs.Ranges.{Upto, pick-true, pick-false, order-cases, upto-suc, countTo-zero, countTo-suc}
-use Rattle.theory.specs.Ranges.{countTo-yes}
-use Rattle.theory.specs.Ranges.{countTo-no, listTo-zero, listTo-suc}
+use Rattle.theory.specs.Ranges.{countTo-yes, countTo-no, listTo-zero, listTo-suc}
 
 module _ (p : ℕ → Bool) where
-  countTo-step : (n : ℕ) → countTo n p ≤ countTo (suc n) p
-  countTo-step n = omega (arith, countTo-suc n p)
-
   pub countTo-mono : (m n : ℕ) → m ≤ n → countTo m p ≤ countTo n p
   countTo-mono m zero h = let z : m ≡ 0 = omega arith in rw z (omega arith)
-  countTo-mono m (suc n) h = go (upto-suc n m h) (countTo-mono m n)
-    where
-      go : (m ≤ n) ⊎ (m ≡ suc n) → (m ≤ n → countTo m p ≤ countTo n p) → countTo m p ≤ countTo (suc n) p
-      go (inl l) ih = omega (arith, ih l, countTo-step n)
-      go (inr e) ih = rw e (omega arith)
+  countTo-mono m (suc n) h =
+      ⊎-elim (λ l. omega (arith, countTo-mono m n l, countTo-suc n p)) (λ e. rw e (omega arith)) (upto-suc n m h)
 
   -- one that passes adds one to the count
   pub countTo-pass : (v : ℕ) → 1 ≤ v → p v ≡ true → (u : ℕ) → u < v → countTo u p < countTo v p
@@ -48,17 +42,14 @@ module _ (p : ℕ → Bool) where
 
   pub ranked : (n q : ℕ) → 1 ≤ q → q ≤ countTo n p → (v : ℕ) × Ranked n q v
   ranked zero q low high = absurd (omega (arith, countTo-zero p))
-  ranked (suc n) q low high = go (p (suc n)) refl (ranked n q low)
-    where
-      last : p (suc n) ≡ true → (q ≤ countTo n p) ⊎ (q ≡ suc (countTo n p)) → (q ≤ countTo n p → (v : ℕ) × Ranked n q v)
-          → (v : ℕ) × Ranked (suc n) q v
-      last e (inl l) ih = let r = ih l in (r .0, ranked-more (r .1))
-      last e (inr l) ih =
-          (suc n, record { low = omega arith; high = omega arith; passed = e; rank = countTo-yes n p e ∙ sym l })
-
-      go : (b : Bool) → p (suc n) ≡ b → (q ≤ countTo n p → (v : ℕ) × Ranked n q v) → (v : ℕ) × Ranked (suc n) q v
-      go true e ih = last e (upto-suc (countTo n p) q (omega (arith, countTo-yes n p e))) ih
-      go false e ih = let r = ih (omega (arith, countTo-no n p e)) in (r .0, ranked-more (r .1))
+  ranked (suc n) q low high =
+      ⊎-elim
+      (λ e.
+      ⊎-elim (λ l. let r = ranked n q low l in (r .0, ranked-more (r .1)))
+      (λ l. (suc n, record { low = omega arith; high = omega arith; passed = e; rank = countTo-yes n p e ∙ sym l }))
+      (upto-suc (countTo n p) q (omega (arith, countTo-yes n p e))))
+      (λ e. let r = ranked n q low (omega (arith, countTo-no n p e)) in (r .0, ranked-more (r .1)))
+      (bool-cases (p (suc n)))
 
   -- two that pass and count the same are the same
   pub countTo-same : (u v : ℕ) → p u ≡ true → p v ≡ true → countTo u p ≡ countTo v p → u ≡ v
@@ -109,12 +100,12 @@ module _ {ℓ} {X : Type ℓ} (p : ℕ → Bool) (f : ℕ → X) where
 
   pub length-chosen : (n : ℕ) → length (chosen n) ≡ countTo n p
   length-chosen zero = ap length chosen-zero ∙ sym (countTo-zero p)
-  length-chosen (suc n) = go (p (suc n)) refl (length-chosen n)
-    where
-      go : (b : Bool) → p (suc n) ≡ b → length (chosen n) ≡ countTo n p → length (chosen (suc n)) ≡ countTo (suc n) p
-      go true e ih =
-          ap length (chosen-yes n e) ∙ length-append (chosen n) (f (suc n) ∷ []) ∙ omega (arith, countTo-yes n p e)
-      go false e ih = ap length (chosen-no n e) ∙ ih ∙ sym (countTo-no n p e)
+  length-chosen (suc n) =
+      ⊎-elim
+      (λ e.
+      ap length (chosen-yes n e) ∙ length-append (chosen n) (f (suc n) ∷ [])
+      ∙ omega (arith, countTo-yes n p e, length-chosen n))
+      (λ e. ap length (chosen-no n e) ∙ length-chosen n ∙ sym (countTo-no n p e)) (bool-cases (p (suc n)))
 
   -- what is made of the one of rank i + 1 stands at i
   pub getD-chosen : (n v i : ℕ) (d : X) → Ranked p n (suc i) v → getD (chosen n) i d ≡ f v

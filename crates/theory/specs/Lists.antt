@@ -5,13 +5,13 @@ use Prim.Native.Nat.{ℕ, zero, suc, _+_, _≤_}
 use native.Mathlib.Omega.{arith}
 use mathlib.Core.Bool.{Bool, true, false, _&&_, true≢false}
 use mathlib.Core.Path.{_≡_, refl, sym, _∙_, ap}
-use mathlib.Core.Logic.{_⊎_, inl, inr}
+use mathlib.Core.Logic.{_⊎_, inl, inr, ⊎-elim}
 use mathlib.Core.List.{List, [], _∷_, _++_, List·Memᴰ, List·Memᴰ·head, List·Memᴰ·tail, List·Memᴰ·not-nil}
 use mathlib.Core.List.{List·Memᴰ·append-cases, List·Memᴰ·eq-of-singleton, Memᴰ·append-left, Memᴰ·append-right}
 use Rattle.model.specs.Basics.{pick, countTo, every}
 use Rattle.model.specs.Runs.{countOf}
-use Rattle.theory.specs.Bools.{both-true, and-false-left}
-use Rattle.theory.specs.Ranges.{upto-suc, pick-true, pick-false, countTo-zero, countTo-suc, countTo-no}
+use Rattle.theory.specs.Bools.{bool-cases, both-true, and-false-left}
+use Rattle.theory.specs.Ranges.{upto-suc, pick-true, pick-false, pick-both, countTo-zero, countTo-suc, countTo-no}
 use Rattle.theory.specs.Chosen.{chosen, chosen-zero, chosen-yes, chosen-no}
 
 abbrev pub Mem {ℓ} : {X : Type ℓ} → X → List X → Type ℓ
@@ -37,24 +37,23 @@ module _ {ℓ} {X : Type ℓ} (p : X → Bool) where
   unfolding countOf
   countOf-nil = refl
 
-  countOf-single : (x : X) → countOf p (x ∷ []) ≡ pick (p x) 1 0
-  unfolding countOf
-  countOf-single x = refl
-
-  pub countOf-yes : (x : X) (xs : List X) → p x ≡ true → countOf p (x ∷ xs) ≡ suc (countOf p xs)
+  countOf-yes : (x : X) (xs : List X) → p x ≡ true → countOf p (x ∷ xs) ≡ suc (countOf p xs)
   unfolding countOf
   countOf-yes x xs e = pick-true (p x) (suc (countOf p xs)) (countOf p xs) e
 
-  pub countOf-no : (x : X) (xs : List X) → p x ≡ false → countOf p (x ∷ xs) ≡ countOf p xs
+  countOf-no : (x : X) (xs : List X) → p x ≡ false → countOf p (x ∷ xs) ≡ countOf p xs
   unfolding countOf
   countOf-no x xs e = pick-false (p x) (suc (countOf p xs)) (countOf p xs) e
 
+  pub countOf-cons : (x : X) (xs : List X) → countOf p (x ∷ xs) ≡ pick (p x) 1 0 + countOf p xs
+  countOf-cons x xs =
+      ⊎-elim (λ e. omega (arith, countOf-yes x xs e, pick-true {X = ℕ} (p x) 1 0 e))
+      (λ e. omega (arith, countOf-no x xs e, pick-false {X = ℕ} (p x) 1 0 e)) (bool-cases (p x))
+
   countOf-more : (x : X) (xs : List X) → countOf p xs ≤ countOf p (x ∷ xs)
-  countOf-more x xs = go (p x) refl
-    where
-      go : (b : Bool) → p x ≡ b → countOf p xs ≤ countOf p (x ∷ xs)
-      go true e = omega (arith, countOf-yes x xs e)
-      go false e = omega (arith, countOf-no x xs e)
+  unfolding countOf
+  countOf-more x xs =
+      pick-both (λ k. countOf p xs ≤ k) (p x) (suc (countOf p xs)) (countOf p xs) (omega arith) (omega arith)
 
   pub countOf-some : (xs : List X) (x : X) → Mem x xs → p x ≡ true → 1 ≤ countOf p xs
   countOf-some [] x h e = absurd (List·Memᴰ·not-nil h)
@@ -63,12 +62,10 @@ module _ {ℓ} {X : Type ℓ} (p : X → Bool) where
 
   pub countOf-find : (xs : List X) → 1 ≤ countOf p xs → (x : X) × Mem x xs × (p x ≡ true)
   countOf-find [] h = absurd (omega (arith, countOf-nil))
-  countOf-find (y ∷ ys) h = go (p y) refl (countOf-find ys)
-    where
-      go : (b : Bool) → p y ≡ b → (1 ≤ countOf p ys → (x : X) × Mem x ys × (p x ≡ true))
-          → (x : X) × Mem x (y ∷ ys) × (p x ≡ true)
-      go true e ih = (y, List·Memᴰ·head refl, e)
-      go false e ih = let r = ih (omega (arith, countOf-no y ys e)) in (r .0, List·Memᴰ·tail (r .1), r .2)
+  countOf-find (y ∷ ys) h =
+      ⊎-elim (λ e. (y, List·Memᴰ·head refl, e))
+      (λ e. let r = countOf-find ys (omega (arith, countOf-no y ys e)) in (r .0, List·Memᴰ·tail (r .1), r .2))
+      (bool-cases (p y))
 
   -- where one at most is counted, two that are counted are the same
   pub countOf-one : (xs : List X) (x y : X) → countOf p xs ≤ 1 → Mem x xs → Mem y xs → p x ≡ true → p y ≡ true → x ≡ y
@@ -83,22 +80,19 @@ module _ {ℓ} {X : Type ℓ} (p : X → Bool) where
 
   countOf-append : (xs ys : List X) → countOf p (xs ++ ys) ≡ countOf p xs + countOf p ys
   countOf-append [] ys = omega (arith, countOf-nil)
-  countOf-append (x ∷ xs) ys = go (p x) refl (countOf-append xs ys)
-    where
-      go : (b : Bool) → p x ≡ b → countOf p (xs ++ ys) ≡ countOf p xs + countOf p ys
-          → countOf p (x ∷ (xs ++ ys)) ≡ countOf p (x ∷ xs) + countOf p ys
-      go true e ih = omega (arith, countOf-yes x (xs ++ ys) e, countOf-yes x xs e)
-      go false e ih = omega (arith, countOf-no x (xs ++ ys) e, countOf-no x xs e)
+  countOf-append (x ∷ xs) ys =
+      let rest = countOf-append xs ys in
+      ⊎-elim (λ e. omega (arith, countOf-yes x (xs ++ ys) e, countOf-yes x xs e))
+      (λ e. omega (arith, countOf-no x (xs ++ ys) e, countOf-no x xs e)) (bool-cases (p x))
 
 -- a test that passes less often counts less
 pub countOf-le {ℓ} : {X : Type ℓ} (p q : X → Bool) (xs : List X) → ((x : X) → Mem x xs → p x ≡ true → q x ≡ true)
     → countOf p xs ≤ countOf q xs
 countOf-le p q [] h = omega (arith, countOf-nil p)
-countOf-le {X = X} p q (x ∷ xs) h = go (p x) refl (countOf-le p q xs (λ y m. h y (List·Memᴰ·tail m)))
-  where
-    go : (b : Bool) → p x ≡ b → countOf p xs ≤ countOf q xs → countOf p (x ∷ xs) ≤ countOf q (x ∷ xs)
-    go true e ih = omega (arith, countOf-yes p x xs e, countOf-yes q x xs (h x (List·Memᴰ·head refl) e))
-    go false e ih = omega (arith, countOf-no p x xs e, countOf-more q x xs)
+countOf-le p q (x ∷ xs) h =
+    let rest = countOf-le p q xs (λ y m. h y (List·Memᴰ·tail m)) in
+    ⊎-elim (λ e. omega (arith, countOf-yes p x xs e, countOf-yes q x xs (h x (List·Memᴰ·head refl) e)))
+    (λ e. omega (arith, countOf-no p x xs e, countOf-more q x xs)) (bool-cases (p x))
 
 -- ---- Lists of what is made of each number that passes
 
@@ -160,7 +154,8 @@ module _ {ℓ} {X : Type ℓ} (p : ℕ → Bool) (f : ℕ → X) where
             arith,
             ap (countOf q) (chosen-yes p f n e),
             countOf-append q (chosen p f n) (f (suc n) ∷ []),
-            countOf-single q (f (suc n)),
+            countOf-cons q (f (suc n)) [],
+            countOf-nil q,
             countTo-suc n both,
             ap (λ b. pick {X = ℕ} (b && q (f (suc n))) 1 0) e,
           )

@@ -1,8 +1,8 @@
--- The run of a page by its number, as a pass over the nodes finds it: it is that of the node that begins the page. Where
--- no mark is bad, the first node of page p is the last node on it that begins a run, and the last sibling of its run is
--- the last node on it that is in a run.
--- Defines Page (page q's first node), lastOnPage. Proves page-first, page-run; lastOnPage-on, lastOnPage-off; first-found,
--- last-found. Assumes nothing.
+-- The run of a page by its number, as a pass over the nodes finds it: it is that of the node that begins the page.
+-- Where no mark is bad, the first node of page p is the last node on it that begins a run, and the last sibling of its
+-- run is the last node on it that is in a run.
+-- Defines Page (page q's first node), lastOnPage. Proves page-first, page-run; lastOnPage-on, lastOnPage-off;
+-- first-found, last-found. Assumes nothing.
 use Prim.Native.Nat.{ℕ, suc, _-_, _≤_, _<_}
 use native.Mathlib.Omega.{arith}
 use mathlib.Core.Bool.{Bool, true, false, _&&_}
@@ -22,7 +22,7 @@ use Rattle.theory.specs.TableFacts.{SoundFacts}
 use Rattle.theory.specs.TableLinks.{next-le, next-prev}
 use Rattle.theory.specs.SiblingChains.{here, step, reach-le, reach-stop}
 use Rattle.theory.specs.PlanPages.{pageOf-begins, pageOf-continues}
-use Rattle.theory.specs.RunsMarked.{Goes, Ends, planRun, runLast-ends, goes-inRun, Headed, headed}
+use Rattle.theory.specs.RunsMarked.{Goes, Ends, planRun, runLast-ends, goes-inRun, FirstInRun, first-in-run}
 
 -- the last of the nodes 1 to n that is on page p and passes the test, or 0
 unfoldable pub lastOnPage : List ℕ → List ℕ → (ℕ → Bool) → ℕ → ℕ → ℕ
@@ -42,7 +42,8 @@ module _ (t m : List ℕ) (test : ℕ → Bool) where
       ∙ ap (λ (b : Bool). pick (b && test (suc v)) (suc v) (lastTo v (λ u. eqb (pageOf t m u) p && test u)))
       (eq-eqb (pageOf t m (suc v)) p e)
 
-  pub lastOnPage-off : (v p : ℕ) → (pageOf t m (suc v) ≡ p → ⊥) → lastOnPage t m test (suc v) p ≡ lastOnPage t m test v p
+  pub lastOnPage-off : (v p : ℕ) → (pageOf t m (suc v) ≡ p → ⊥)
+      → lastOnPage t m test (suc v) p ≡ lastOnPage t m test v p
   unfolding lastOnPage
   lastOnPage-off v p other =
       lastTo-no v (λ u. eqb (pageOf t m u) p && test u)
@@ -98,41 +99,41 @@ module _ {t : List ℕ} (s : SoundFacts t) (m : List ℕ) where
     pub first-found : lastOnPage t m (hasMark m begins) (nodeCount t) p ≡ pageRun t m p .first
     unfolding lastOnPage
     first-found =
-        lastTo-only (nodeCount t) (first) (λ u. eqb (pageOf t m u) p && hasMark m begins u) (begun .low) (begun .high)
-        (on-page (hasMark m begins) (first) first-page (begun .passed))
+        lastTo-only (nodeCount t) first (λ u. eqb (pageOf t m u) p && hasMark m begins u) (begun .low) (begun .high)
+        (on-page (hasMark m begins) first first-page (begun .passed))
         (λ u l h e.
         let both = both-true (eqb (pageOf t m u) p) (hasMark m begins u) e in
         begins-one u l (both .1) h (eqb-true (pageOf t m u) p (both .0)))
         ∙ ap (λ (r : Run). r .first) (sym (page-run t m p first low begun))
 
-    ends : Ends t m (first) (runLast t m (first))
-    ends = runLast-ends s m (first) (begun .low) (begun .high)
+    ends : Ends t m first (runLast t m first)
+    ends = runLast-ends s m first (begun .low) (begun .high)
 
     -- the nodes of page p's run come up to its last
-    run-upto : (v : ℕ) → 1 ≤ v → v ≤ nodeCount t → pageOf t m v ≡ p → inRun m v ≡ true → v ≤ runLast t m (first)
+    run-upto : (v : ℕ) → 1 ≤ v → v ≤ nodeCount t → pageOf t m v ≡ p → inRun m v ≡ true → v ≤ runLast t m first
     run-upto v l h q e =
-        let f : Headed t m v = headed s m good v l h e in
-        let top : f .head ≤ nodeCount t = omega (arith, f .high) in
-        let same : f .head ≡ first =
-        begins-one (f .head) (f .low) (f .mark) top (sym (goes-page (f .goes) (f .low) top) ∙ q) in
+        let f : FirstInRun t m v = first-in-run s m good v l h e in
+        let top : f .first ≤ nodeCount t = omega (arith, f .high) in
+        let same : f .first ≡ first =
+        begins-one (f .first) (f .low) (f .mark) top (sym (goes-page (f .goes) (f .low) top) ∙ q) in
         reach-le s (reach-stop (rw same at (f .goes)) (ends .goes) (ends .stops)) l h .0
 
     pub last-found : lastOnPage t m (inRun m) (nodeCount t) p ≡ pageRun t m p .last
     unfolding lastOnPage
     last-found =
         let range = reach-le s (ends .goes) (begun .low) (begun .high) in
-        lastTo-last (nodeCount t) (runLast t m (first)) (λ u. eqb (pageOf t m u) p && inRun m u)
+        lastTo-last (nodeCount t) (runLast t m first) (λ u. eqb (pageOf t m u) p && inRun m u)
         (record {
           low = omega (arith, range .0, begun .low);
           high = range .1;
           passed =
-              on-page (inRun m) (runLast t m (first)) (goes-page (ends .goes) (begun .low) (begun .high) ∙ first-page)
-              (goes-inRun s m (first) (runLast t m (first)) (begun .passed) (ends .goes));
+              on-page (inRun m) (runLast t m first) (goes-page (ends .goes) (begun .low) (begun .high) ∙ first-page)
+              (goes-inRun s m first (runLast t m first) (begun .passed) (ends .goes));
           after = λ u over h. none u over h (eqb (pageOf t m u) p && inRun m u) refl;
         })
         ∙ ap (λ (r : Run). r .last) (sym (page-run t m p first low begun))
       where
-        none : (u : ℕ) → runLast t m (first) < u → u ≤ nodeCount t → (b : Bool) → (eqb (pageOf t m u) p && inRun m u) ≡ b
+        none : (u : ℕ) → runLast t m first < u → u ≤ nodeCount t → (b : Bool) → (eqb (pageOf t m u) p && inRun m u) ≡ b
             → (eqb (pageOf t m u) p && inRun m u) ≡ false
         none u over h true e =
             let both = both-true (eqb (pageOf t m u) p) (inRun m u) e in

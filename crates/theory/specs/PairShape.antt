@@ -44,26 +44,26 @@ module _ (K w left right : ℕ) where
       ≡ unlessCut (takenAt 0 (sides K w left right)) left + unlessCut (takenAt 1 (sides K w left right)) right
   sides-sum = two-sum left right (sides K w left right) (sides-reduced .cuts)
 
-  pub sides-fit : restSum (sides K w left right) ≤ K - w
-  sides-fit = sides-reduced .fits
+  sides-within : restSum (sides K w left right) ≤ K - w
+  sides-within = sides-reduced .fits
 
 -- whether the first child, and the next sibling, of a node is cut
 module _ (K w : ℕ) (kids next : Chain) where
-  abbrev kidsCut : Bool
-  kidsCut = takenAt 0 (sides K w (remainder K kids) (remainder K next))
+  abbrev kidsSideCut : Bool
+  kidsSideCut = takenAt 0 (sides K w (remainder K kids) (remainder K next))
 
-  abbrev pub nextCut : Bool
-  nextCut = takenAt 1 (sides K w (remainder K kids) (remainder K next))
+  abbrev nextSideCut : Bool
+  nextSideCut = takenAt 1 (sides K w (remainder K kids) (remainder K next))
 
   pub remainder-node : (l : ℕ) → remainder K (node w l kids next)
-      ≡ w + unlessCut kidsCut (remainder K kids) + unlessCut nextCut (remainder K next)
+      ≡ w + unlessCut kidsSideCut (remainder K kids) + unlessCut nextSideCut (remainder K next)
   unfolding remainder
   remainder-node l = omega (arith, sides-sum K w (remainder K kids) (remainder K next))
 
 pub remainder-fits : (K : ℕ) (c : Chain) → EachWithin K c → remainder K c ≤ K
 unfolding EachWithin remainder
 remainder-fits K end h = omega arith
-remainder-fits K (node w l kids next) h = omega (arith, sides-fit K w (remainder K kids) (remainder K next))
+remainder-fits K (node w l kids next) h = omega (arith, sides-within K w (remainder K kids) (remainder K next))
 
 -- ---- A chain
 
@@ -78,14 +78,14 @@ module _ (K w l : ℕ) (kids next : Chain) (in-kids : PairLaid K kids) (in-next 
     abbrev this : Chain
     this = node w l kids next
 
-    kids-laid : MarksLaid K false kids (layPair K kids (kidsCut K w kids next) stays)
-        (unlessCut (kidsCut K w kids next) (remainder K kids)) 0
-    kids-laid = in-kids .staying (kidsCut K w kids next) false
+    kids-laid : MarksLaid K false kids (layPair K kids (kidsSideCut K w kids next) stays)
+        (unlessCut (kidsSideCut K w kids next) (remainder K kids)) 0
+    kids-laid = in-kids .staying (kidsSideCut K w kids next) false
 
     pair-begins : (uncut : ℕ) (run : Bool) → MarksLaid K run this (layPair K this true uncut) 0 0
     unfolding layPair pick
     pair-begins uncut run =
-        laid-begins K w l kids-laid run (in-next .going-on (nextCut K w kids next))
+        laid-begins K w l kids-laid run (in-next .going-on (nextSideCut K w kids next))
         (omega (arith, remainder-node K w kids next l))
 
     pair-stays : (cut run : Bool) → MarksLaid K run this (layPair K this cut stays) (unlessCut cut (remainder K this)) 0
@@ -93,13 +93,14 @@ module _ (K w l : ℕ) (kids next : Chain) (in-kids : PairLaid K kids) (in-next 
     pair-stays true run = pair-begins stays run
     pair-stays false run =
         rw (remainder-node K w kids next l)
-        (laid-stays K w l kids-laid run (in-next .staying (nextCut K w kids next) false))
+        (laid-stays K w l kids-laid run (in-next .staying (nextSideCut K w kids next) false))
 
     pair-continues : (cut : Bool) → MarksLaid K true this (layPair K this cut continues) 0 (unlessCut cut (remainder K this))
     unfolding layPair pick
     pair-continues true = pair-begins continues true
     pair-continues false =
-        rw (remainder-node K w kids next l) (laid-continues K w l kids-laid (in-next .going-on (nextCut K w kids next)))
+        rw (remainder-node K w kids next l)
+        (laid-continues K w l kids-laid (in-next .going-on (nextSideCut K w kids next)))
 
 end-none : (K : ℕ) (cut : Bool) → unlessCut cut (remainder K end) ≡ 0
 unfolding pick remainder
@@ -123,15 +124,15 @@ pair-laid K (node w l kids next) h =
 
 -- the root has no sibling: its page holds it and what its children keep
 remainder-root : (K w l : ℕ) (kids : Chain)
-    → remainder K (node w l kids end) ≡ w + unlessCut (kidsCut K w kids end) (remainder K kids)
-remainder-root K w l kids = omega (arith, remainder-node K w kids end l, end-none K (nextCut K w kids end))
+    → remainder K (node w l kids end) ≡ w + unlessCut (kidsSideCut K w kids end) (remainder K kids)
+remainder-root K w l kids = omega (arith, remainder-node K w kids end l, end-none K (nextSideCut K w kids end))
 
 -- the plan of a tree
 pub pair-feasible : (K w l : ℕ) (kids : Chain) → EachWithin K (node w l kids end)
     → FeasibleShape K (node w l kids end) (pairMarks K (node w l kids end)) (remainder K (node w l kids end))
 unfolding EachWithin pairMarks layPair pick
 pair-feasible K w l kids h =
-    let in-kids = pair-laid K kids (h .1) .staying (kidsCut K w kids end) false in
+    let in-kids = pair-laid K kids (h .1) .staying (kidsSideCut K w kids end) false in
     let fits = remainder-fits K (node w l kids end) h in
     let root = remainder-root K w l kids in
     rw root (feasible-tree K w l in-kids (omega arith))

@@ -44,8 +44,7 @@ pageIn-low n (p ∷ ps) x h =
     omega (
       arith,
       pick-false (eqb (suc n) x) p 0 (ne-eqb (suc n) x (λ z. omega arith)),
-      pageIn-low (suc n) ps x
-          (omega arith),
+      pageIn-low (suc n) ps x (omega arith),
     )
 
 -- it is that element of the list

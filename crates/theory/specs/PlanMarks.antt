@@ -4,14 +4,15 @@
 -- Assumes nothing.
 use Prim.Native.Nat.{ℕ, zero, suc, _+_, _-_, _≤_, _<_}
 use native.Mathlib.Omega.{arith}
+use native.Mathlib.Nat.{eq-or-lt-of-le}
 use mathlib.Core.Bool.{Bool, true, false, not, _&&_, _||_, false≢true}
 use mathlib.Core.Path.{_≡_, refl, sym, _∙_, ap}
-use mathlib.Core.Logic.{_↔_}
+use mathlib.Core.Logic.{_↔_, ⊎-elim}
 use mathlib.Core.List.{List, _∷_}
 use lib.ListN.{length, drop}
 use lib.Seq.{drop-cons, drop-drop}
 use lib.Dec.{eqb}
-use borrow.Author.Tests.{eqb-true, eqb-false, eq-eqb, ne-eqb}
+use borrow.Author.Tests.{eqb-true, eq-eqb, ne-eqb}
 use Rattle.model.specs.Basics.{pick}
 use Rattle.model.specs.Table.{nodeCount, weightAt, labelAt, firstAt, nextAt, Chain, end, node, treeOf}
 use Rattle.model.specs.Plan.{prevAt, markAt, inRun, goodMark, badMark}
@@ -97,43 +98,39 @@ module _ {t : List ℕ} (s : SoundFacts t) (m : List ℕ) (long : length m ≡ n
       afterRun-later t m v (nextAt t v) low (next-prev s v (nextAt t v) low high one refl)
       ∙ allowed-runs after (markAt m v) ok
 
-  good-chain : {v e u : ℕ} {c : Chain} → Numbered t v u c e → (after : Bool) → 1 ≤ v → e ≤ nodeCount t
-      → (1 ≤ u → afterRun t m u ≡ after) → Between v e (λ x. goodMark t m x ≡ true) → allowed after c (drop v m) ≡ true
+  -- the marks of a chain are good just where they are allowed
+  chain-marks : {v e u : ℕ} {c : Chain} → Numbered t v u c e → (after : Bool) → 1 ≤ v → e ≤ nodeCount t
+      → (1 ≤ u → afterRun t m u ≡ after)
+      → Between v e (λ x. goodMark t m x ≡ true) ↔ (allowed after c (drop v m) ≡ true)
   unfolding allowed
-  good-chain none after low high before good = refl
-  good-chain (some {m = v} {e₁ = e₁} {e₂ = e₂} {kids = kids} {next = next} k r) after low high before good =
+  chain-marks none after low high before = (λ good. refl, λ ok x a b. absurd (omega arith))
+  chain-marks (some {m = v} {e₁ = e₁} {e₂ = e₂} {kids = kids} {next = next} k r) after low high before =
       let le : suc v ≤ e₁ = numbered-le k in
       let le′ : e₁ ≤ e₂ = numbered-le r in
-      let here : allowedMark after (markAt m (suc v)) ≡ true =
-      ap (λ b. allowedMark b (markAt m (suc v))) (sym (before (omega arith)))
-      ∙ sym (good-allowed t m (suc v) (omega arith))
-      ∙ good (suc v) (omega arith) (omega arith) in
-      let below : allowed false kids (drop (suc v) m) ≡ true =
-      good-chain k false (omega arith) (omega arith) (first-after (suc v) (omega arith) (omega arith))
-      (λ x a b. good x (omega arith) (omega arith)) in
-      let beside : allowed (runs (markAt m (suc v))) next (drop e₁ m) ≡ true =
-      good-chain r (runs (markAt m (suc v))) (omega arith) high
-      (next-after (suc v) after (omega arith) (omega arith) here)
-      (λ x a b. good x (omega arith) b) in
-      allowed-from m v (weightAt t (suc v)) (labelAt t (suc v)) kids next e₁ (numbered-size k) (omega arith) after
-      ∙ rw (here, below, beside)
-
-  chain-good : {v e u : ℕ} {c : Chain} → Numbered t v u c e → (after : Bool) → 1 ≤ v → e ≤ nodeCount t
-      → (1 ≤ u → afterRun t m u ≡ after) → allowed after c (drop v m) ≡ true → Between v e (λ x. goodMark t m x ≡ true)
-  chain-good none after low high before ok = λ x a b. absurd (omega arith)
-  chain-good (some {m = v} {e₁ = e₁} {e₂ = e₂} {kids = kids} {next = next} k r) after low high before ok =
-      let le : suc v ≤ e₁ = numbered-le k in
-      let le′ : e₁ ≤ e₂ = numbered-le r in
-      let parts = three-true (allowedMark after (markAt m (suc v))) (allowed false kids (drop (suc v) m))
-      (allowed (runs (markAt m (suc v))) next (drop e₁ m))
-      (sym (allowed-from m v (weightAt t (suc v)) (labelAt t (suc v)) kids next e₁ (numbered-size k)
-      (omega arith) after) ∙ ok) in
-      between-join (λ x. goodMark t m x ≡ true) v e₁ e₂
-      (good-allowed t m (suc v) (omega arith) ∙ ap (λ b. allowedMark b (markAt m (suc v))) (before (omega arith))
-      ∙ parts .0)
-      (chain-good k false (omega arith) (omega arith) (first-after (suc v) (omega arith) (omega arith)) (parts .1))
-      (chain-good r (runs (markAt m (suc v))) (omega arith) high
-      (next-after (suc v) after (omega arith) (omega arith) (parts .0)) (parts .2))
+      let mark : ℕ = markAt m (suc v) in
+      let here : goodMark t m (suc v) ≡ allowedMark after mark =
+      good-allowed t m (suc v) (omega arith) ∙ ap (λ b. allowedMark b mark) (before (omega arith)) in
+      let all =
+      allowed-from m v (weightAt t (suc v)) (labelAt t (suc v)) kids next e₁ (numbered-size k) (omega arith) after in
+      let below = chain-marks k false (omega arith) (omega arith) (first-after (suc v) (omega arith) (omega arith)) in
+      let beside : allowedMark after mark ≡ true
+      → Between e₁ e₂ (λ x. goodMark t m x ≡ true) ↔ (allowed (runs mark) next (drop e₁ m) ≡ true) =
+      λ ok. chain-marks r (runs mark) (omega arith) high (next-after (suc v) after (omega arith) (omega arith) ok) in (
+        λ good.
+            let ok : allowedMark after mark ≡ true = sym here ∙ good (suc v) (omega arith) (omega arith) in
+            all
+            ∙ rw (
+              ok,
+              below .0 (λ x a b. good x (omega arith) (omega arith)),
+              beside ok .0 (λ x a b. good x (omega arith) b),
+            ),
+        λ ok.
+            let parts =
+            three-true (allowedMark after mark) (allowed false kids (drop (suc v) m))
+            (allowed (runs mark) next (drop e₁ m)) (sym all ∙ ok) in
+            between-join (λ x. goodMark t m x ≡ true) v e₁ e₂ (here ∙ parts .0) (below .1 (parts .1))
+            (beside (parts .0) .1 (parts .2)),
+      )
 
   -- no mark is bad: node 1 has mark 1, and the marks of the tree are allowed
   pub marks-bridge : (badMark t m ≡ Nowhere) ↔ ((markAt m 1 ≡ 1) × (allowed false (treeOf t) m ≡ true))
@@ -143,19 +140,15 @@ module _ {t : List ℕ} (s : SoundFacts t) (m : List ℕ) (long : length m ≡ n
         let good : Upto (nodeCount t) (λ v. goodMark t m v ≡ true) = bad-none t m .0 e in
         let one : markAt m 1 ≡ 1 =
         eqb-true (markAt m 1) 1 (sym (good-first t m) ∙ good 1 (omega arith) (s .count-low)) in
-        let below : allowed false kids (drop 1 m) ≡ true =
-        good-chain (root .below) false (omega arith) (omega arith) (first-after 1 (omega arith) (s .count-low))
-        (λ x a b. good x (omega arith) b) in
+        let below : allowed false kids (drop 1 m) ≡ true = later .0 (λ x a b. good x (omega arith) b) in
         (one, tree ∙ rw (one, below)),
     λ h.
         let parts =
         three-true (allowedMark false (markAt m 1)) (allowed false kids (drop 1 m)) true (sym tree ∙ h .1) in
         bad-none t m .1
         (λ v low high.
-        all v low high
-        (chain-good (root .below) false (omega arith) (omega arith) (first-after 1 (omega arith) (s .count-low))
-        (parts .1))
-        (h .0)),
+        ⊎-elim (λ q. rw (← q) (good-first t m ∙ eq-eqb (markAt m 1) 1 (h .0)))
+        (λ two. later .1 (parts .1) v two high) (eq-or-lt-of-le low)),
   )
     where
       root : Rooted t
@@ -171,10 +164,6 @@ module _ {t : List ℕ} (s : SoundFacts t) (m : List ℕ) (long : length m ≡ n
           (omega (arith, s .count-low))
           false
 
-      all : (v : ℕ) → 1 ≤ v → v ≤ nodeCount t → Between 1 (nodeCount t) (λ x. goodMark t m x ≡ true) → markAt m 1 ≡ 1
-          → goodMark t m v ≡ true
-      all v low high later one = go (eqb v 1) refl
-        where
-          go : (b : Bool) → eqb v 1 ≡ b → goodMark t m v ≡ true
-          go true q = rw (eqb-true v 1 q) (good-first t m ∙ eq-eqb (markAt m 1) 1 one)
-          go false q = let other : v ≡ 1 → ⊥ = eqb-false v 1 q in later v (omega arith) high
+      later : Between 1 (nodeCount t) (λ x. goodMark t m x ≡ true) ↔ (allowed false kids (drop 1 m) ≡ true)
+      later =
+          chain-marks (root .below) false (omega arith) (omega arith) (first-after 1 (omega arith) (s .count-low))

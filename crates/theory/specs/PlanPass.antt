@@ -12,8 +12,8 @@ use borrow.Author.Tests.{eq-eqb, ne-eqb}
 use Rattle.model.specs.Basics.{pick, sumTo, countTo}
 use Rattle.model.specs.Table.{nodeCount, weightAt, firstAt}
 use Rattle.model.specs.Plan.{prevAt, parentAt, hasMark, begins, continues, pageFrom, pageOf}
-use Rattle.theory.specs.Ranges.{steps-enough, pick-true, pick-false, pick-both, sumTo-zero}
-use Rattle.theory.specs.Ranges.{sumTo-suc, countTo-zero, countTo-le}
+use Rattle.theory.specs.Ranges.{steps-enough, pick-true, pick-false, pick-both, sumTo-zero, sumTo-suc}
+use Rattle.theory.specs.Ranges.{countTo-zero, countTo-le}
 use Rattle.theory.specs.TableFacts.{SoundFacts}
 use Rattle.theory.specs.TableLinks.{first-step, prevAt-none, prevAt-less, parentAt-none, parentAt-one}
 use Rattle.theory.specs.TableLinks.{parentAt-less, parentAt-later, parent-low, parent-first}
@@ -34,12 +34,6 @@ back-less t m v low =
     (parentAt-less t v low)
 
 -- ---- Pages
-
-pageFrom-suc : (f : ℕ) (t m : List ℕ) (v : ℕ)
-    → pageFrom (suc f) t m v
-    ≡ pick (hasMark m begins v) (countTo v (hasMark m begins)) (pageFrom f t m (stepBack t m v))
-unfolding pageFrom
-pageFrom-suc f t m v = refl
 
 pageFrom-none : (f : ℕ) (t m : List ℕ) → pageFrom f t m 0 ≡ 0
 unfolding pageFrom
@@ -63,12 +57,11 @@ pageOf-none t m = pageFrom-none 0 t m
 -- a node that begins a run is on a new page, and any other on the page of the node one step back
 pub pageOf-step : (t m : List ℕ) (v : ℕ) → 1 ≤ v
     → pageOf t m v ≡ pick (hasMark m begins v) (countTo v (hasMark m begins)) (pageOf t m (stepBack t m v))
-unfolding pageOf
+unfolding pageOf pageFrom
 pageOf-step t m zero low = absurd (omega arith)
 pageOf-step t m (suc v) low =
     let less : stepBack t m (suc v) < suc v = back-less t m (suc v) low in
-    pageFrom-suc v t m (suc v)
-    ∙ ap (pick (hasMark m begins (suc v)) (countTo (suc v) (hasMark m begins)))
+    ap (pick (hasMark m begins (suc v)) (countTo (suc v) (hasMark m begins)))
     (pageFrom-enough t m v (stepBack t m (suc v)) (stepBack t m (suc v)) (omega arith) (omega arith))
 
 pageFrom-le : (f : ℕ) (t m : List ℕ) (v : ℕ) → pageFrom f t m v ≤ v

@@ -20,8 +20,7 @@ weighed-front (node w l kids next) (k ∷ ms) ns h =
     rw (
       weighed-front kids ms ns (omega arith),
       drop-append-le (size kids) ms ns (omega arith),
-      weighed-front next
-          (drop (size kids) ms) ns kept,
+      weighed-front next (drop (size kids) ms) ns kept,
     )
 
 allowed-front : (after : Bool) (c : Chain) (ms ns : List ℕ) → size c ≤ length ms
@@ -34,8 +33,7 @@ allowed-front after (node w l kids next) (k ∷ ms) ns h =
     rw (
       allowed-front false kids ms ns (omega arith),
       drop-append-le (size kids) ms ns (omega arith),
-      allowed-front
-          (runs k) next (drop (size kids) ms) ns kept,
+      allowed-front (runs k) next (drop (size kids) ms) ns kept,
     )
 
 all-within-append : (K : ℕ) (ps qs : List ℕ) → AllWithin K ps → AllWithin K qs → AllWithin K (ps ++ qs)

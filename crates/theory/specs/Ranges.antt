@@ -186,11 +186,9 @@ countTo-none (suc n) p h =
 
 pub countTo-full : (n : ℕ) (p : ℕ → Bool) → countTo n p ≡ n → Upto n (λ v. p v ≡ true)
 countTo-full zero p e = λ v low high. absurd (omega arith)
-countTo-full (suc n) p e = go (p (suc n)) refl (countTo-full n p)
-  where
-    go : (b : Bool) → p (suc n) ≡ b → (countTo n p ≡ n → Upto n (λ v. p v ≡ true)) → Upto (suc n) (λ v. p v ≡ true)
-    go true q ih = upto-add (λ v. p v ≡ true) n (ih (omega (arith, countTo-yes n p q))) q
-    go false q ih = absurd (omega (arith, countTo-no n p q, countTo-le n p))
+countTo-full (suc n) p e =
+    ⊎-elim (λ q. upto-add (λ v. p v ≡ true) n (countTo-full n p (omega (arith, countTo-yes n p q))) q)
+    (λ q. absurd (omega (arith, countTo-no n p q, countTo-le n p))) (bool-cases (p (suc n)))
 
 -- ---- The first that passes
 
@@ -224,13 +222,12 @@ firstTo-none (suc n) p h =
 
 pub firstTo-nowhere : (n : ℕ) (p : ℕ → Bool) → firstTo n p ≡ Nowhere → Upto n (λ v. p v ≡ false)
 firstTo-nowhere zero p e = λ v low high. absurd (omega arith)
-firstTo-nowhere (suc n) p e = go (firstTo n p) refl (firstTo-nowhere n p)
-  where
-    go : (o : Place) → firstTo n p ≡ o → (firstTo n p ≡ Nowhere → Upto n (λ v. p v ≡ false))
-        → Upto (suc n) (λ v. p v ≡ false)
-    go (At v) q ih = absurd (at-nowhere v (sym (firstTo-found n v p q) ∙ e))
-    go Nowhere q ih =
-        upto-add (λ v. p v ≡ false) n (ih q) (when-nowhere (p (suc n)) (suc n) (sym (firstTo-further n p q) ∙ e))
+firstTo-nowhere (suc n) p e =
+    ⊎-elim (λ f. absurd (at-nowhere (f .0) (sym (firstTo-found n (f .0) p (f .1)) ∙ e)))
+    (λ q.
+    upto-add (λ v. p v ≡ false) n (firstTo-nowhere n p q)
+    (when-nowhere (p (suc n)) (suc n) (sym (firstTo-further n p q) ∙ e)))
+    (place-cases (firstTo n p))
 
 -- v is the first of 1 to n that passes
 pub record First (n : ℕ) (p : ℕ → Bool) (v : ℕ) : Type 0 where
@@ -292,11 +289,9 @@ lastTo-no n p e = lastTo-suc n p ∙ pick-false (p (suc n)) (suc n) (lastTo n p)
 
 pub lastTo-le : (n : ℕ) (p : ℕ → Bool) → lastTo n p ≤ n
 lastTo-le zero p = omega (arith, lastTo-zero p)
-lastTo-le (suc n) p = go (p (suc n)) refl (lastTo-le n p)
-  where
-    go : (b : Bool) → p (suc n) ≡ b → lastTo n p ≤ n → lastTo (suc n) p ≤ suc n
-    go true q ih = omega (arith, lastTo-yes n p q)
-    go false q ih = omega (arith, lastTo-no n p q)
+lastTo-le (suc n) p =
+    rw (lastTo-suc n p)
+    (pick-both (λ k. k ≤ suc n) (p (suc n)) (suc n) (lastTo n p) (omega arith) (omega (arith, lastTo-le n p)))
 
 pub lastTo-none : (n : ℕ) (p : ℕ → Bool) → Upto n (λ v. p v ≡ false) → lastTo n p ≡ 0
 lastTo-none zero p h = lastTo-zero p
@@ -305,11 +300,9 @@ lastTo-none (suc n) p h =
 
 lastTo-nothing : (n : ℕ) (p : ℕ → Bool) → lastTo n p ≡ 0 → Upto n (λ v. p v ≡ false)
 lastTo-nothing zero p e = λ v low high. absurd (omega arith)
-lastTo-nothing (suc n) p e = go (p (suc n)) refl (lastTo-nothing n p)
-  where
-    go : (b : Bool) → p (suc n) ≡ b → (lastTo n p ≡ 0 → Upto n (λ v. p v ≡ false)) → Upto (suc n) (λ v. p v ≡ false)
-    go true q ih = absurd (omega (arith, lastTo-yes n p q))
-    go false q ih = upto-add (λ v. p v ≡ false) n (ih (sym (lastTo-no n p q) ∙ e)) q
+lastTo-nothing (suc n) p e =
+    ⊎-elim (λ q. absurd (omega (arith, lastTo-yes n p q)))
+    (λ q. upto-add (λ v. p v ≡ false) n (lastTo-nothing n p (sym (lastTo-no n p q) ∙ e)) q) (bool-cases (p (suc n)))
 
 -- v is the last of 1 to n that passes
 pub record Last (n : ℕ) (p : ℕ → Bool) (v : ℕ) : Type 0 where
@@ -359,11 +352,10 @@ lastTo-last n v p f = go (eq-zero-or-pos u)
 pub lastTo-only : (n v : ℕ) (p : ℕ → Bool) → 1 ≤ v → v ≤ n → p v ≡ true → Upto n (λ u. p u ≡ true → u ≡ v)
     → lastTo n p ≡ v
 lastTo-only n v p low high pass only =
-    lastTo-last n v p (record { low = low; high = high; passed = pass; after = λ u l h. go u l h (p u) refl })
+    lastTo-last n v p (record { low = low; high = high; passed = pass; after = none })
   where
-    go : (u : ℕ) → v < u → u ≤ n → (b : Bool) → p u ≡ b → p u ≡ false
-    go u l h true e = absurd (omega (arith, only u (omega arith) h e))
-    go u l h false e = e
+    none : (u : ℕ) → v < u → u ≤ n → p u ≡ false
+    none u l h = ⊎-elim (λ e. absurd (omega (arith, only u (omega arith) h e))) (λ e. e) (bool-cases (p u))
 
 -- ---- Lists
 

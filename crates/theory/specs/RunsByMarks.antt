@@ -23,7 +23,8 @@ use Rattle.theory.specs.SiblingChains.{After, LastLink, here, step, reac
 use Rattle.theory.specs.SiblingChains.{reach-stop, reach-le, reach-between, reach-parent}
 use Rattle.theory.specs.SiblingsByParent.{sibling-after}
 use Rattle.theory.specs.PlanPages.{bad-none, good-first, good-later, good-continues, good-after}
-use Rattle.theory.specs.RunsMarked.{Goes, Ends, runLast-ends, ends-runLast, inRun-continues, Headed, headed}
+use Rattle.theory.specs.RunsMarked.{Goes, Ends, runLast-ends, ends-runLast, inRun-continues, FirstInRun}
+use Rattle.theory.specs.RunsMarked.{first-in-run}
 
 -- ---- Marks
 
@@ -94,12 +95,12 @@ pub record InRunOf (t m : List ℕ) (v b : ℕ) : Type 0 where
 module _ {t : List ℕ} (s : SoundFacts t) (m : List ℕ) where
   pub in-run-of : badMark t m ≡ Nowhere → (v : ℕ) → 1 ≤ v → v ≤ nodeCount t → markAt m v ≡ 2 → (b : ℕ) × InRunOf t m v b
   in-run-of good v low high two =
-      let h : Headed t m v = headed s m good v low high (inRun-continues m v (eq-eqb (markAt m v) 2 two)) in
-      let one : markAt m (h .head) ≡ 1 = eqb-true (markAt m (h .head)) 1 (h .mark) in
-      let other : h .head ≡ v → ⊥ = λ e. omega (arith, ap (markAt m) e) in
-      let top : h .head ≤ nodeCount t = omega (arith, h .high) in
-      let e : Ends t m (h .head) (runLast t m (h .head)) = runLast-ends s m (h .head) (h .low) top in (
-        h .head,
+      let h : FirstInRun t m v = first-in-run s m good v low high (inRun-continues m v (eq-eqb (markAt m v) 2 two)) in
+      let one : markAt m (h .first) ≡ 1 = eqb-true (markAt m (h .first)) 1 (h .mark) in
+      let other : h .first ≡ v → ⊥ = λ e. omega (arith, ap (markAt m) e) in
+      let top : h .first ≤ nodeCount t = omega (arith, h .high) in
+      let e : Ends t m (h .first) (runLast t m (h .first)) = runLast-ends s m (h .first) (h .low) top in (
+        h .first,
         record {
           low = h .low;
           less = omega (arith, h .high);

@@ -17,8 +17,7 @@ use Rattle.model.specs.declared.Place.{Place}
 use Rattle.model.specs.declared.Place.the-variants.{At, Nowhere}
 use Rattle.theory.specs.Bools.{both-true}
 use Rattle.theory.specs.Ranges.{Upto, by-earlier, steps-enough, pick-true, pick-false, at-nowhere, at-same}
-use Rattle.theory.specs.Ranges.{atPlace-at, atPlace-nowhere}
-use Rattle.theory.specs.Ranges.{countTo-all, countTo-full}
+use Rattle.theory.specs.Ranges.{atPlace-at, atPlace-nowhere, countTo-all, countTo-full}
 use Rattle.theory.specs.TableFacts.{SoundFacts}
 use Rattle.theory.specs.TableLinks.{parentAt-none, parentAt-less, parent-low}
 use Rattle.theory.specs.SiblingChains.{After, here, reach-le, comesAfter-after, after-comesAfter}
@@ -204,20 +203,13 @@ module _ {t : List ℕ} (s : SoundFacts t) where
 
 -- ---- The page that a node is on
 
-homeFrom-run : (f : ℕ) (t : List ℕ) (rs : List Run) (v u : ℕ) → runWith t rs v ≡ At u → homeFrom (suc f) t rs v ≡ u
-unfolding homeFrom
-homeFrom-run f t rs v u e = atPlace-at (runWith t rs v) u (λ w. w) (homeFrom f t rs (parentAt t v)) e
-
-homeFrom-up : (f : ℕ) (t : List ℕ) (rs : List Run) (v : ℕ) → runWith t rs v ≡ Nowhere
-    → homeFrom (suc f) t rs v ≡ homeFrom f t rs (parentAt t v)
-unfolding homeFrom
-homeFrom-up f t rs v e = atPlace-nowhere (runWith t rs v) (λ w. w) (homeFrom f t rs (parentAt t v)) e
-
 module _ (t : List ℕ) (rs : List Run) (z : runWith t rs 0 ≡ Nowhere) where
   homeFrom-none : (f : ℕ) → homeFrom f t rs 0 ≡ 0
   unfolding homeFrom
   homeFrom-none zero = refl
-  homeFrom-none (suc f) = homeFrom-up f t rs 0 z ∙ ap (homeFrom f t rs) (parentAt-none t) ∙ homeFrom-none f
+  homeFrom-none (suc f) =
+      atPlace-nowhere (runWith t rs 0) (λ u. u) (homeFrom f t rs (parentAt t 0)) z
+      ∙ ap (homeFrom f t rs) (parentAt-none t) ∙ homeFrom-none f
 
   -- the page is found with v steps or more
   homeFrom-enough : (f g v : ℕ) → v ≤ f → v ≤ g → homeFrom f t rs v ≡ homeFrom g t rs v
@@ -229,15 +221,16 @@ module _ (t : List ℕ) (rs : List Run) (z : runWith t rs 0 ≡ Nowhere) where
 
   -- a node in a run is on that run's page, any other on its parent's page
   pub home-run : (v u : ℕ) → 1 ≤ v → runWith t rs v ≡ At u → homeOf t rs v ≡ u
-  unfolding homeOf
+  unfolding homeOf homeFrom
   home-run zero u low e = absurd (omega arith)
-  home-run (suc v) u low e = homeFrom-run v t rs (suc v) u e
+  home-run (suc v) u low e =
+      atPlace-at (runWith t rs (suc v)) u (λ w. w) (homeFrom v t rs (parentAt t (suc v))) e
 
   pub home-up : (v : ℕ) → 1 ≤ v → runWith t rs v ≡ Nowhere → homeOf t rs v ≡ homeOf t rs (parentAt t v)
-  unfolding homeOf
+  unfolding homeOf homeFrom
   home-up zero low e = absurd (omega arith)
   home-up (suc v) low e =
-      homeFrom-up v t rs (suc v) e
+      atPlace-nowhere (runWith t rs (suc v)) (λ w. w) (homeFrom v t rs (parentAt t (suc v))) e
       ∙ homeFrom-enough v (parentAt t (suc v)) (parentAt t (suc v)) (omega (arith, parentAt-less t (suc v) low))
       (omega arith)
 

@@ -1,13 +1,13 @@
 -- The run that goes from a node by the marks: the node, and the siblings after it that continue the run. It stops at
 -- runLast, its members are the nodes that it goes to, no two nodes that begin a run go to the same one, and each node
 -- in a run has a first node.
--- Defines Goes, Ends, planRun, Headed. Proves length-runsOf, runLast-ends, goes-member, member-goes, goes-one, headed.
--- Assumes nothing.
+-- Defines Goes, Ends, planRun, FirstInRun. Proves length-runsOf, runLast-ends, goes-member, member-goes, goes-one,
+-- first-in-run. Assumes nothing.
 use Prim.Native.Nat.{ℕ, zero, suc, _+_, _≤_, _<_}
 use native.Mathlib.Omega.{arith}
-use mathlib.Core.Bool.{Bool, true, false, not, _&&_, _||_, true≢false, false≢true}
+use mathlib.Core.Bool.{Bool, true, false, not, _&&_, or-true, true≢false, false≢true}
 use mathlib.Core.Path.{_≡_, refl, sym, _∙_, ap}
-use mathlib.Core.Logic.{_⊎_, inl, inr}
+use mathlib.Core.Logic.{_⊎_, inl, inr, ⊎-elim}
 use mathlib.Core.List.{List}
 use lib.ListN.{length}
 use lib.Dec.{eqb}
@@ -17,7 +17,7 @@ use Rattle.model.specs.Plan.{prevAt, badMark, begins, continues, markAt, hasMar
 use Rattle.model.specs.Plan.{runLast}
 use Rattle.model.specs.Runs.{Run, isMember, runsOf}
 use Rattle.model.specs.declared.Place.the-variants.{Nowhere}
-use Rattle.theory.specs.Bools.{both-true, both-false}
+use Rattle.theory.specs.Bools.{bool-cases, both-true, both-false}
 use Rattle.theory.specs.Ranges.{by-earlier, pick-true, pick-false}
 use Rattle.theory.specs.TableFacts.{SoundFacts}
 use Rattle.theory.specs.TableLinks.{next-later, next-le, prevAt-less}
@@ -86,11 +86,7 @@ inRun-begins m v e = rw e
 
 pub inRun-continues : (m : List ℕ) (v : ℕ) → hasMark m continues v ≡ true → inRun m v ≡ true
 unfolding inRun
-inRun-continues m v e = go (hasMark m begins v)
-  where
-    go : (b : Bool) → (b || hasMark m continues v) ≡ true
-    go true = refl
-    go false = e
+inRun-continues m v e = rw (e, or-true)
 
 pub neither-inRun : (m : List ℕ) (v : ℕ) → hasMark m begins v ≡ false → hasMark m continues v ≡ false
     → inRun m v ≡ false
@@ -107,25 +103,20 @@ module _ {t : List ℕ} (s : SoundFacts t) (m : List ℕ) where
   ends-here f u e = rw (runLastFrom-stop f t m u e) (record { goes = here; stops = goesOn-no t m u e })
 
   ends-from : (f u : ℕ) → 1 ≤ u → u ≤ nodeCount t → nodeCount t ≤ f + u → Ends t m u (runLastFrom f t m u)
-  ends-from zero u low high enough = go (goesOn t m u) refl
-    where
-      go : (b : Bool) → goesOn t m u ≡ b → Ends t m u (runLastFrom 0 t m u)
-      go true e =
-          let a : 1 ≤ nextAt t u = goesOn-yes t m u e .0 in
-          absurd (omega (arith, next-later s u low high a, next-le s u low high))
-      go false e = ends-here 0 u e
-  ends-from (suc f) u low high enough = go (goesOn t m u) refl (ends-from f (nextAt t u))
-    where
-      go : (b : Bool) → goesOn t m u ≡ b
-          → (1 ≤ nextAt t u → nextAt t u ≤ nodeCount t → nodeCount t ≤ f + nextAt t u
-          → Ends t m (nextAt t u) (runLastFrom f t m (nextAt t u)))
-          → Ends t m u (runLastFrom (suc f) t m u)
-      go true e ih =
-          let on = goesOn-yes t m u e in
-          let later : u < nextAt t u = next-later s u low high (on .0) in
-          let r = ih (on .0) (next-le s u low high) (omega arith) in
-          rw (runLastFrom-on f t m u e) (record { goes = step (on .0) (on .1) (r .goes); stops = r .stops })
-      go false e ih = ends-here (suc f) u e
+  ends-from zero u low high enough =
+      ⊎-elim
+      (λ e.
+      let a : 1 ≤ nextAt t u = goesOn-yes t m u e .0 in
+      absurd (omega (arith, next-later s u low high a, next-le s u low high)))
+      (ends-here 0 u) (bool-cases (goesOn t m u))
+  ends-from (suc f) u low high enough =
+      ⊎-elim
+      (λ e.
+      let on = goesOn-yes t m u e in
+      let later : u < nextAt t u = next-later s u low high (on .0) in
+      let r = ends-from f (nextAt t u) (on .0) (next-le s u low high) (omega arith) in
+      rw (runLastFrom-on f t m u e) (record { goes = step (on .0) (on .1) (r .goes); stops = r .stops }))
+      (ends-here (suc f) u) (bool-cases (goesOn t m u))
 
   -- runLast is the last of the run
   pub runLast-ends : (u : ℕ) → 1 ≤ u → u ≤ nodeCount t → Ends t m u (runLast t m u)
@@ -179,33 +170,33 @@ module _ {t : List ℕ} (s : SoundFacts t) (m : List ℕ) where
 -- ---- The run of a node
 
 -- the first node of the run that v is in
-pub record Headed (t m : List ℕ) (v : ℕ) : Type 0 where
-  pub head : ℕ
-  pub low : 1 ≤ head
-  pub high : head ≤ v
-  pub mark : hasMark m begins head ≡ true
-  pub goes : Goes t m head v
+pub record FirstInRun (t m : List ℕ) (v : ℕ) : Type 0 where
+  pub first : ℕ
+  pub low : 1 ≤ first
+  pub high : first ≤ v
+  pub mark : hasMark m begins first ≡ true
+  pub goes : Goes t m first v
 
 module _ {t : List ℕ} (s : SoundFacts t) (m : List ℕ) (good : badMark t m ≡ Nowhere) where
-  abbrev HeadedAt : ℕ → Type 0
-  HeadedAt v = 1 ≤ v → v ≤ nodeCount t → inRun m v ≡ true → Headed t m v
+  abbrev FirstInRunAt : ℕ → Type 0
+  FirstInRunAt v = 1 ≤ v → v ≤ nodeCount t → inRun m v ≡ true → FirstInRun t m v
 
-  pub headed : (v : ℕ) → 1 ≤ v → v ≤ nodeCount t → inRun m v ≡ true → Headed t m v
-  headed =
-      by-earlier HeadedAt (λ v earlier low high e. go v earlier low high e (hasMark m begins v) refl
+  pub first-in-run : (v : ℕ) → 1 ≤ v → v ≤ nodeCount t → inRun m v ≡ true → FirstInRun t m v
+  first-in-run =
+      by-earlier FirstInRunAt (λ v earlier low high e. go v earlier low high e (hasMark m begins v) refl
       (hasMark m continues v) refl)
     where
-      go : (v : ℕ) → ((u : ℕ) → u < v → HeadedAt u) → 1 ≤ v → v ≤ nodeCount t → inRun m v ≡ true
-          → (b : Bool) → hasMark m begins v ≡ b → (c : Bool) → hasMark m continues v ≡ c → Headed t m v
-      go v earlier low high e true q c q′ = record { head = v; low = low; high = omega arith; mark = q; goes = here }
+      go : (v : ℕ) → ((u : ℕ) → u < v → FirstInRunAt u) → 1 ≤ v → v ≤ nodeCount t → inRun m v ≡ true
+          → (b : Bool) → hasMark m begins v ≡ b → (c : Bool) → hasMark m continues v ≡ c → FirstInRun t m v
+      go v earlier low high e true q c q′ = record { first = v; low = low; high = omega arith; mark = q; goes = here }
       go v earlier low high e false q true q′ =
           let less : prevAt t v < v = prevAt-less t v low in
           let fine = good-node s m good v low high in
           let one : 1 ≤ prevAt t v = good-continues t m v low fine q′ in
-          let p : Headed t m (prevAt t v) =
+          let p : FirstInRun t m (prevAt t v) =
           earlier (prevAt t v) less one (omega arith) (good-after t m v low fine q′) in
           record {
-            head = p .head;
+            first = p .first;
             low = p .low;
             high = omega (arith, p .high);
             mark = p .mark;

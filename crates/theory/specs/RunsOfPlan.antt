@@ -11,8 +11,7 @@ use lib.Dec.{eqb, leb, ltb}
 use borrow.Author.Tests.{eqb-true, eq-eqb, leb-true, le-leb, ltb-false, le-ltb}
 use Rattle.model.specs.Basics.{pick, countTo}
 use Rattle.model.specs.Table.{nodeCount, limitOf, weightAt, nextAt}
-use Rattle.model.specs.Plan.{parentAt, begins, hasMark, inRun, pageOf, pageCount, pageWeight}
-use Rattle.model.specs.Plan.{badMark, heavyPage}
+use Rattle.model.specs.Plan.{parentAt, begins, hasMark, inRun, pageOf, pageCount, pageWeight, badMark, heavyPage}
 use Rattle.model.specs.Runs.{Run, isMember, rootRun, countOf, holds, runWith, homeOf, runWeight, withinLimit}
 use Rattle.model.specs.Runs.{rootWeight, runsOf}
 use Rattle.model.specs.declared.Place.the-variants.{At, Nowhere}
@@ -27,8 +26,8 @@ use Rattle.theory.specs.SiblingChains.{here, step}
 use Rattle.theory.specs.Lists.{Mem, every-all, all-every, From, chosen-from, chosen-mem, countOf-chosen}
 use Rattle.theory.specs.RunsFacts.{run-path, none-runWith, HoldFacts, facts-holds, runWith-at, runWith-zero}
 use Rattle.theory.specs.RunsFacts.{home-run, home-up}
-use Rattle.theory.specs.RunsMarked.{Goes, Headed, headed, planRun, runsOf-chosen, inRun-neither, ends-runLast}
-use Rattle.theory.specs.RunsMarked.{planRun-facts, goes-member, member-goes, goes-inRun, goes-one}
+use Rattle.theory.specs.RunsMarked.{Goes, FirstInRun, first-in-run, planRun, runsOf-chosen, inRun-neither}
+use Rattle.theory.specs.RunsMarked.{ends-runLast, planRun-facts, goes-member, member-goes, goes-inRun, goes-one}
 
 -- the node that begins the page of v
 record OnPage (t m : List ℕ) (v : ℕ) : Type 0 where
@@ -58,15 +57,15 @@ module _ {t : List ℕ} (s : SoundFacts t) (m : List ℕ) (good : badMark t m �
 
   in-one : (v : ℕ) → 1 ≤ v → v ≤ nodeCount t → inRun m v ≡ true → countOf (isMember t v) (runsOf t m) ≡ 1
   in-one v low high e =
-      let h : Headed t m v = headed s m good v low high e in
-      let top : h .head ≤ nodeCount t = omega (arith, h .high) in
-      let own : (hasMark m begins (h .head) && isMember t v (planRun t m (h .head))) ≡ true =
-      rw (h .mark, goes-member s m (h .head) v (h .low) top (h .goes)) in
+      let h : FirstInRun t m v = first-in-run s m good v low high e in
+      let top : h .first ≤ nodeCount t = omega (arith, h .high) in
+      let own : (hasMark m begins (h .first) && isMember t v (planRun t m (h .first))) ≡ true =
+      rw (h .mark, goes-member s m (h .first) v (h .low) top (h .goes)) in
       members-count v
-      ∙ countTo-only (λ u. hasMark m begins u && isMember t v (planRun t m u)) (nodeCount t) (h .head) (h .low) top own
+      ∙ countTo-only (λ u. hasMark m begins u && isMember t v (planRun t m u)) (nodeCount t) (h .first) (h .low) top own
       (λ u low′ high′ q.
       let b = both-true (hasMark m begins u) (isMember t v (planRun t m u)) q in
-      goes-one s m u (h .head) v low′ high′ (h .low) top (b .0) (h .mark) (member-goes s m u v low′ high′ (b .1))
+      goes-one s m u (h .first) v low′ high′ (h .low) top (b .0) (h .mark) (member-goes s m u v low′ high′ (b .1))
       (h .goes))
 
   not-member : (v : ℕ) → inRun m v ≡ false → (u : ℕ) → 1 ≤ u → u ≤ nodeCount t → hasMark m begins u ≡ true
@@ -144,16 +143,16 @@ module _ {t : List ℕ} (s : SoundFacts t) (m : List ℕ) (good : badMark t m �
       go : (v : ℕ) → ((u : ℕ) → u < v → HomePage u) → 1 ≤ v → v ≤ nodeCount t → (b : Bool) → inRun m v ≡ b
           → OnPage t m v
       go v earlier low high true e =
-          let h : Headed t m v = headed s m good v low high e in
-          let top : h .head ≤ nodeCount t = omega (arith, h .high) in
-          let with-head = runWith-goes (h .head) v (h .low) top (h .mark) (h .goes) in
+          let h : FirstInRun t m v = first-in-run s m good v low high e in
+          let top : h .first ≤ nodeCount t = omega (arith, h .high) in
+          let with-first = runWith-goes (h .first) v (h .low) top (h .mark) (h .goes) in
           record {
-            first = h .head;
+            first = h .first;
             low = h .low;
             high = h .high;
             mark = h .mark;
-            home = home-run t (runsOf t m) zero-none v (h .head) low with-head;
-            page = goes-page (h .goes) (h .low) top ∙ pageOf-begins t m (h .head) (h .low) (h .mark);
+            home = home-run t (runsOf t m) zero-none v (h .first) low with-first;
+            page = goes-page (h .goes) (h .low) top ∙ pageOf-begins t m (h .first) (h .low) (h .mark);
           }
       go v earlier low high false e =
           let q = inRun-neither m v e in
@@ -214,8 +213,7 @@ module _ {t : List ℕ} (s : SoundFacts t) (m : List ℕ) (good : badMark t m �
         (omega (
           arith,
           weight-first (c .0) (planRun t m (c .0)) refl (c .1 .passed),
-          ap (pageWeight t m)
-              (c .1 .rank),
+          ap (pageWeight t m) (c .1 .rank),
         ))),
     λ e. all-every (λ r. leb (runWeight t (runsOf t m) r) (limitOf t)) (runsOf t m)
         (λ r h.

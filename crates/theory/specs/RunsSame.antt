@@ -4,12 +4,14 @@
 -- Defines SameRuns, sameRun. Assumes nothing.
 use Prim.Native.Nat.{ℕ, zero, suc, _+_, _≤_}
 use native.Mathlib.Omega.{arith}
-use mathlib.Core.Bool.{Bool, true, false, _&&_}
+use native.Mathlib.Nat.{eq-zero-or-pos}
+use mathlib.Core.Bool.{Bool, true, _&&_}
 use mathlib.Core.Path.{_≡_, refl, sym, _∙_, ap}
+use mathlib.Core.Logic.{⊎-elim}
 use mathlib.Core.List.{List, [], _∷_, List·Memᴰ·head, List·Memᴰ·tail}
 use lib.ListN.{length}
 use lib.Dec.{eqb, leb}
-use borrow.Author.Tests.{eqb-true, eq-eqb, leb-true, leb-false}
+use borrow.Author.Tests.{eqb-true, eq-eqb}
 use Rattle.model.specs.Basics.{pick, atPlace, sumTo, every}
 use Rattle.model.specs.Table.{nodeCount, limitOf, weightAt}
 use Rattle.model.specs.Plan.{parentAt}
@@ -18,11 +20,11 @@ use Rattle.model.specs.Runs.{rootWeight}
 use Rattle.model.specs.declared.Place.{Place}
 use Rattle.model.specs.declared.Place.the-variants.{At, Nowhere}
 use Rattle.theory.specs.Bools.{both-true, same-true}
-use Rattle.theory.specs.Ranges.{Upto, pick-true, pick-false, sumTo-cong, sumTo-add, sumTo-none}
+use Rattle.theory.specs.Ranges.{Upto, sumTo-cong, sumTo-add, sumTo-none}
 use Rattle.theory.specs.Sums.{sumTo-only}
 use Rattle.theory.specs.TableFacts.{SoundFacts}
-use Rattle.theory.specs.Lists.{Mem, every-all, all-every, countOf-nil, countOf-yes, countOf-no, countOf-some}
-use Rattle.theory.specs.Lists.{countOf-find, countOf-le}
+use Rattle.theory.specs.Lists.{Mem, every-all, all-every, countOf-nil, countOf-some, countOf-cons, countOf-find}
+use Rattle.theory.specs.Lists.{countOf-le}
 use Rattle.theory.specs.RunsFacts.{RunFacts, FoundRun, HoldFacts, first-member, runWith-found, runWith-none}
 use Rattle.theory.specs.RunsFacts.{none-runWith, runWith-at}
 
@@ -88,15 +90,6 @@ module _ {t : List ℕ} (s : SoundFacts t) (rs rs′ : List Run) (h : HoldFacts 
 abbrev startsAt : ℕ → Run → Bool
 startsAt v r = eqb (r .first) v
 
-starts-cons : (v : ℕ) (r : Run) (rs : List Run)
-    → countOf (startsAt v) (r ∷ rs) ≡ pick (eqb (r .first) v) 1 0 + countOf (startsAt v) rs
-starts-cons v r rs = go (eqb (r .first) v) refl
-  where
-    go : (b : Bool) → eqb (r .first) v ≡ b
-        → countOf (startsAt v) (r ∷ rs) ≡ pick (eqb (r .first) v) 1 0 + countOf (startsAt v) rs
-    go true e = omega (arith, countOf-yes (startsAt v) r rs e, pick-true {X = ℕ} (eqb (r .first) v) 1 0 e)
-    go false e = omega (arith, countOf-no (startsAt v) r rs e, pick-false {X = ℕ} (eqb (r .first) v) 1 0 e)
-
 -- each run counted at its first node
 length-starts : (n : ℕ) (rs : List Run) → ((r : Run) → Mem r rs → (1 ≤ r .first) × (r .first ≤ n))
     → length rs ≡ sumTo n (λ v. countOf (startsAt v) rs)
@@ -107,30 +100,23 @@ length-starts n (r ∷ rs) h =
       arith,
       length-starts n rs (λ x m. h x (List·Memᴰ·tail m)),
       sumTo-cong n (λ v. countOf (startsAt v) (r ∷ rs)) (λ v. pick (eqb (r .first) v) 1 0 + countOf (startsAt v) rs)
-          (λ v low high. starts-cons v r rs),
+          (λ v low high. countOf-cons (startsAt v) r rs),
       sumTo-add n (λ v. pick (eqb (r .first) v) 1 0) (λ v. countOf (startsAt v) rs),
       sumTo-only n (r .first) 1 (range .0) (range .1),
     )
 
 -- a test that one run at most of a sequence passes, counted in another with the same runs
+count-le : (p : Run → Bool) (rs rs′ : List Run) → countOf p rs ≤ 1 → ((r : Run) → Mem r rs → Mem r rs′)
+    → countOf p rs ≤ countOf p rs′
+count-le p rs rs′ one there =
+    ⊎-elim (λ z. omega arith)
+    (λ some. let f = countOf-find p rs some in omega (arith, countOf-some p rs′ (f .0) (there (f .0) (f .1)) (f .2)))
+    (eq-zero-or-pos (countOf p rs))
+
 same-count : (p : Run → Bool) (rs rs′ : List Run) → countOf p rs ≤ 1 → countOf p rs′ ≤ 1 → SameRuns rs rs′
     → countOf p rs ≡ countOf p rs′
-same-count p rs rs′ one one′ same = go (leb 1 (countOf p rs)) refl (leb 1 (countOf p rs′)) refl
-  where
-    go : (b : Bool) → leb 1 (countOf p rs) ≡ b → (c : Bool) → leb 1 (countOf p rs′) ≡ c → countOf p rs ≡ countOf p rs′
-    go true e true e′ = omega (arith, leb-true 1 (countOf p rs) e, leb-true 1 (countOf p rs′) e′)
-    go false e false e′ = omega (arith, leb-false 1 (countOf p rs) e, leb-false 1 (countOf p rs′) e′)
-    go true e false e′ =
-        let f = countOf-find p rs (leb-true 1 (countOf p rs) e) in
-        absurd (omega (
-          arith,
-          countOf-some p rs′ (f .0) (same .there (f .0) (f .1)) (f .2),
-          leb-false 1
-              (countOf p rs′) e′,
-        ))
-    go false e true e′ =
-        let f = countOf-find p rs′ (leb-true 1 (countOf p rs′) e′) in
-        absurd (omega (arith, countOf-some p rs (f .0) (same .back (f .0) (f .1)) (f .2), leb-false 1 (countOf p rs) e))
+same-count p rs rs′ one one′ same =
+    omega (arith, count-le p rs rs′ one (same .there), count-le p rs′ rs one′ (same .back))
 
 module _ {t : List ℕ} (s : SoundFacts t) where
   starts-once : (rs : List Run) → HoldFacts t rs → Upto (nodeCount t) (λ v. countOf (startsAt v) rs ≤ 1)
@@ -141,18 +127,17 @@ module _ {t : List ℕ} (s : SoundFacts t) where
       omega (arith, h .once v low high)
 
   times-once : (rs : List Run) → HoldFacts t rs → (r : Run) → countOf (sameRun r) rs ≤ 1
-  times-once rs h r = go (leb 1 (countOf (sameRun r) rs)) refl
-    where
-      go : (b : Bool) → leb 1 (countOf (sameRun r) rs) ≡ b → countOf (sameRun r) rs ≤ 1
-      go true e =
-          let f = countOf-find (sameRun r) rs (leb-true 1 (countOf (sameRun r) rs) e) in
-          let run : RunFacts t (f .0) = h .each (f .0) (f .1) in
-          let at : r .first ≡ (f .0) .first = same-first r (f .0) (f .2) in
-          let less : countOf (sameRun r) rs ≤ countOf (startsAt (r .first)) rs =
-          countOf-le (sameRun r) (startsAt (r .first)) rs
-          (λ x m q. eq-eqb (x .first) (r .first) (sym (same-first r x q))) in
-          omega (arith, starts-once rs h (r .first) (omega (arith, run .low)) (omega (arith, run .high)))
-      go false e = omega (arith, leb-false 1 (countOf (sameRun r) rs) e)
+  times-once rs h r =
+      ⊎-elim (λ z. omega arith)
+      (λ some.
+      let f = countOf-find (sameRun r) rs some in
+      let run : RunFacts t (f .0) = h .each (f .0) (f .1) in
+      let at : r .first ≡ (f .0) .first = same-first r (f .0) (f .2) in
+      let less : countOf (sameRun r) rs ≤ countOf (startsAt (r .first)) rs =
+      countOf-le (sameRun r) (startsAt (r .first)) rs
+      (λ x m q. eq-eqb (x .first) (r .first) (sym (same-first r x q))) in
+      omega (arith, starts-once rs h (r .first) (omega (arith, run .low)) (omega (arith, run .high))))
+      (eq-zero-or-pos (countOf (sameRun r) rs))
 
   module _ (rs rs′ : List Run) (h : HoldFacts t rs) (h′ : HoldFacts t rs′) (same : SameRuns rs rs′) where
     pub same-length : length rs ≡ length rs′

@@ -19,9 +19,8 @@ use Rattle.model.specs.Plan.{prevAt, begins, continues, stays, markAt, hasMark,
 use Rattle.model.specs.Runs.{Run, runWith, runsOf}
 use Rattle.model.specs.declared.Place.{Place}
 use Rattle.model.specs.declared.Place.the-variants.{At, Nowhere}
-use Rattle.theory.specs.Bools.{either-true}
-use Rattle.theory.specs.Ranges.{pick-true, pick-false, atPlace-at, atPlace-nowhere, listTo-cong}
-use Rattle.theory.specs.Ranges.{length-listTo}
+use Rattle.theory.specs.Bools.{bool-cases, either-true}
+use Rattle.theory.specs.Ranges.{pick-true, pick-false, atPlace-at, atPlace-nowhere, listTo-cong, length-listTo}
 use Rattle.theory.specs.Ranges.{getD-listTo}
 use Rattle.theory.specs.TableFacts.{SoundFacts}
 use Rattle.theory.specs.TableLinks.{next-later, next-le, next-prev}
@@ -33,8 +32,8 @@ use Rattle.theory.specs.RunsFacts.{RunFacts, run-path, Inside, member-in
 use Rattle.theory.specs.RunsFacts.{first-member, FoundRun, runWith-found, HoldFacts, runs-apart, runWith-at}
 use Rattle.theory.specs.RunsFacts.{runWith-root}
 use Rattle.theory.specs.RunsSame.{SameRuns, same-runWith}
-use Rattle.theory.specs.RunsMarked.{Goes, Headed, headed, planRun, inRun-begins, inRun-continues, ends-runLast}
-use Rattle.theory.specs.RunsMarked.{neither-inRun}
+use Rattle.theory.specs.RunsMarked.{Goes, FirstInRun, first-in-run, planRun, inRun-begins, inRun-continues}
+use Rattle.theory.specs.RunsMarked.{ends-runLast, neither-inRun}
 use Rattle.theory.specs.RunsOfPlan.{runs-facts, runs-mem, mem-from, runWith-goes, runWith-out}
 
 -- 1 for the first node of a run, 2 for any other node of one, else 0
@@ -62,20 +61,20 @@ markOfRuns-none t rs v e = atPlace-nowhere (runWith t rs v) (λ u. pick (eqb u v
 
 -- what a node's mark says of its run
 data MarkCase (t : List ℕ) (rs : List Run) (v : ℕ) : Type 0 where
-  leads : runWith t rs v ≡ At v → markOfRuns t rs v ≡ 1 → MarkCase t rs v
-  follows : (u : ℕ) → runWith t rs v ≡ At u → (u ≡ v → ⊥) → markOfRuns t rs v ≡ 2 → MarkCase t rs v
-  outside : runWith t rs v ≡ Nowhere → markOfRuns t rs v ≡ 0 → MarkCase t rs v
+  run-first : runWith t rs v ≡ At v → markOfRuns t rs v ≡ 1 → MarkCase t rs v
+  run-later : (u : ℕ) → runWith t rs v ≡ At u → (u ≡ v → ⊥) → markOfRuns t rs v ≡ 2 → MarkCase t rs v
+  run-none : runWith t rs v ≡ Nowhere → markOfRuns t rs v ≡ 0 → MarkCase t rs v
 
 mark-case : (t : List ℕ) (rs : List Run) (v : ℕ) → MarkCase t rs v
 mark-case t rs v = go (runWith t rs v) refl
   where
     go : (o : Place) → runWith t rs v ≡ o → MarkCase t rs v
-    go Nowhere e = outside e (markOfRuns-none t rs v e)
+    go Nowhere e = run-none e (markOfRuns-none t rs v e)
     go (At u) e = by (eqb u v) refl
       where
         by : (b : Bool) → eqb u v ≡ b → MarkCase t rs v
-        by true q = let same : u ≡ v = eqb-true u v q in leads (e ∙ ap At same) (markOfRuns-first t rs v u e same)
-        by false q = follows u e (eqb-false u v q) (markOfRuns-other t rs v u e (eqb-false u v q))
+        by true q = let same : u ≡ v = eqb-true u v q in run-first (e ∙ ap At same) (markOfRuns-first t rs v u e same)
+        by false q = run-later u e (eqb-false u v q) (markOfRuns-other t rs v u e (eqb-false u v q))
 
 pub marks-length : (t : List ℕ) (rs : List Run) → length (marksOf t rs) ≡ nodeCount t
 unfolding marksOf
@@ -128,13 +127,10 @@ module _ {t : List ℕ} (s : SoundFacts t) (rs : List Run) (h : HoldFacts t rs) 
       (markOfRuns-other t rs v (r .first) (runWith-at s rs h v r n (inside-member s v r f i)) other)
 
   member-inRun : (r : Run) (v : ℕ) → Mem r rs → Inside t v r → inRun (marksOf t rs) v ≡ true
-  member-inRun r v n i = go (eqb (r .first) v) refl
-    where
-      go : (b : Bool) → eqb (r .first) v ≡ b → inRun (marksOf t rs) v ≡ true
-      go true q =
-          ap (inRun (marksOf t rs)) (sym (eqb-true (r .first) v q))
-          ∙ inRun-begins (marksOf t rs) (r .first) (first-begins r n)
-      go false q = inRun-continues (marksOf t rs) v (other-continues r v n i (eqb-false (r .first) v q))
+  member-inRun r v n i =
+      ⊎-elim (λ q. rw (← eqb-true (r .first) v q) (inRun-begins (marksOf t rs) (r .first) (first-begins r n)))
+      (λ q. inRun-continues (marksOf t rs) v (other-continues r v n i (eqb-false (r .first) v q)))
+      (bool-cases (eqb (r .first) v))
 
   -- a member that is not the first comes just after a member
   record PrevInRun (r : Run) (v : ℕ) : Type 0 where
@@ -169,13 +165,13 @@ module _ {t : List ℕ} (s : SoundFacts t) (rs : List Run) (h : HoldFacts t rs) 
               (not (eqb (prevAt t v) 0) && inRun (marksOf t rs) (prevAt t v))
               (hasMark (marksOf t rs) stays v || hasMark (marksOf t rs) begins v)
               ≡ true
-          by (leads e k) =
+          by (run-first e k) =
               pick-false (hasMark (marksOf t rs) continues v) _ _ (mark-not v 1 2 low high k (λ z. omega arith))
               ∙ rw (mark-not v 1 0 low high k (λ z. omega arith)) (mark-is v 1 low high k)
-          by (outside e k) =
+          by (run-none e k) =
               pick-false (hasMark (marksOf t rs) continues v) _ _ (mark-not v 0 2 low high k (λ z. omega arith))
               ∙ rw (mark-is v 0 low high k)
-          by (follows u e apart k) =
+          by (run-later u e apart k) =
               let found : FoundRun t rs v u = runWith-found t rs v u e in
               let i : Inside t v (found .run) = member-inside t v (found .run) (found .member) in
               let b : PrevInRun (found .run) v =
@@ -226,9 +222,9 @@ module _ {t : List ℕ} (s : SoundFacts t) (rs : List Run) (h : HoldFacts t rs) 
       is-two = sym (marks-at t rs v a high) ∙ eqb-true (markAt (marksOf t rs) v) 2 e
 
       by : MarkCase t rs v → ⊥
-      by (leads q k) = omega (arith, is-two, k)
-      by (outside q k) = omega (arith, is-two, k)
-      by (follows u q apart k) =
+      by (run-first q k) = omega (arith, is-two, k)
+      by (run-none q k) = omega (arith, is-two, k)
+      by (run-later u q apart k) =
           let found : FoundRun t rs v u = runWith-found t rs v u q in
           let i : Inside t v (found .run) = member-inside t v (found .run) (found .member) in
           let b : PrevInRun (found .run) v =
@@ -270,9 +266,9 @@ module _ {t : List ℕ} (s : SoundFacts t) (rs : List Run) (h : HoldFacts t rs) 
           is-one = sym (marks-at t rs u (c .low) (c .high)) ∙ eqb-true (markAt (marksOf t rs) u) 1 (c .passed)
 
           by : MarkCase t rs u → Mem r rs
-          by (follows w q apart k) = absurd (omega (arith, is-one, k))
-          by (outside q k) = absurd (omega (arith, is-one, k))
-          by (leads q k) =
+          by (run-later w q apart k) = absurd (omega (arith, is-one, k))
+          by (run-none q k) = absurd (omega (arith, is-one, k))
+          by (run-first q k) =
               let found : FoundRun t rs u u = runWith-found t rs u u q in
               let same : r ≡ found .run =
               c .same ∙ ap (planRun t (marksOf t rs)) (sym (found .first)) ∙ run-again (found .run) (found .listed) in
@@ -299,11 +295,11 @@ module _ {t : List ℕ} (s : SoundFacts t) (m : List ℕ) (good : badMark t m �
           markOfRuns-first t (runsOf t m) v v (runWith-goes s m good v v low high q here) refl
           ∙ sym (eqb-true (markAt m v) 1 q)
       go false q true q′ =
-          let d : Headed t m v = headed s m good v low high (inRun-continues m v q′) in
-          let top : d .head ≤ nodeCount t = omega (arith, d .high) in
-          let other : d .head ≡ v → ⊥ = λ e. true≢false (sym (d .mark) ∙ ap (hasMark m begins) e ∙ q) in
-          markOfRuns-other t (runsOf t m) v (d .head)
-          (runWith-goes s m good (d .head) v (d .low) top (d .mark) (d .goes)) other
+          let d : FirstInRun t m v = first-in-run s m good v low high (inRun-continues m v q′) in
+          let top : d .first ≤ nodeCount t = omega (arith, d .high) in
+          let other : d .first ≡ v → ⊥ = λ e. true≢false (sym (d .mark) ∙ ap (hasMark m begins) e ∙ q) in
+          markOfRuns-other t (runsOf t m) v (d .first)
+          (runWith-goes s m good (d .first) v (d .low) top (d .mark) (d .goes)) other
           ∙ sym (eqb-true (markAt m v) 2 q′)
       go false q false q′ =
           markOfRuns-none t (runsOf t m) v (runWith-out s m good v (neither-inRun m v q q′))

@@ -4,16 +4,16 @@
 -- After, LastLink. Assumes nothing.
 use Prim.Native.Nat.{ℕ, zero, suc, _+_, _≤_, _<_}
 use native.Mathlib.Omega.{arith}
-use mathlib.Core.Bool.{Bool, true, false, not, _&&_, _||_}
+use mathlib.Core.Bool.{true, not, _&&_, or-true}
 use mathlib.Core.Path.{_≡_, refl, sym, subst, _∙_}
-use mathlib.Core.Logic.{_⊎_, inl, inr}
+use mathlib.Core.Logic.{_⊎_, inl, inr, ⊎-elim}
 use mathlib.Core.List.{List}
 use lib.Dec.{eqb}
 use borrow.Author.Tests.{eqb-true, eqb-false, eq-eqb, ne-eqb, not-true}
 use Rattle.model.specs.Table.{nodeCount, nextAt}
 use Rattle.model.specs.Plan.{prevAt, parentAt}
 use Rattle.model.specs.Runs.{comesFrom, comesAfter}
-use Rattle.theory.specs.Bools.{both-true}
+use Rattle.theory.specs.Bools.{both-true, either-true}
 use Rattle.theory.specs.TableFacts.{SoundFacts}
 use Rattle.theory.specs.TableLinks.{next-later, next-le, next-one, next-prev, next-parent, prevAt-next}
 
@@ -99,29 +99,20 @@ comesFrom-here (suc f) t u v e = rw (eq-eqb u v e)
 comesFrom-step : (f : ℕ) (t : List ℕ) (u v : ℕ) → 1 ≤ nextAt t u → comesFrom f t (nextAt t u) v ≡ true
     → comesFrom (suc f) t u v ≡ true
 unfolding comesFrom
-comesFrom-step f t u v a e = go (eqb u v)
-  where
-    far : (not (eqb (nextAt t u) 0) && comesFrom f t (nextAt t u) v) ≡ true
-    far = rw (ne-eqb (nextAt t u) 0 (λ z. omega arith)) e
-
-    go : (b : Bool) → (b || (not (eqb (nextAt t u) 0) && comesFrom f t (nextAt t u) v)) ≡ true
-    go true = refl
-    go false = far
+comesFrom-step f t u v a e = rw (ne-eqb (nextAt t u) 0 (λ z. omega arith), e, or-true)
 
 -- where the test passes, v is u or comes after it
 comesFrom-after : (f : ℕ) (t : List ℕ) (u v : ℕ) → comesFrom f t u v ≡ true → After t u v
 unfolding comesFrom
 comesFrom-after zero t u v e = rw (eqb-true u v e) here
-comesFrom-after (suc f) t u v e = go (eqb u v) refl e (comesFrom-after f t (nextAt t u) v)
-  where
-    go : (b : Bool) → eqb u v ≡ b → (b || (not (eqb (nextAt t u) 0) && comesFrom f t (nextAt t u) v)) ≡ true
-        → (comesFrom f t (nextAt t u) v ≡ true → After t (nextAt t u) v) → After t u v
-    go true q h ih = rw (eqb-true u v q) here
-    go false q h ih =
-        let both = both-true (not (eqb (nextAt t u) 0)) (comesFrom f t (nextAt t u) v) h in
-        let other : nextAt t u ≡ 0 → ⊥ = eqb-false (nextAt t u) 0 (not-true (eqb (nextAt t u) 0) (both .0)) in
-        let one : 1 ≤ nextAt t u = omega arith in
-        step one tt (ih (both .1))
+comesFrom-after (suc f) t u v e =
+    ⊎-elim (λ q. rw (eqb-true u v q) here)
+    (λ q.
+    let both = both-true (not (eqb (nextAt t u) 0)) (comesFrom f t (nextAt t u) v) q in
+    let other : nextAt t u ≡ 0 → ⊥ = eqb-false (nextAt t u) 0 (not-true (eqb (nextAt t u) 0) (both .0)) in
+    let one : 1 ≤ nextAt t u = omega arith in
+    step one tt (comesFrom-after f t (nextAt t u) v (both .1)))
+    (either-true (eqb u v) (not (eqb (nextAt t u) 0) && comesFrom f t (nextAt t u) v) e)
 
 pub comesAfter-after : (t : List ℕ) (u v : ℕ) → comesAfter t u v ≡ true → After t u v
 unfolding comesAfter

@@ -14,9 +14,8 @@ use Rattle.model.specs.Basics.{pick, atPlace, firstTo}
 use Rattle.model.specs.Table.{nodeCount, firstAt, nextAt}
 use Rattle.model.specs.Plan.{prevAt, parentAt}
 use Rattle.theory.specs.Bools.{bool-cases, and-true, and-false-left, and-false-right, both-true}
-use Rattle.theory.specs.Ranges.{order-cases, by-earlier, pick-true, pick-false, atPlace-at}
-use Rattle.theory.specs.Ranges.{atPlace-nowhere, firstTo-none}
-use Rattle.theory.specs.Ranges.{firstTo-first}
+use Rattle.theory.specs.Ranges.{order-cases, by-earlier, pick-true, pick-false, atPlace-at, atPlace-nowhere}
+use Rattle.theory.specs.Ranges.{firstTo-none, firstTo-first}
 use Rattle.theory.specs.TableFacts.{SoundFacts}
 use Rattle.theory.specs.SiblingChains.{After, reach-first, reach-prev-one, reach-trans, reach-le}
 use Rattle.theory.specs.TableLinks.{Source, next-le, first-step, first-cases, next-cases, linked, prevAt-less}

@@ -4,7 +4,7 @@ use Prim.Native.Nat.{ℕ, zero, suc, _+_, _*_, _≤_}
 use native.Mathlib.Omega.{arith}
 use mathlib.Core.Bool.{Bool, true, false}
 use mathlib.Core.Path.{_≡_, refl, ap}
-use mathlib.Core.Logic.{_⊎_, inl, inr}
+use mathlib.Core.Logic.{⊎-elim}
 use lib.Dec.{eqb}
 use borrow.Author.Tests.{eq-eqb, ne-eqb}
 use Rattle.model.specs.Basics.{pick, sumTo}
@@ -28,30 +28,26 @@ pick-none false = refl
 -- all but one of the terms are 0
 pub sumTo-only : (n q x : ℕ) → 1 ≤ q → q ≤ n → sumTo n (λ p. pick (eqb q p) x 0) ≡ x
 sumTo-only zero q x low high = absurd (omega arith)
-sumTo-only (suc n) q x low high = go (upto-suc n q high) (sumTo-only n q x low)
-  where
-    step : sumTo (suc n) (λ p. pick (eqb q p) x 0) ≡ sumTo n (λ p. pick (eqb q p) x 0) + pick (eqb q (suc n)) x 0
-    step = sumTo-suc n (λ p. pick (eqb q p) x 0)
-
-    go : (q ≤ n) ⊎ (q ≡ suc n) → (q ≤ n → sumTo n (λ p. pick (eqb q p) x 0) ≡ x)
-        → sumTo (suc n) (λ p. pick (eqb q p) x 0) ≡ x
-    go (inl h) ih = omega (arith, step, ih h, pick-false (eqb q (suc n)) x 0 (ne-eqb q (suc n) (λ e. omega arith)))
-    go (inr e) ih =
-        omega (
-          arith,
-          step,
-          pick-true (eqb q (suc n)) x 0 (eq-eqb q (suc n) e),
-          sumTo-none n (λ p. pick (eqb q p) x 0) (λ p l h. pick-false (eqb q p) x 0 (ne-eqb q p (λ e′. omega arith))),
-        )
+sumTo-only (suc n) q x low high =
+    let more = sumTo-suc n (λ p. pick (eqb q p) x 0) in
+    ⊎-elim
+    (λ h.
+    omega (arith, more, sumTo-only n q x low h, pick-false (eqb q (suc n)) x 0 (ne-eqb q (suc n) (λ e. omega arith))))
+    (λ e.
+    omega (
+      arith,
+      more,
+      pick-true (eqb q (suc n)) x 0 (eq-eqb q (suc n) e),
+      sumTo-none n (λ p. pick (eqb q p) x 0) (λ p l h. pick-false (eqb q p) x 0 (ne-eqb q p (λ e′. omega arith))),
+    ))
+    (upto-suc n q high)
 
 -- one number of a sum
 pub sumTo-one : (n v : ℕ) (f : ℕ → ℕ) → 1 ≤ v → v ≤ n → f v ≤ sumTo n f
 sumTo-one zero v f low high = absurd (omega arith)
-sumTo-one (suc n) v f low high = go (upto-suc n v high) (sumTo-one n v f low)
-  where
-    go : (v ≤ n) ⊎ (v ≡ suc n) → (v ≤ n → f v ≤ sumTo n f) → f v ≤ sumTo (suc n) f
-    go (inl l) ih = omega (arith, ih l, sumTo-suc n f)
-    go (inr e) ih = omega (arith, sumTo-suc n f, ap f e)
+sumTo-one (suc n) v f low high =
+    ⊎-elim (λ l. omega (arith, sumTo-one n v f low l, sumTo-suc n f)) (λ e. omega (arith, sumTo-suc n f, ap f e))
+    (upto-suc n v high)
 
 -- all terms are k at most
 pub sumTo-most : (n k : ℕ) (f : ℕ → ℕ) → Upto n (λ v. f v ≤ k) → sumTo n f ≤ n * k

@@ -14,8 +14,7 @@ use Rattle.model.specs.Table.{nodeCount, firstAt, nextAt, Chain}
 use Rattle.model.specs.Plan.{prevAt, ownerAt, parentFrom, parentAt}
 use Rattle.theory.specs.Bools.{bool-cases}
 use Rattle.theory.specs.Ranges.{Upto, order-cases, by-earlier, steps-enough, pick-true, pick-false, lastTo-zero}
-use Rattle.theory.specs.Ranges.{lastTo-le, lastTo-none, lastTo-only}
-use Rattle.theory.specs.Ranges.{lastTo-at}
+use Rattle.theory.specs.Ranges.{lastTo-le, lastTo-none, lastTo-only, lastTo-at}
 use Rattle.theory.specs.TableFacts.{SoundFacts}
 use Rattle.theory.specs.TableNumbered.{Numbered, none, some, numbered-le, Between, between-join, sound-tree}
 

@@ -5,13 +5,12 @@
 use Prim.Native.Nat.{ℕ, zero, suc, _+_, _*_, _≤_, _<_}
 use native.Mathlib.Omega.{arith}
 use native.Mathlib.Nat.{eq-or-lt-of-le}
-use mathlib.Core.Bool.{Bool, true, false, not, _&&_}
+use mathlib.Core.Bool.{Bool, true, not, _&&_}
 use mathlib.Core.Path.{_≡_, refl, sym, _∙_, ap}
 use mathlib.Core.Logic.{⊎-elim}
 use mathlib.Core.List.{List, [], _∷_}
 use lib.Dec.{eqb, ltb, leb}
 use borrow.Author.Tests.{eqb-true, eq-eqb, lt-ltb, leb-true, leb-false, not-false}
-use Rattle.model.specs.Basics.{pick, when}
 use Rattle.model.specs.Table.{nodeCount, limitOf, weightAt, labelAt, firstAt, nextAt, walkFrom, Chain, end, node}
 use Rattle.model.specs.Table.{chainFrom, treeOf}
 use Rattle.model.specs.declared.Place.{Place}
@@ -69,25 +68,6 @@ numbered-some (some {e₁ = last} {kids = kids} {next = next} k s) low =
 
 -- ---- The walk
 
-walkFrom-end : (f : ℕ) (t : List ℕ) (n met : ℕ) (pending : List ℕ)
-    → walkFrom (suc f) t n met (0 ∷ pending) ≡ walkFrom f t n met pending
-unfolding walkFrom
-walkFrom-end f t n met pending = refl
-
-walkFrom-node : (f : ℕ) (t : List ℕ) (n met v : ℕ) (pending : List ℕ)
-    → walkFrom (suc f) t n met (suc v ∷ pending)
-    ≡ pick (eqb v met && ltb met n) (walkFrom f t n (suc met) (firstAt t (suc v) ∷ nextAt t (suc v) ∷ pending)) (At met)
-unfolding walkFrom
-walkFrom-node f t n met v pending = refl
-
-walkFrom-nil : (f : ℕ) (t : List ℕ) (n met : ℕ) → walkFrom (suc f) t n met [] ≡ when (not (eqb met n)) met
-unfolding walkFrom
-walkFrom-nil f t n met = refl
-
-walkFrom-zero : (t : List ℕ) (n met : ℕ) (pending : List ℕ) → walkFrom zero t n met pending ≡ At met
-unfolding walkFrom
-walkFrom-zero t n met pending = refl
-
 -- the links of a list, one after the other, start chains numbered m + 1 to e
 data Pending (t : List ℕ) : ℕ → List ℕ → ℕ → Type 0 where
   done : {m : ℕ} → Pending t m [] m
@@ -101,30 +81,22 @@ pending-node : {t : List ℕ} {m a b e : ℕ} {vs : List ℕ} → a ≡ firstAt 
 pending-node p q (more k (more s r)) = more (some (rw p at k) (rw q at s)) r
 
 walk-pending : (f : ℕ) (t : List ℕ) (n met : ℕ) (vs : List ℕ) → walkFrom f t n met vs ≡ Nowhere → Pending t met vs n
-walk-pending zero t n met vs e = absurd (at-nowhere met (sym (walkFrom-zero t n met vs) ∙ e))
+unfolding walkFrom
+walk-pending zero t n met vs e = absurd (at-nowhere met e)
 walk-pending (suc f) t n met [] e =
-    pending-end
-    (eqb-true met n
-    (not-false (eqb met n) (when-nowhere (not (eqb met n)) met (sym (walkFrom-nil f t n met) ∙ e))))
-walk-pending (suc f) t n met (zero ∷ vs) e = more none (walk-pending f t n met vs (sym (walkFrom-end f t n met vs) ∙ e))
+    pending-end (eqb-true met n (not-false (eqb met n) (when-nowhere (not (eqb met n)) met e)))
+walk-pending (suc f) t n met (zero ∷ vs) e = more none (walk-pending f t n met vs e)
 walk-pending (suc f) t n met (suc v ∷ vs) e =
-    go (eqb v met && ltb met n) refl (walk-pending f t n (suc met) (firstAt t (suc v) ∷ nextAt t (suc v) ∷ vs))
-  where
-    further : Place
-    further = walkFrom f t n (suc met) (firstAt t (suc v) ∷ nextAt t (suc v) ∷ vs)
-
-    go : (b : Bool) → (eqb v met && ltb met n) ≡ b
-        → (further ≡ Nowhere → Pending t (suc met) (firstAt t (suc v) ∷ nextAt t (suc v) ∷ vs) n)
-        → Pending t met (suc v ∷ vs) n
-    go true q ih =
-        let same : v ≡ met = eqb-true v met (both-true (eqb v met) (ltb met n) q .0) in
-        let rest =
-        ih (sym (pick-true (eqb v met && ltb met n) further (At met) q) ∙ sym (walkFrom-node f t n met v vs) ∙ e) in
-        rw same (pending-node (ap (λ u. firstAt t (suc u)) same) (ap (λ u. nextAt t (suc u)) same) rest)
-    go false q ih =
-        absurd
-        (at-nowhere met
-        (sym (pick-false (eqb v met && ltb met n) further (At met) q) ∙ sym (walkFrom-node f t n met v vs) ∙ e))
+    let test : Bool = eqb v met && ltb met n in
+    let links : List ℕ = firstAt t (suc v) ∷ nextAt t (suc v) ∷ vs in
+    let further : Place = walkFrom f t n (suc met) links in
+    ⊎-elim
+    (λ q.
+    let same : v ≡ met = eqb-true v met (both-true (eqb v met) (ltb met n) q .0) in
+    let rest : Pending t (suc met) links n =
+    walk-pending f t n (suc met) links (sym (pick-true test further (At met) q) ∙ e) in
+    rw same (pending-node (ap (λ u. firstAt t (suc u)) same) (ap (λ u. nextAt t (suc u)) same) rest))
+    (λ q. absurd (at-nowhere met (sym (pick-false test further (At met) q) ∙ e))) (bool-cases test)
 
 pending-one : {t : List ℕ} {m v e : ℕ} → Pending t m (v ∷ []) e → (c : Chain) × Numbered t m v c e
 pending-one (more {c = c} r done) = (c, r)
@@ -138,8 +110,9 @@ walk-numbered f t n met v e = pending-one (walk-pending f t n met (v ∷ []) e)
 walk-over : {t : List ℕ} {m v e : ℕ} {c : Chain} → Numbered t m v c e → (n f g : ℕ) (vs : List ℕ) → e ≤ n
     → g ≡ 2 * size c + suc f
     → walkFrom g t n m (v ∷ vs) ≡ walkFrom f t n e vs
+unfolding walkFrom
 walk-over {t} {m} none n f g vs high q =
-    let same : g ≡ suc f = omega (arith, size-end) in rw same (walkFrom-end f t n m vs)
+    let same : g ≡ suc f = omega (arith, size-end) in rw same
 walk-over {t} (some {m = m} {e₁ = e₁} {e₂ = e₂} {kids = kids} {next = next} k s) n f g vs high q =
     let h : ℕ = 2 * size next + suc f in
     let h′ : ℕ = 2 * size kids + suc h in
@@ -147,41 +120,29 @@ walk-over {t} (some {m = m} {e₁ = e₁} {e₂ = e₂} {kids = kids} {next = ne
     let low : m < n = omega (arith, numbered-le k, numbered-le s) in
     let test : (eqb m m && ltb m n) ≡ true = rw (eq-eqb m m refl, lt-ltb m n low) in
     rw same
-    (walkFrom-node h′ t n m m vs
-    ∙ pick-true (eqb m m && ltb m n) (walkFrom h′ t n (suc m) (firstAt t (suc m) ∷ nextAt t (suc m) ∷ vs)) (At m) test
+    (pick-true (eqb m m && ltb m n) (walkFrom h′ t n (suc m) (firstAt t (suc m) ∷ nextAt t (suc m) ∷ vs)) (At m) test
     ∙ walk-over k n h h′ (nextAt t (suc m) ∷ vs) (omega (arith, numbered-le s)) refl
     ∙ walk-over s n f h vs high refl)
 
 pub numbered-walk : {t : List ℕ} {v n : ℕ} {c : Chain} → Numbered t 0 v c n
     → walkFrom (2 * n + 2) t n 0 (v ∷ []) ≡ Nowhere
+unfolding walkFrom
 numbered-walk {t} {v} {n} {c} r =
     walk-over r n 1 (2 * n + 2) [] (omega arith) (omega (arith, numbered-size r))
-    ∙ walkFrom-nil 0 t n n
     ∙ when-false (not (eqb n n)) n (ap not (eq-eqb n n refl))
 
 -- ---- The tree of the table
 
-chainFrom-none : (f : ℕ) (t : List ℕ) → chainFrom f t 0 ≡ end
-unfolding chainFrom
-chainFrom-none zero t = refl
-chainFrom-none (suc f) t = refl
-
-chainFrom-some : (f : ℕ) (t : List ℕ) (v : ℕ)
-    → chainFrom (suc f) t (suc v)
-    ≡ node (weightAt t (suc v)) (labelAt t (suc v))
-    (chainFrom f t (firstAt t (suc v))) (chainFrom f t (nextAt t (suc v)))
-unfolding chainFrom
-chainFrom-some f t v = refl
-
 pub numbered-chain : {t : List ℕ} {m v e : ℕ} {c : Chain} → Numbered t m v c e → (f : ℕ) → size c ≤ f
     → chainFrom f t v ≡ c
-numbered-chain {t} none f fits = chainFrom-none f t
+unfolding chainFrom
+numbered-chain none zero fits = refl
+numbered-chain none (suc f) fits = refl
 numbered-chain {t} (some {m = m} {kids = kids} {next = next} k s) zero fits =
     absurd (omega (arith, size-node (weightAt t (suc m)) (labelAt t (suc m)) kids next))
 numbered-chain {t} (some {m = m} {kids = kids} {next = next} k s) (suc f) fits =
     let sum = size-node (weightAt t (suc m)) (labelAt t (suc m)) kids next in
-    chainFrom-some f t m
-    ∙ rw (numbered-chain k f (omega (arith, sum)), numbered-chain s f (omega (arith, sum)))
+    rw (numbered-chain k f (omega (arith, sum)), numbered-chain s f (omega (arith, sum)))
 
 pub sound-tree : {t : List ℕ} → SoundFacts t → Numbered t 0 1 (treeOf t) (nodeCount t)
 unfolding treeOf

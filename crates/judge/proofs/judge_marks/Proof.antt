@@ -16,10 +16,20 @@ use borrow.Author.Needs.{needs}
 use Rattle.judge.proofs.judge_marks.Statement.{statement}
 use Rattle.judge.proofs.judge_marks.Tie as tie
 
+-- ---- The places that the needs below go back to
+
+abbrev start : tie.After-lay-pages → tie.Start
+start c = c .before .before .before
+
+abbrev laid : tie.After-limit-of → tie.After-lay-pages
+laid c = c .before .before .before
+
+-- ---- The needs
+
 first-heavy-requires : tie.Need-first-heavy-requires
 first-heavy-requires c κs =
-    let l = c .before .before .before in
-    let e = l .before .before .before in
+    let l = laid c in
+    let e = start l in
     omega (
       arith,
       l .lay-pages .ensures .pages-are,
@@ -30,23 +40,26 @@ first-heavy-requires c κs =
 returns : tie.Need-returns
 unfolding verdictOf
 returns c =
-    let h = c .before .before .before in
-    let l = h .before .before .before .before in
-    let e = l .before .before .before in
-    let laid = l .lay-pages .ensures in
-    let heavy = heavy-is (e .pre) (now (e .args .marks)) (l .lay-pages .result) _ _ laid (h .first-heavy .ensures)
+    let f = c .before in
+    let b = f .before .before in
+    let h = b .before in
+    let l = laid (h .before) in
+    let e = start l in
+    let layout = l .lay-pages .ensures in
+    let heavy = heavy-is (e .pre) (now (e .args .marks)) (l .lay-pages .result) _ _ layout (h .first-heavy .ensures)
     (h .before .limit-of .ensures) in (
       c .give .ensures
           ∙ ap answerOf
-          (c .before .find-verdict .ensures
-          ∙ ap₂ (λ (o : Place) (v : Verdict). atPlace o (λ u. Failed (BadMark u)) v) (laid .bad-is)
+          (f .find-verdict .ensures
+          ∙ ap₂ (λ (o : Place) (v : Verdict). atPlace o (λ u. Failed (BadMark u)) v)
+          (b .place-if .ensures ∙ layout .bad-is)
           (ap₂ (λ (o : Place) (v : Verdict). atPlace o (λ p. Failed (HeavyPage p)) v) heavy
-          (ap₂ (λ (p r : ℕ). Feasible p r) (laid .pages-are) (laid .weights-are 1 (omega arith))))),
-      laid,
+          (ap₂ (λ (p r : ℕ). Feasible p r) (layout .pages-are) (layout .weights-are 1 (omega arith))))),
+      layout,
     )
 
 pub judge-marks-spec : {M : Type 1} → statement M
 judge-marks-spec =
     tie.close
     (tie.spec (λ c κs. search needs) (λ c κs. search needs) first-heavy-requires (λ c. search needs)
-    (λ c κs. search needs) (λ c κs. search needs) returns)
+    (λ c κs. search needs) (λ c. search needs) (λ c κs. search needs) (λ c κs. search needs) returns)

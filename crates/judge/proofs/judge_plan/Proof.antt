@@ -27,7 +27,9 @@ returns c =
     let t = now (e .table) in
     let m = now (e .marks) in
     both t m
-    (j .judge-pages .ensures .0 ∙ ap (λ (a : Answer). andThen a (marksAnswer t m)) (j .before .read-tree .ensures .0) ∙ sym (judge-then t m))
+    (j .judge-pages .ensures .0
+    ∙ ap (λ (a : Answer). andThen a (marksAnswer t m)) (j .before .read-tree .ensures .0)
+    ∙ sym (judge-then t m))
 
 pub judge-plan-spec : {M : Type 1} → statement M
 judge-plan-spec = tie.close (tie.spec (λ c κs. search needs) judge-pages-requires returns)

@@ -2,7 +2,6 @@
 use mathlib.Core.Path.{_≡_, sym, ap, _∙_}
 use mathlib.Core.List.{List}
 use Prim.Native.Nat.{ℕ}
-use denote.Ref.{now}
 use Rattle.model.specs.Table.{limitOf, treeOf}
 use Rattle.model.specs.Steps.{bestMarks, levelMarks}
 use Rattle.planner.specs.declared.Planner.{Planner}
@@ -11,43 +10,37 @@ use borrow.Author.Needs.{needs}
 use Rattle.planner.proofs.lay_steps.Statement.{statement}
 use Rattle.planner.proofs.lay_steps.Tie as tie
 
--- the steps of the planner that was told
-by-steps : (t : List ℕ) {m : List ℕ} {p q : Planner} → p ≡ q → m ≡ stepsOf q (limitOf t) (treeOf t) → m ≡ stepsOf p (limitOf t) (treeOf t)
+-- the steps of the planner that is asked for
+by-steps : (t : List ℕ) {m : List ℕ} {p q : Planner} → p ≡ q → m ≡ stepsOf q (limitOf t) (treeOf t)
+    → m ≡ stepsOf p (limitOf t) (treeOf t)
 by-steps t e h = h ∙ sym (ap (λ (p : Planner). stepsOf p (limitOf t) (treeOf t)) e)
-
-enum-told : tie.Need-enum-told
-enum-told c = search needs
 
 returns : tie.Need-returns
 unfolding bestMarks
 returns c =
     let l = c .before .before .before .before in
-    let e = l .before .before .before in
-    by-steps (now (e .before .before .before .before .before .args .table)) (e .enum-told .given .1) (l .lay-best .ensures)
+    by-steps _ (l .before .before .before .enum-told .given .1) (l .lay-best .ensures)
 
 returns-2 : tie.Need-returns-2
 unfolding levelMarks
 returns-2 c =
     let l = c .before .before .before .before in
-    let e = l .before .before .before in
-    by-steps (now (e .before .before .before .before .before .args .table)) (e .enum-told2 .given .1) (l .lay-best2 .ensures)
+    by-steps _ (l .before .before .before .enum-told2 .given .1) (l .lay-best2 .ensures)
 
 returns-3 : tie.Need-returns-3
 returns-3 c =
     let l = c .before .before .before .before in
-    let e = l .before .before .before in
-    by-steps (now (e .before .before .before .before .before .args .table)) (e .enum-told3 .given .1) (l .lay-single .ensures)
+    by-steps _ (l .before .before .before .enum-told3 .given .1) (l .lay-single .ensures)
 
 returns-4 : tie.Need-returns-4
 returns-4 c =
     let l = c .before .before .before .before in
-    let e = l .before .before .before in
-    by-steps (now (e .before .before .before .before .before .args .table)) (e .enum-told4 .given .1) (l .lay-pair .ensures)
+    by-steps _ (l .before .before .before .enum-told4 .given .1) (l .lay-pair .ensures)
 
 pub lay-steps-spec : {M : Type 1} → statement M
 lay-steps-spec =
     tie.close
-    (tie.spec enum-told (λ c κs. search needs) (λ c. search needs) (λ c κs. search needs) (λ c. search needs)
-    (λ c κs. search needs) (λ c. search needs) (λ c κs. search needs) (λ c. search needs) (λ c. search needs) returns
-    (λ c. search needs) (λ c. search needs) returns-2 (λ c. search needs) (λ c. search needs) returns-3
-    (λ c. search needs) (λ c. search needs) returns-4)
+    (tie.spec (λ c. search needs) (λ c κs. search needs) (λ c. search needs) (λ c κs. search needs)
+    (λ c. search needs) (λ c κs. search needs) (λ c. search needs) (λ c κs. search needs) (λ c. search needs)
+    (λ c. search needs) returns (λ c. search needs) (λ c. search needs) returns-2 (λ c. search needs)
+    (λ c. search needs) returns-3 (λ c. search needs) (λ c. search needs) returns-4)

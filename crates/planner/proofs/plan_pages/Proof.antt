@@ -32,7 +32,7 @@ returns c =
     let e = c .without-layout .ensures in
     let other = c .before .if1 .taken in (
       ap (λ (r : Answer). outcome r (now (a .marks)) (now (a .scratch))) e
-          ∙ plan-refused (now (a .table)) (now (a .marks)) (now (a .scratch)) (k .check-plan .result) (k .check-plan .ensures)
+          ∙ plan-refused (now (a .table)) (now (a .marks)) (now (a .scratch)) _ (k .check-plan .ensures)
           (stepsOf (a .planner)) other,
       λ z. absurd (other (sym (ap (λ (r : Answer). r .number) e) ∙ z)),
     )
@@ -67,7 +67,7 @@ returns-2 c =
     let r = j .result .answer in
     let answer = judge-goes-on t m s (k .check-plan .result) (k .check-plan .ensures) (e .if1 .left) m′ _ r
     (ok .accept .ensures) (j .ensures .0) in (
-      plan-made t m s (k .check-plan .result) (k .check-plan .ensures) (stepsOf (a .planner)) (e .if1 .left) r m′ (x .last .0)
+      plan-made t m s _ (k .check-plan .ensures) (stepsOf (a .planner)) (e .if1 .left) r m′ (x .last .0)
           (l .lay-steps .ensures) (x .ensures ∙ ap (λ (n : ℕ). replicate n 0) (l .lay-steps .kept .1 .1 .1 .0)) answer,
       judged-laid t m′ r (j .result .layout) answer (j .ensures .1),
     )

@@ -15,13 +15,17 @@ returns-2 : tie.Need-returns-2
 unfolding goodCase
 returns-2 c =
     let a = c .before .before .args in
-    sym (pick-false (eqb (a .v) 1) _ _ (ne-eqb _ _ (c .before .if1 .left)) ∙ pick-true (eqb (a .mark) 2) _ _ (eq-eqb _ _ (c .if2 .taken)))
+    sym
+    (pick-false (eqb (a .v) 1) _ _ (ne-eqb _ _ (c .before .if1 .left))
+    ∙ pick-true (eqb (a .mark) 2) _ _ (eq-eqb _ _ (c .if2 .taken)))
 
 returns-3 : tie.Need-returns-3
 unfolding goodCase
 returns-3 c =
     let a = c .before .before .args in
-    sym (pick-false (eqb (a .v) 1) _ _ (ne-eqb _ _ (c .before .if1 .left)) ∙ pick-false (eqb (a .mark) 2) _ _ (ne-eqb _ _ (c .if2 .left)))
+    sym
+    (pick-false (eqb (a .v) 1) _ _ (ne-eqb _ _ (c .before .if1 .left))
+    ∙ pick-false (eqb (a .mark) 2) _ _ (ne-eqb _ _ (c .if2 .left)))
 
 pub is-good-spec : {M : Type 1} → statement M
 is-good-spec = tie.close (tie.spec returns returns-2 returns-3)

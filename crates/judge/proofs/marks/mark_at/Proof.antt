@@ -13,14 +13,17 @@ use Rattle.judge.proofs.marks.mark_at.Tie as tie
 returns : tie.Need-returns
 unfolding markAt
 returns c =
-    let a = c .before .before .before .before .args in
-    ap (λ (k : ℕ). getD (now (a .marks)) k 0) (⊎-elim (λ w. omega arith) (λ w. omega arith) (c .before .before .before .if1 .came))
+    let b = c .before .before .before in
+    ap (λ (k : ℕ). getD (now (b .before .args .marks)) k 0)
+    (⊎-elim (λ w. omega arith) (λ w. omega arith) (b .if1 .came))
 
 returns-2 : tie.Need-returns-2
 unfolding markAt
 returns-2 c =
-    let a = c .before .before .before .args in
-    sym (List·getD-eq-default (now (a .marks)) 0 (c .if2 .left)) ∙ ap (λ (k : ℕ). getD (now (a .marks)) k 0) (⊎-elim (λ w. omega arith) (λ w. omega arith) (c .before .before .if1 .came))
+    let b = c .before .before in
+    let m = now (b .before .args .marks) in
+    sym (List·getD-eq-default m 0 (c .if2 .left))
+    ∙ ap (λ (k : ℕ). getD m k 0) (⊎-elim (λ w. omega arith) (λ w. omega arith) (b .if1 .came))
 
 pub mark-at-spec : {M : Type 1} → statement M
 mark-at-spec = tie.close (tie.spec (λ c. search needs) (λ c. search needs) returns returns-2)

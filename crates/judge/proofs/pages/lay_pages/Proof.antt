@@ -1,73 +1,75 @@
 -- `judge::pages::lay_pages` meets its contract. Assumes nothing.
-use mathlib.Core.Path.{_≡_, refl, ap, _∙_}
+use mathlib.Core.Path.{_≡_}
 use Prim.Native.Nat.{_+_, _-_, _≤_, _<_}
 use native.Mathlib.Omega.{arith}
-use lib.ListN.{length, getD, length-set}
-use Rattle.model.specs.Basics.{atPlace}
-use Rattle.model.specs.Table.{slots}
+use lib.ListN.{getD}
+use Rattle.model.specs.Table.{slots, nodeCount}
 use Rattle.model.specs.Plan.{pageOf}
-use Rattle.model.specs.declared.Place.the-variants.{At}
-use Rattle.judge.proofs.Turns.{LayoutTo, layout-start, u-fits, next-fits, count-fits, home-fits, page-here, page-fits}
-use Rattle.judge.proofs.Turns.{sum-fits, layout-turn, layout-end}
+use Rattle.judge.proofs.Turns.{LayoutTo, layout-start, u-fits, next-fits, count-fits, home-fits, page-here}
+use Rattle.judge.proofs.Turns.{page-fits, weight-fits, layout-turn, layout-end}
 use denote.Ref.{now}
 use borrow.Author.Needs.{needs}
 use Rattle.judge.proofs.pages.lay_pages.Statement.{statement}
 use Rattle.judge.proofs.pages.lay_pages.Tie as tie
 
 abbrev Inv-loop : tie.InvT-loop
-Inv-loop table marks nodes before₀ parents₀ page₀ firsts₀ lasts₀ weights₀ pages₀ bad₀ v₀ before parents page firsts lasts weights
-    pages bad v =
-    (length before ≡ slots) × (length parents ≡ slots) × (length page ≡ slots) × (length firsts ≡ slots) × (length lasts ≡ slots)
-    × (length weights ≡ slots) × (v ≤ nodes) × LayoutTo table marks v before parents page firsts lasts weights pages bad
+Inv-loop table marks nodes before₀ layout₀ v₀ before layout v = (v ≤ nodes) × LayoutTo table marks v before layout
 
 abbrev μ-loop : tie.MeasureT-loop
-μ-loop table marks nodes before₀ parents₀ page₀ firsts₀ lasts₀ weights₀ pages₀ bad₀ v₀ before parents page firsts lasts weights
-    pages bad v =
-    nodes - v
+μ-loop table marks nodes before₀ layout₀ v₀ before layout v = nodes - v
 
 -- ---- The places that the needs below go back to
 
-abbrev start : tie.In-loop Inv-loop μ-loop → tie.Start Inv-loop μ-loop
-start d = d .before .before .before .before .before
+abbrev start : tie.At-loop Inv-loop μ-loop → tie.Start Inv-loop μ-loop
+start l = l .before .before .before .before .before
 
 -- after the node's mark is read
 abbrev marked : tie.After-choose4 Inv-loop μ-loop → tie.After-mark-at Inv-loop μ-loop
-marked c = c .before .before .before .before .before .before .before .before
+marked c = c .before .before .before .before .before .before .before
 
-abbrev laid : tie.After-next-at Inv-loop μ-loop → tie.After-choose4 Inv-loop μ-loop
-laid c = c .before .before .before .before
+-- after its page is found
+abbrev paged : tie.After-choose7 Inv-loop μ-loop → tie.After-choose5 Inv-loop μ-loop
+paged c = c .before .before .before .before
+
+-- the loop's head before this turn
+abbrev head : tie.After-choose5 Inv-loop μ-loop → tie.In-loop Inv-loop μ-loop
+head c = marked (c .before .before) .before
 
 -- ---- The numbers of the turn
 
+-- there is a node for this turn
+less : (d : tie.In-loop Inv-loop μ-loop) → d .before .loop .v < nodeCount (now (start (d .before) .args .table))
+less d = omega arith
+
 -- the sibling before the node of the turn is within the arrays
-prior : (c : tie.After-mark-at Inv-loop μ-loop) → getD (c .before .before .loop .before) (c .before .before .loop .v + 1) 0 < slots
-prior c = u-fits (start (c .before) .pre) (c .before .before .loop .inv .7) (omega arith)
+prior : (d : tie.In-loop Inv-loop μ-loop) → getD (d .before .loop .before) (d .before .loop .v + 1) 0 < slots
+prior d = u-fits (start (d .before) .pre) (d .before .loop .inv .1) (less d)
 
 -- and so is the node one step back of it
-home : (c : tie.After-choose3 Inv-loop μ-loop) → c .choose3 .result < slots
+home : (c : tie.After-choose4 Inv-loop μ-loop) → c .choose4 .result < slots
 home c =
-    let g = c .before .before .before .before .before .before .before in
-    home-fits (start (g .before) .pre) (g .before .before .loop .inv .7) (omega arith) _ _ _ (g .mark-at .ensures)
-    (c .before .before .choose .ensures) (c .choose3 .ensures)
+    let g = marked c in
+    let d = g .before in
+    home-fits (start (d .before) .pre) (d .before .loop .inv .1) (less d) _ _ _ (g .mark-at .ensures)
+    (c .before .before .choose2 .ensures) (c .choose4 .ensures)
 
 -- the page of the node of the turn
-here : (c : tie.After-choose4 Inv-loop μ-loop)
-    → let d = marked c .before in
-    c .choose4 .result ≡ pageOf (now (start d .args .table)) (now (start d .args .marks)) (d .before .loop .v + 1)
+here : (c : tie.After-choose5 Inv-loop μ-loop)
+    → let l = head c .before in
+    c .choose5 .result ≡ pageOf (now (start l .args .table)) (now (start l .args .marks)) (l .loop .v + 1)
 here c =
-    let g = marked c in
-    page-here (start (g .before) .pre) (g .before .before .loop .inv .7) (omega arith) _ _ _ (g .mark-at .ensures)
-    (c .before .before .before .choose .ensures) (c .before .choose3 .ensures) _ _ (c .before .before .choose2 .ensures)
-    (c .choose4 .ensures)
+    let k = c .before .before in
+    let d = head c in
+    page-here (start (d .before) .pre) (d .before .loop .inv .1) (less d) _ _ _ (marked k .mark-at .ensures)
+    (k .before .before .choose2 .ensures) (k .choose4 .ensures) _ _ (k .before .choose3 .ensures) (c .choose5 .ensures)
 
-fits : (c : tie.After-choose4 Inv-loop μ-loop) → c .choose4 .result < slots
-fits c =
-    let d = marked c .before in page-fits (start d .pre) (d .before .loop .inv .7) (omega arith) _ (here c)
+fits : (c : tie.After-choose5 Inv-loop μ-loop) → c .choose5 .result < slots
+fits c = let d = head c in page-fits (start (d .before) .pre) (d .before .loop .inv .1) (less d) _ (here c)
 
 -- ---- The needs
 
 loop-holds : tie.Need-loop-holds Inv-loop μ-loop
-loop-holds c = (refl, refl, refl, refl, refl, refl, omega arith, layout-start _ _)
+loop-holds c = (omega arith, rw (c .no-layout .ensures) (layout-start _ _))
 
 cast-choose : tie.Need-cast-choose Inv-loop μ-loop
 cast-choose c = omega (arith, prior (c .before .before .before .before))
@@ -75,83 +77,79 @@ cast-choose c = omega (arith, prior (c .before .before .before .before))
 mul-choose : tie.Need-mul-choose Inv-loop μ-loop
 mul-choose c = omega (arith, prior (c .before .before .before .before))
 
-array-read-choose : tie.Need-array-read-choose Inv-loop μ-loop
-array-read-choose c = omega (arith, prior (c .before .before .before .before))
+element-copy-out-choose : tie.Need-element-copy-out-choose Inv-loop μ-loop
+element-copy-out-choose c = omega (arith, prior (c .before .before .before .before))
 
 add-choose : tie.Need-add-choose Inv-loop μ-loop
 add-choose c =
     let d = c .before .before .before .before .before .before in
-    omega (arith, count-fits (start d .pre) (d .before .loop .inv .7) (omega arith))
+    omega (arith, count-fits (start (d .before) .pre) (d .before .loop .inv .1) (less d))
 
-array-read-choose-2 : tie.Need-array-read-choose-2 Inv-loop μ-loop
-array-read-choose-2 c = omega (arith, home c)
+element-copy-out-choose-2 : tie.Need-element-copy-out-choose-2 Inv-loop μ-loop
+element-copy-out-choose-2 c = omega (arith, home c)
 
-array-read-choose-3 : tie.Need-array-read-choose-3 Inv-loop μ-loop
-array-read-choose-3 c = omega (arith, fits c)
+element-copy-out-choose-3 : tie.Need-element-copy-out-choose-3 Inv-loop μ-loop
+element-copy-out-choose-3 c = omega (arith, fits c)
 
-array-write-firsts : tie.Need-array-write-firsts Inv-loop μ-loop
-array-write-firsts c = omega (arith, fits (c .before))
+element-write-layout-3 : tie.Need-element-write-layout-3 Inv-loop μ-loop
+element-write-layout-3 c = omega (arith, fits (c .before .before))
 
-array-read-choose-4 : tie.Need-array-read-choose-4 Inv-loop μ-loop
-array-read-choose-4 c = omega (arith, fits (c .before))
+element-copy-out-choose-4 : tie.Need-element-copy-out-choose-4 Inv-loop μ-loop
+element-copy-out-choose-4 c = omega (arith, fits (c .before .before))
 
-array-write-lasts : tie.Need-array-write-lasts Inv-loop μ-loop
-array-write-lasts c = omega (arith, fits (c .before .before))
+element-write-layout-4 : tie.Need-element-write-layout-4 Inv-loop μ-loop
+element-write-layout-4 c = omega (arith, fits (paged c))
 
-array-read-weights : tie.Need-array-read-weights Inv-loop μ-loop
-array-read-weights c = omega (arith, fits (c .before .before))
+element-copy-out-layout : tie.Need-element-copy-out-layout Inv-loop μ-loop
+element-copy-out-layout c = omega (arith, fits (paged c))
 
-add-weights : tie.Need-add-weights Inv-loop μ-loop
-add-weights c =
-    let l = c .before .before .before in
-    let d = marked l .before in
-    omega (arith, sum-fits (start d .pre) (d .before .loop .inv .7) (omega arith) _ (here l), c .weight-at .ok)
+add-layout : tie.Need-add-layout Inv-loop μ-loop
+add-layout c =
+    let k = paged (c .before .before) in
+    let d = head k in
+    omega (arith, weight-fits (start (d .before) .pre) (d .before .loop .inv .1) (less d) _ (here k), c .weight-at .ok)
 
-array-write-weights : tie.Need-array-write-weights Inv-loop μ-loop
-array-write-weights c = omega (arith, fits (c .before .before .before))
+element-write-layout-5 : tie.Need-element-write-layout-5 Inv-loop μ-loop
+element-write-layout-5 c = omega (arith, fits (paged (c .before .before)))
 
 array-write-before : tie.Need-array-write-before Inv-loop μ-loop
 array-write-before c =
-    let d = marked (laid c) .before in
-    omega (arith, c .next-at .ensures, next-fits (start d .pre) (d .before .loop .inv .7) (omega arith))
+    let d = head (paged (c .before .before .before)) in
+    let turn = d .before .loop .inv .1 in
+    omega (arith, c .next-at .ensures, next-fits (start (d .before) .pre) turn (less d), turn .before-long)
 
 loop-again : tie.Need-loop-again Inv-loop μ-loop
 loop-again c =
-    let p = laid c in
-    let g = marked p in
-    let l = g .before .before .loop in
-    let n = p .before .before .before in
-    let long = l .inv in (
-      simp length-set (long .0),
-      simp length-set (long .1),
-      simp length-set (long .2),
-      simp length-set (long .3),
-      simp length-set (long .4),
-      simp length-set (long .5),
+    let w = c .before in
+    let lasts = w .before .before in
+    let p = paged lasts in
+    let k = p .before .before in
+    let parent = k .before .before in
+    let bad = parent .before .before in
+    let g = marked k in
+    let d = g .before in (
       omega arith,
-      layout-turn (start (g .before) .pre) (long .7) (omega arith) _ _ _ _ _ _ _ _ _ _ _ (long .0) (long .1) (long .2) (long .3) (long .4)
-          (long .5) (g .mark-at .ensures) (n .before .before .before .before .mark-at2 .ensures)
-          (n .before .before .before .is-good .ensures)
-          (n .before .first-of .ensures ∙ ap (atPlace (l .bad) At) (n .before .before .place-if .ensures)) (n .choose .ensures)
-          (p .before .before .choose2 .ensures) (here p) (c .before .before .before .choose5 .ensures)
-          (c .before .before .choose6 .ensures) (c .before .weight-at .ensures) (c .next-at .ensures),
+      layout-turn (start (d .before) .pre) (d .before .loop .inv .1) (less d) _ _ _ _ _ _ _ _ _ _ _
+          (g .mark-at .ensures) (bad .before .before .mark-at2 .ensures) (bad .before .is-good .ensures)
+          (bad .choose .ensures) (parent .choose2 .ensures) (k .before .choose3 .ensures) (here p)
+          (lasts .before .before .choose6 .ensures)
+          (lasts .choose7 .ensures) (w .weight-at .ensures) (c .next-at .ensures),
     )
 
 returns : tie.Need-returns Inv-loop μ-loop
-returns c = layout-end (c .before .before .before .before .before .pre) _ (c .before .loop .inv .7) (omega arith) (omega arith)
+returns c = layout-end (start (c .before) .pre) (c .before .loop .inv .1) (omega arith) (omega arith)
 
 pub lay-pages-spec : {M : Type 1} → statement M
 lay-pages-spec =
     tie.close
-    (tie.spec Inv-loop μ-loop (λ c κs. search needs) loop-holds (λ c. search needs) (λ c. search needs)
-    (λ c κs. search needs) (λ c. search needs) (λ c. search needs) (λ c κs. search needs) (λ c κs. search needs)
-    (λ c. search needs) (λ c κs. search needs) (λ c κs. search needs) (λ c. search needs) cast-choose mul-choose
-    array-read-choose (λ c κs. search needs) (λ c. search needs) (λ c. search needs) add-choose
-    (λ c κs. search needs) (λ c κs. search needs) (λ c. search needs) (λ c. search needs) array-read-choose-2
-    (λ c κs. search needs) (λ c. search needs) (λ c. search needs) (λ c. search needs)
-    (λ c. search needs) array-read-choose-3 (λ c κs. search needs) (λ c. search needs) array-write-firsts
-    (λ c. search needs) array-read-choose-4 (λ c κs. search needs) (λ c. search needs) array-write-lasts
-    (λ c. search needs) array-read-weights (λ c κs. search needs) (λ c. search needs) add-weights
-    (λ c. search needs) array-write-weights
+    (tie.spec Inv-loop μ-loop (λ c κs. search needs) (λ c κs. search needs) loop-holds (λ c. search needs)
+    (λ c. search needs) (λ c κs. search needs) (λ c. search needs) (λ c. search needs) (λ c κs. search needs)
+    (λ c κs. search needs) (λ c κs. search needs) (λ c. search needs) cast-choose mul-choose element-copy-out-choose
+    (λ c κs. search needs) (λ c. search needs) (λ c. search needs) add-choose (λ c κs. search needs)
+    (λ c κs. search needs) (λ c. search needs) (λ c. search needs) element-copy-out-choose-2 (λ c κs. search needs)
+    (λ c. search needs) (λ c. search needs) (λ c. search needs) (λ c. search needs) element-copy-out-choose-3
+    (λ c κs. search needs) (λ c. search needs) element-write-layout-3 (λ c. search needs) element-copy-out-choose-4
+    (λ c κs. search needs) (λ c. search needs) element-write-layout-4 (λ c. search needs) element-copy-out-layout
+    (λ c κs. search needs) (λ c. search needs) add-layout (λ c. search needs) element-write-layout-5
     (λ c κs. search needs) (λ c. search needs) (λ c. search needs) array-write-before (λ c. search needs) loop-again
     returns)

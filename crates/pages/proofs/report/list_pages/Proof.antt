@@ -1,52 +1,50 @@
 -- `pages::report::list_pages` meets its contract. Assumes nothing.
-use mathlib.Core.Path.{_≡_, _∙_}
+use mathlib.Core.Path.{_≡_, refl, _∙_}
 use Prim.Native.Nat.{_-_, _≤_}
 use native.Mathlib.Omega.{arith}
 use lib.ListN.{length}
-use Rattle.model.specs.Archive.{pagesIn}
-use Rattle.archive.specs.Size.{archiveNodes}
+use Rattle.model.specs.Table.{maxNodes}
 use Rattle.pages.specs.Appended.{reportBytes}
+use Rattle.pages.specs.Listing.{lineOf}
 use Rattle.pages.proofs.Listed.{Listed, listed-start, listed-turn, listed-end}
 use borrow.Author.Needs.{needs}
 use Rattle.pages.proofs.report.list_pages.Statement.{statement}
 use Rattle.pages.proofs.report.list_pages.Tie as tie
 
 abbrev Inv-loop : tie.InvT-loop
-Inv-loop archive out₀ pages root limit at₀ p₀ out at p =
-    (pages ≡ pagesIn archive) × (pages ≤ archiveNodes) × (reportBytes ≤ length out₀) × Listed archive out₀ p at out
+Inv-loop limit out₀ layout pages root at₀ p₀ out at p =
+    (pages ≡ layout .pages) × (pages ≤ maxNodes) × (reportBytes ≤ length out₀) × Listed layout limit out₀ p at out
 
 abbrev μ-loop : tie.MeasureT-loop
-μ-loop archive out₀ pages root limit at₀ p₀ out at p = pages - p
+μ-loop limit out₀ layout pages root at₀ p₀ out at p = pages - p
 
 loop-holds : tie.Need-loop-holds Inv-loop μ-loop
 loop-holds c =
     let h = c .before .before in
-    let l = h .before .before in
-    let s = l .before .before .before .before .before in
-    let count = l .before .before .pages-in .ensures in (
-      count,
-      omega (arith, count, s .pre .0),
+    let s = h .before .before .before .before in (
+      refl,
+      s .pre .0,
       omega (arith, s .pre .1, h .head-line .kept .0),
-      listed-start (s .args .archive .now) count (l .before .page-field .ensures) (l .limit-of .ensures) (h .head-line .ensures .0) (h .head-line .ensures .1),
+      listed-start _ _ (h .head-line .ensures .0) (h .head-line .ensures .1),
     )
 
 page-line-requires : tie.Need-page-line-requires Inv-loop μ-loop
 page-line-requires c κs =
-    let g = c .before .before .before .before .before .loop in
-    omega (arith, g .inv .3 .room, g .inv .3 .long, g .inv .2, g .inv .1, c .before .before .before .before .loop-test .taken)
+    let d = c .before .before .before .before in
+    let g = d .before .loop in
+    omega (arith, g .inv .3 .room, g .inv .3 .long, g .inv .2, g .inv .1, d .loop-test .taken)
 
 loop-again : tie.Need-loop-again Inv-loop μ-loop
+unfolding lineOf
 loop-again c =
     let w = c .before .before in
-    let e = w .before .before in
-    let i = e .before .before .before in
-    let g = i .before .loop in
-    let less = i .loop-test .taken in (
+    let d = w .before .before .before .before .before in
+    let g = d .before .loop in (
       g .inv .0,
       g .inv .1,
       g .inv .2,
-      listed-turn _ (g .inv .3) (omega (arith, g .inv .0)) (e .before .before .page-field2 .ensures) (e .before .page-field3 .ensures) (e .page-field4 .ensures)
-          (w .page-line .ensures .0) (w .page-line .ensures .1) (w .page-line .kept .0),
+      listed-turn _ _ (g .inv .3) (omega (arith, g .inv .0, d .loop-test .taken)) (w .page-line .ensures .0)
+          (w .page-line .ensures .1) (w .page-line .kept .0),
     )
 
 same-length : tie.Need-same-length Inv-loop μ-loop
@@ -58,14 +56,14 @@ same-length c =
 returns : tie.Need-returns Inv-loop μ-loop
 returns c =
     let g = c .before .loop in (
-      listed-end _ (g .inv .3) (omega (arith, g .inv .0, c .loop-test .left)),
+      listed-end _ _ (g .inv .3) (omega (arith, g .inv .0, c .loop-test .left)),
       omega (arith, g .inv .3 .room, g .inv .3 .high, g .inv .0, g .inv .1),
     )
 
 pub list-pages-spec : {M : Type 1} → statement M
 list-pages-spec =
     tie.close
-    (tie.spec Inv-loop μ-loop (λ c κs. search needs) (λ c κs. search needs) (λ c κs. search needs)
-    (λ c. search needs) (λ c. search needs) (λ c. search needs) (λ c κs. search needs) loop-holds (λ c. search needs)
-    (λ c κs. search needs) (λ c κs. search needs) (λ c κs. search needs) (λ c. search needs) (λ c. search needs)
-    (λ c. search needs) (λ c. search needs) page-line-requires (λ c. search needs) loop-again same-length returns)
+    (tie.spec Inv-loop μ-loop (λ c. search needs) (λ c. search needs) (λ c κs. search needs) loop-holds
+    (λ c. search needs) (λ c. search needs) (λ c. search needs) (λ c. search needs) (λ c. search needs)
+    (λ c. search needs) (λ c. search needs) (λ c. search needs) page-line-requires (λ c. search needs) loop-again
+    same-length returns)

@@ -12,9 +12,16 @@ returns c =
     let t = c .before .before in
     let c = t .before .before .before .before .before in
     let b = c .before .before .before .before .before in
-    let a = b .before .before .before .before .before in (
-      appended-then (appended-then (appended-then (a .put-item .ensures .0) (b .put-item2 .ensures .0)) (c .put-item3 .ensures .0)) (t .put-text .ensures),
-      omega (arith, t .put-text .ensures .place, a .put-item .ensures .1, b .put-item2 .ensures .1, c .put-item3 .ensures .1),
+    let a = b .before .before .before .before .before in
+    let two = appended-then (a .put-item .ensures .0) (b .put-item2 .ensures .0) in (
+      appended-then (appended-then two (c .put-item3 .ensures .0)) (t .put-text .ensures),
+      omega (
+        arith,
+        t .put-text .ensures .place,
+        a .put-item .ensures .1,
+        b .put-item2 .ensures .1,
+        c .put-item3 .ensures .1,
+      ),
     )
 
 pub head-line-spec : {M : Type 1} → statement M

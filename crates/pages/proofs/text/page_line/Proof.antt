@@ -13,9 +13,18 @@ returns c =
     let d = t .before .before .before .before .before in
     let c = d .before .before .before .before .before in
     let b = c .before .before .before .before .before in
-    let a = b .before .before .before .before .before in (
-      appended-then (appended-then (appended-then (appended-then (a .put-item .ensures .0) (b .put-item2 .ensures .0)) (c .put-item3 .ensures .0)) (d .put-item4 .ensures .0)) (t .put-text .ensures),
-      omega (arith, t .put-text .ensures .place, a .put-item .ensures .1, b .put-item2 .ensures .1, c .put-item3 .ensures .1, d .put-item4 .ensures .1),
+    let a = b .before .before .before .before .before in
+    let two = appended-then (a .put-item .ensures .0) (b .put-item2 .ensures .0) in
+    let four = appended-then (appended-then two (c .put-item3 .ensures .0)) (d .put-item4 .ensures .0) in (
+      appended-then four (t .put-text .ensures),
+      omega (
+        arith,
+        t .put-text .ensures .place,
+        a .put-item .ensures .1,
+        b .put-item2 .ensures .1,
+        c .put-item3 .ensures .1,
+        d .put-item4 .ensures .1,
+      ),
     )
 
 pub page-line-spec : {M : Type 1} → statement M

@@ -32,7 +32,8 @@ loop-again c =
     let text = s .args .text .now in (
       omega arith,
       simp length-set (l .inv .1),
-      ap (λ o. set o (s .args .at + l .i) (getD text (l .i) 0)) (l .inv .2) ∙ text-turn (s .args .out .now) text (s .args .at) (s .pre) (l .i) less,
+      ap (λ o. set o (s .args .at + l .i) (getD text (l .i) 0)) (l .inv .2)
+          ∙ text-turn (s .args .out .now) text (s .args .at) (s .pre) (l .i) less,
     )
 
 same-length : tie.Need-same-length Inv-loop μ-loop
@@ -42,7 +43,8 @@ returns : tie.Need-returns Inv-loop μ-loop
 returns c =
     let s = c .before .before in
     let l = c .before .loop in
-    rw (l .inv .2) (text-end (s .args .out .now) (s .args .text .now) (s .args .at) (s .pre) (l .i) (l .inv .0) (c .loop-test .left))
+    rw (l .inv .2)
+    (text-end (s .args .out .now) (s .args .text .now) (s .args .at) (s .pre) (l .i) (l .inv .0) (c .loop-test .left))
 
 pub put-text-spec : {M : Type 1} → statement M
 put-text-spec =

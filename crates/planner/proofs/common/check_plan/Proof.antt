@@ -17,25 +17,38 @@ use borrow.Author.Needs.{needs}
 use Rattle.planner.proofs.common.check_plan.Statement.{statement}
 use Rattle.planner.proofs.common.check_plan.Tie as tie
 
--- the number that the tree's checks gave
-number-is : (c : tie.Else1) → c .before .before .read-tree .result .number ≡ readTree (now (c .before .before .before .before .before .before .args .table)) .number
-number-is c = ap (λ (a : Answer). a .number) (c .before .before .read-tree .ensures .0)
+-- ---- The places that the needs below go back to
+
+abbrev start : tie.After-read-tree → tie.Start
+start c = c .before .before .before .before
+
+abbrev read : tie.Else1 → tie.After-read-tree
+read c = c .before .before
+
+-- ---- The needs
+
+-- the tree is accepted
+zero : (c : tie.Else1) → readTree (now (start (read c) .args .table)) .number ≡ 0
+zero c = sym (ap (λ (a : Answer). a .number) (read c .read-tree .ensures .0)) ∙ c .if1 .left
 
 -- the number of words, where the tree is accepted
-words-small : (c : tie.After-limit-of) → scratchWords (c .before .node-count .result) (c .limit-of .result) ≤ scratchWords maxNodes maxLimit
+words-small : (c : tie.After-limit-of)
+    → scratchWords (c .before .node-count .result) (c .limit-of .result) ≤ scratchWords maxNodes maxLimit
 words-small c =
-    let e = c .before .before in
-    let b = e .before .before .before .before .before .before in
-    let a = tree-facts (now (b .args .table)) (sym (number-is e) ∙ e .if1 .left) in
-    words-fit (c .before .node-count .result) (c .limit-of .result)
-    (omega (arith, c .before .node-count .ensures, a .sound .count-high)) (omega (arith, c .limit-of .ensures, a .sound .limit-high))
+    let n = c .before in
+    let a = tree-facts _ (zero (n .before)) in
+    words-fit (n .node-count .result) (c .limit-of .result)
+    (omega (arith, n .node-count .ensures, a .sound .count-high))
+    (omega (arith, c .limit-of .ensures, a .sound .limit-high))
 
 returns : tie.Need-returns
 returns c =
-    let x = c .before .before .read-tree in
-    let b = c .before .before .before .before .before .before in
-    x .ensures .0 ∙ tree-refuses (now (b .args .table)) (now (b .args .marks)) (now (b .args .scratch))
-    (λ e. c .if1 .taken (ap (λ (a : Answer). a .number) (x .ensures .0) ∙ e))
+    let r = c .before .before in
+    let a = start r .args in
+    let e = r .read-tree .ensures .0 in
+    e
+    ∙ tree-refuses (now (a .table)) (now (a .marks)) (now (a .scratch))
+    (λ z. c .if1 .taken (ap (λ (a : Answer). a .number) e ∙ z))
 
 mul-words-2 : tie.Need-mul-words-2
 mul-words-2 c = record { fits = omega (arith, words-small c) }
@@ -49,10 +62,10 @@ returns-2 c =
     let l = c .before .before .before .before .before in
     let n = l .before in
     let e = n .before in
-    let b = e .before .before .before .before .before .before in
-    let t = now (b .args .table) in
-    let m = now (b .args .marks) in
-    let s = now (b .args .scratch) in
+    let a = start (read e) .args in
+    let t = now (a .table) in
+    let m = now (a .marks) in
+    let s = now (a .scratch) in
     let q = n .node-count .ensures in
     let w : 4 * n .node-count .result * (l .limit-of .result + 3) ≡ scratchWords (nodeCount t) (limitOf t) =
     ap₂ (λ (x y : ℕ). 4 * x * (y + 3)) q (l .limit-of .ensures) in
@@ -61,7 +74,7 @@ returns-2 c =
     (firstOf-cons _ _ _ _ _ _ (c .before .earlier .ensures)
     (c .before .before .before .before .place-if .ensures ∙ ap (λ (k : ℕ). when (ltb (length s) k) k) w)
     (firstOf-none _ _ (c .before .before .accept .ensures)))
-    ∙ tree-goes-on t m s (sym (number-is e) ∙ e .if1 .left)
+    ∙ tree-goes-on t m s (zero e)
 
 pub check-plan-spec : {M : Type 1} → statement M
 check-plan-spec =

@@ -12,10 +12,13 @@ use Rattle.planner.proofs.common.clear.Statement.{statement}
 use Rattle.planner.proofs.common.clear.Tie as tie
 
 fill-all : (n : ℕ) (d : List ℕ) → n ≡ length d → replicate n 0 ++ drop n d ≡ replicate (length d) 0
-fill-all n d e = rw e (ap (λ (l : List ℕ). replicate (length d) 0 ++ l) (drop-length d) ∙ append-nil (replicate (length d) 0))
+fill-all n d e =
+    rw e
+    (ap (λ (l : List ℕ). replicate (length d) 0 ++ l) (drop-length d) ∙ append-nil (replicate (length d) 0))
 
 abbrev Inv-loop : tie.InvT-loop
-Inv-loop scratch₀ i₀ scratch i = (length scratch ≡ length scratch₀) × (i ≤ length scratch₀) × (scratch ≡ replicate i 0 ++ drop i scratch₀)
+Inv-loop scratch₀ i₀ scratch i =
+    (length scratch ≡ length scratch₀) × (i ≤ length scratch₀) × (scratch ≡ replicate i 0 ++ drop i scratch₀)
 
 abbrev μ-loop : tie.MeasureT-loop
 μ-loop scratch₀ i₀ scratch i = length scratch₀ - i
@@ -25,8 +28,12 @@ loop-holds c = (search needs, search needs, fill-none _ 0)
 
 loop-again : tie.Need-loop-again Inv-loop μ-loop
 loop-again c =
-    let l = c .before .loop in
-    (simp length-set (l .inv .0), search needs, ap (λ (d : List ℕ). set d (l .i) 0) (l .inv .2) ∙ fill-more (l .i) 0 (now (c .before .before .args .scratch)) (omega arith))
+    let l = c .before .loop in (
+      simp length-set (l .inv .0),
+      search needs,
+      ap (λ (d : List ℕ). set d (l .i) 0) (l .inv .2)
+          ∙ fill-more (l .i) 0 (now (c .before .before .args .scratch)) (omega arith),
+    )
 
 returns : tie.Need-returns Inv-loop μ-loop
 returns c =

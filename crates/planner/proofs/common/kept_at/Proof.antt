@@ -2,7 +2,7 @@
 use mathlib.Core.Path.{_≡_, sym, ap, _∙_}
 use native.Mathlib.Omega.{arith}
 use denote.Ref.{now}
-use Rattle.planner.specs.Nodes.{kept, kept-none, kept-some}
+use Rattle.planner.specs.Kept.{kept, kept-none, kept-some}
 use borrow.Author.Needs.{needs}
 use Rattle.planner.proofs.common.kept_at.Statement.{statement}
 use Rattle.planner.proofs.common.kept_at.Tie as tie

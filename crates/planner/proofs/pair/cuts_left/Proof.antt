@@ -1,5 +1,5 @@
 -- `planner::pair::cuts_left` meets its contract. Assumes nothing.
-use Rattle.planner.specs.Sides.{leftCut}
+use Rattle.planner.specs.PairSides.{leftCut}
 use borrow.Author.Needs.{needs}
 use Rattle.planner.proofs.pair.cuts_left.Statement.{statement}
 use Rattle.planner.proofs.pair.cuts_left.Tie as tie

@@ -1,5 +1,5 @@
 -- `planner::pair::cuts_right` meets its contract. Assumes nothing.
-use Rattle.planner.specs.Sides.{rightCut}
+use Rattle.planner.specs.PairSides.{rightCut}
 use borrow.Author.Needs.{needs}
 use Rattle.planner.proofs.pair.cuts_right.Statement.{statement}
 use Rattle.planner.proofs.pair.cuts_right.Tie as tie

@@ -6,23 +6,33 @@ use Prim.Native.Nat.{ℕ}
 use native.Mathlib.Omega.{arith}
 use denote.Ref.{now}
 use Rattle.model.specs.Basics.{pick}
-use Rattle.planner.specs.Nodes.{kept-some}
-use Rattle.planner.specs.Pair.{put, uncutAfter}
+use Rattle.planner.specs.Kept.{kept-some}
+use Rattle.planner.specs.PairMarks.{put, uncutAfter}
 use Rattle.planner.proofs.TwoWay.{first-node, next-node, first-is, next-is, below-is}
 use borrow.Author.Needs.{needs}
 use Rattle.planner.proofs.pair.lay_below.Statement.{statement}
 use Rattle.planner.proofs.pair.lay_below.Tie as tie
 
+-- ---- The places that the needs below go back to
+
+-- after the sides are read
+abbrev sided : tie.After-first-at → tie.After-sides-at
+sided f = f .before .before .before .before .before .before .before .before
+
+abbrev start : tie.After-sides-at → tie.Start
+start s = s .before .before .before .before
+
+-- ---- The needs
+
 put-mark-requires : tie.Need-put-mark-requires
 put-mark-requires c κs =
-    let b = c .before .before .before .before .before .before .before .before .before .before .before .before in
-    omega (arith, first-node (b .pre .0) (c .first-at .result) (c .first-at .ensures), b .pre .1)
+    let b = start (sided c) in omega (arith, first-node (b .pre .0) _ (c .first-at .ensures), b .pre .1)
 
 put-mark-requires-2 : tie.Need-put-mark-requires-2
 put-mark-requires-2 c κs =
     let p1 = c .before .before .before .before in
-    let b = p1 .before .before .before .before .before .before .before .before .before .before .before .before .before in
-    omega (arith, next-node (b .pre .0) (c .next-at .result) (c .next-at .ensures), p1 .put-mark .kept .0, b .pre .1)
+    let b = start (sided (p1 .before)) in
+    omega (arith, next-node (b .pre .0) _ (c .next-at .ensures), p1 .put-mark .kept .0, b .pre .1)
 
 returns : tie.Need-returns
 returns c =
@@ -35,14 +45,14 @@ returns c =
     let x2 = u .before .before in
     let m1 = x2 .before in
     let x1 = m1 .before in
-    let s = x1 .before in
-    let b = s .before .before .before .before in
+    let s = sided f in
+    let b = start s in
     let a = now (b .args .marks) in
     p2 .put-mark2 .ensures
     ∙ ap (λ (l : List ℕ). put l (n .next-at .result) (m2 .mark-of2 .result)) (p1 .put-mark .ensures)
-    ∙ below-is (now (b .args .table)) a (b .args .v) (f .first-at .result) (n .next-at .result) (m1 .mark-of .result) (m2 .mark-of2 .result)
-    (f .first-at .ensures) (n .next-at .ensures)
-    (m1 .mark-of .ensures ∙ ap (λ (o : Bool). pick o 1 0) (x1 .cuts-left .ensures ∙ first-is (b .pre .0) (s .sides-at .ensures)))
+    ∙ below-is (now (b .args .table)) a (b .args .v) _ _ _ _ (f .first-at .ensures) (n .next-at .ensures)
+    (m1 .mark-of .ensures
+    ∙ ap (λ (o : Bool). pick o 1 0) (x1 .cuts-left .ensures ∙ first-is (b .pre .0) (s .sides-at .ensures)))
     (m2 .mark-of2 .ensures
     ∙ ap₂ (λ (o : Bool) (k : ℕ). pick o 1 k) (x2 .cuts-right .ensures ∙ next-is (b .pre .0) (s .sides-at .ensures))
     (u .uncut-after .ensures ∙ ap uncutAfter (kept-some a (b .args .v) (b .pre .0 .low))))

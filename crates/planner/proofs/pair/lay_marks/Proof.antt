@@ -4,14 +4,15 @@ use Prim.Native.Nat.{_+_, _-_, _≤_}
 use native.Mathlib.Omega.{arith}
 use denote.Ref.{now}
 use Rattle.model.specs.Table.{nodeCount}
-use Rattle.planner.specs.Pair.{pair-plan}
-use Rattle.planner.proofs.TwoWay.{Given, given-start, given-step, rests-after}
+use Rattle.planner.specs.PairMarks.{pair-plan}
+use Rattle.planner.proofs.TwoWay.{LinksMarked, links-start, links-step, rests-after}
 use borrow.Author.Needs.{needs}
 use Rattle.planner.proofs.pair.lay_marks.Statement.{statement}
 use Rattle.planner.proofs.pair.lay_marks.Tie as tie
 
 abbrev Inv-loop : tie.InvT-loop
-Inv-loop table marks₀ scratch nodes v₀ marks v = (v ≤ nodeCount table) × (nodes ≡ nodeCount table) × Given table marks v
+Inv-loop table marks₀ scratch nodes v₀ marks v =
+    (v ≤ nodeCount table) × (nodes ≡ nodeCount table) × LinksMarked table marks v
 
 abbrev μ-loop : tie.MeasureT-loop
 μ-loop table marks₀ scratch nodes v₀ marks v = nodes - v
@@ -23,14 +24,19 @@ slice-write-marks c =
 
 loop-holds : tie.Need-loop-holds Inv-loop μ-loop
 loop-holds c =
-    let b = c .before .before .before .before in
-    (omega arith, c .node-count .ensures, given-start (now (b .args .table)) (now (b .args .marks)) (b .pre .1) (b .pre .0 .tree .sound .count-low))
+    let b = c .before .before .before .before in (
+      omega arith,
+      c .node-count .ensures,
+      links-start (now (b .args .table)) (now (b .args .marks)) (b .pre .1) (b .pre .0 .tree .sound .count-low),
+    )
 
 lay-below-requires : tie.Need-lay-below-requires Inv-loop μ-loop
 lay-below-requires c κs =
     let l = c .before .before .loop in
-    let b = c .before .before .before .before .before .before .before in
-    (rests-after (l .v + 1) (b .pre .0) (omega arith) (omega (arith, c .before .loop-test .taken, l .inv .1)), l .inv .2 .long)
+    let b = c .before .before .before .before .before .before .before in (
+      rests-after (l .v + 1) (b .pre .0) (omega arith) (omega (arith, c .before .loop-test .taken, l .inv .1)),
+      l .inv .2 .long,
+    )
 
 loop-again : tie.Need-loop-again Inv-loop μ-loop
 loop-again c =
@@ -39,7 +45,7 @@ loop-again c =
     let l = t .before .loop in
     let b = t .before .before .before .before .before .before in
     let high : l .v + 1 ≤ nodeCount (now (b .args .table)) = omega (arith, t .loop-test .taken, l .inv .1) in
-    (high, l .inv .1, given-step _ (b .pre .0 .tree .sound) (l .inv .2) high (x .ensures))
+    (high, l .inv .1, links-step _ (b .pre .0 .tree .sound) (l .inv .2) high (x .ensures))
 
 same-length : tie.Need-same-length Inv-loop μ-loop
 same-length c = c .before .loop .inv .2 .long ∙ sym (c .before .before .before .before .before .before .pre .1)
@@ -49,7 +55,8 @@ returns c =
     let l = c .before .loop in
     let b = c .before .before .before .before .before .before in
     let all : nodeCount (now (b .args .table)) ≤ l .v = omega (arith, c .loop-test .left, l .inv .1) in
-    pair-plan (l .marks) (b .pre .0 .tree .sound) (l .inv .2 .long) (l .inv .2 .root) (λ u low high. l .inv .2 .links u low (omega arith))
+    pair-plan (l .marks) (b .pre .0 .tree .sound) (l .inv .2 .long) (l .inv .2 .root)
+    (λ u low high. l .inv .2 .links u low (omega arith))
 
 pub lay-marks-spec : {M : Type 1} → statement M
 lay-marks-spec =

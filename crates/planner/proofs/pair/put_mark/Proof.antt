@@ -3,7 +3,7 @@ use mathlib.Core.Path.{_≡_, sym, ap, _∙_}
 use Prim.Native.Nat.{ℕ}
 use native.Mathlib.Omega.{arith}
 use denote.Ref.{now}
-use Rattle.planner.specs.Pair.{put, put-none, put-some}
+use Rattle.planner.specs.PairMarks.{put, put-none, put-some}
 use borrow.Author.Needs.{needs}
 use Rattle.planner.proofs.pair.put_mark.Statement.{statement}
 use Rattle.planner.proofs.pair.put_mark.Tie as tie

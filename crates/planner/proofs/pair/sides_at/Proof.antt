@@ -1,17 +1,17 @@
 -- `planner::pair::sides_at` meets its contract. Assumes nothing.
 use native.Mathlib.Omega.{arith}
-use Rattle.planner.proofs.TwoWay.{first-word, next-word, first-rest, next-rest, sides-fit}
+use Rattle.planner.proofs.TwoWay.{first-in-scratch, next-in-scratch, first-rest, next-rest, sides-fit}
 use borrow.Author.Needs.{needs}
 use Rattle.planner.proofs.pair.sides_at.Statement.{statement}
 use Rattle.planner.proofs.pair.sides_at.Tie as tie
 
 kept-at-requires : tie.Need-kept-at-requires
 kept-at-requires c κs =
-    first-word (c .before .before .before .before .before .pre) (c .first-at .result) (c .first-at .ensures)
+    first-in-scratch (c .before .before .before .before .before .pre) _ (c .first-at .ensures)
 
 kept-at-requires-2 : tie.Need-kept-at-requires-2
 kept-at-requires-2 c κs =
-    next-word (c .before .before .before .before .before .before .before .pre) (c .next-at .result) (c .next-at .ensures)
+    next-in-scratch (c .before .before .before .before .before .before .before .pre) _ (c .next-at .ensures)
 
 returns : tie.Need-returns
 returns c =
@@ -20,8 +20,8 @@ returns c =
     let f = k .before in
     let w = f .before in
     let b = w .before .before .before .before in
-    let l = first-rest (b .pre) (f .first-at .result) (k .kept-at .result) (f .first-at .ensures) (k .kept-at .ensures) in
-    let r = next-rest (b .pre) (n .next-at .result) (c .kept-at2 .result) (n .next-at .ensures) (c .kept-at2 .ensures) in
+    let l = first-rest (b .pre) _ _ (f .first-at .ensures) (k .kept-at .ensures) in
+    let r = next-rest (b .pre) _ _ (n .next-at .ensures) (c .kept-at2 .ensures) in
     record {
       limit = w .before .limit-of .ensures;
       weight = w .weight-at .ensures;

@@ -1,7 +1,7 @@
 -- `planner::pair::uncut_after` meets its contract. Assumes nothing.
 use borrow.Author.Tests.{eq-eqb, ne-eqb}
 use Rattle.model.specs.Basics.{pick}
-use Rattle.planner.specs.Pair.{uncutAfter}
+use Rattle.planner.specs.PairMarks.{uncutAfter}
 use Rattle.planner.proofs.pair.uncut_after.Statement.{statement}
 use Rattle.planner.proofs.pair.uncut_after.Tie as tie
 

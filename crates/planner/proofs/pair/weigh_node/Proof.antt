@@ -1,29 +1,45 @@
 -- `planner::pair::weigh_node` meets its contract. Assumes nothing.
 use mathlib.Core.Path.{_≡_}
-use Prim.Native.Nat.{_+_, _*_, _≤_}
+use Prim.Native.Nat.{ℕ, _+_, _*_, _≤_}
 use native.Mathlib.Omega.{arith}
 use denote.Ref.{now}
 use Rattle.model.specs.Table.{maxLimit}
-use Rattle.planner.specs.Pair.{remainderAt}
+use Rattle.planner.specs.PairMarks.{remainderAt}
 use Rattle.planner.proofs.TwoWay.{weighs, weighs-fit}
 use borrow.Author.Needs.{needs}
 use Rattle.planner.proofs.pair.weigh_node.Statement.{statement}
 use Rattle.planner.proofs.pair.weigh_node.Tie as tie
 
+-- ---- The places that the needs below go back to
+
+abbrev sided : tie.After-struct-known → tie.After-sides-at
+sided c = c .before .before .before .before .before
+
+abbrev start : tie.After-sides-at → tie.Start
+start s = s .before .before .before
+
+-- the node's weight with what is left of its sides
+abbrev sum : tie.After-struct-known → ℕ
+sum c =
+    sided c .sides-at .result .weight + c .before .before .before .unless-cut .result + c .before .unless-cut2 .result
+
+-- ---- The needs
+
 -- the results of the calls, and the law that weighs the node by them
 weighed : (c : tie.After-struct-known)
-    → (c .before .before .before .before .before .sides-at .result .weight + c .before .before .before .unless-cut .result + c .before .unless-cut2 .result
-    ≡ remainderAt (now (c .before .before .before .before .before .before .before .before .args .table)) (c .before .before .before .before .before .before .before .before .args .v))
-    × (c .before .before .before .before .before .sides-at .result .weight + c .before .before .before .unless-cut .result + c .before .unless-cut2 .result ≤ 3 * maxLimit)
+    → let b = start (sided c) in
+    (sum c ≡ remainderAt (now (b .args .table)) (b .args .v)) × (sum c ≤ 3 * maxLimit)
 weighed c =
     let u2 = c .before in
     let x2 = u2 .before in
     let u1 = x2 .before in
     let x1 = u1 .before in
-    let s = x1 .before in
-    let b = s .before .before .before in (
-      weighs (b .pre) (s .sides-at .ensures) _ _ _ _ (x1 .cuts-left .ensures) (x2 .cuts-right .ensures) (u1 .unless-cut .ensures) (u2 .unless-cut2 .ensures),
-      weighs-fit (b .pre) (s .sides-at .ensures) _ _ _ _ (x1 .cuts-left .ensures) (x2 .cuts-right .ensures) (u1 .unless-cut .ensures) (u2 .unless-cut2 .ensures),
+    let s = sided c in
+    let b = start s in (
+      weighs (b .pre) (s .sides-at .ensures) _ _ _ _ (x1 .cuts-left .ensures) (x2 .cuts-right .ensures)
+          (u1 .unless-cut .ensures) (u2 .unless-cut2 .ensures),
+      weighs-fit (b .pre) (s .sides-at .ensures) _ _ _ _ (x1 .cuts-left .ensures) (x2 .cuts-right .ensures)
+          (u1 .unless-cut .ensures) (u2 .unless-cut2 .ensures),
     )
 
 add-result : tie.Need-add-result

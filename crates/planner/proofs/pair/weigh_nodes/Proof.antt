@@ -4,14 +4,15 @@ use Prim.Native.Nat.{_≤_}
 use native.Mathlib.Omega.{arith}
 use lib.ListN.{length, length-set}
 use Rattle.model.specs.Table.{nodeCount}
-use Rattle.planner.specs.Pair.{Rests}
+use Rattle.planner.specs.PairMarks.{Rests}
 use Rattle.planner.proofs.TwoWay.{rests-step}
 use borrow.Author.Needs.{needs}
 use Rattle.planner.proofs.pair.weigh_nodes.Statement.{statement}
 use Rattle.planner.proofs.pair.weigh_nodes.Tie as tie
 
 abbrev Inv-loop : tie.InvT-loop
-Inv-loop table scratch₀ v₀ scratch v = (length scratch ≡ length scratch₀) × (v ≤ nodeCount table) × Rests table scratch v
+Inv-loop table scratch₀ v₀ scratch v =
+    (length scratch ≡ length scratch₀) × (v ≤ nodeCount table) × Rests table scratch v
 
 abbrev μ-loop : tie.MeasureT-loop
 μ-loop table scratch₀ v₀ scratch v = v
@@ -33,8 +34,11 @@ slice-write-scratch c =
 
 loop-again : tie.Need-loop-again Inv-loop μ-loop
 loop-again c =
-    let l = c .before .before .before .loop in
-    (simp length-set (l .inv .0), omega (arith, l .inv .1), rests-step (record { above = l .inv .2; low = omega arith; high = l .inv .1 }) (c .weigh-node .result) (c .weigh-node .ensures))
+    let l = c .before .before .before .loop in (
+      simp length-set (l .inv .0),
+      omega (arith, l .inv .1),
+      rests-step (record { above = l .inv .2; low = omega arith; high = l .inv .1 }) _ (c .weigh-node .ensures),
+    )
 
 returns : tie.Need-returns Inv-loop μ-loop
 returns c = rw (c .loop-test .left) at (c .before .loop .inv .2)

@@ -4,7 +4,7 @@ use Prim.Native.Nat.{_≤_}
 use native.Mathlib.Omega.{arith}
 use lib.ListN.{length}
 use Rattle.model.specs.Table.{nodeCount}
-use Rattle.planner.specs.Settled.{Down, start, down-kids, down-plan}
+use Rattle.planner.specs.SingleSettled.{SettledDown, start, down-kids, down-plan}
 use Rattle.planner.proofs.Settle.{down-step}
 use borrow.Author.Needs.{needs}
 use Rattle.planner.proofs.single.lay_single.Statement.{statement}
@@ -13,7 +13,7 @@ use Rattle.planner.proofs.single.lay_single.Tie as tie
 abbrev Inv-loop : tie.InvT-loop
 Inv-loop table marks₀ scratch₀ v₀ marks scratch v =
     (length marks ≡ length marks₀) × (length scratch ≡ length scratch₀) × (v ≤ nodeCount table)
-    × Down table scratch₀ marks₀ (nodeCount table) v scratch marks
+    × SettledDown table scratch₀ marks₀ (nodeCount table) v scratch marks
 
 abbrev μ-loop : tie.MeasureT-loop
 μ-loop table marks₀ scratch₀ v₀ marks scratch v = v
@@ -32,7 +32,7 @@ settle-requires c κs =
       high = l .inv .2;
       marks-long = l .inv .0 ∙ b .pre .marks-long;
       long = omega (arith, l .inv .1, b .pre .long);
-      fresh = down-kids (b .pre .tree .sound) low (l .inv .2) (l .inv .3);
+      rests-kept = down-kids (b .pre .tree .sound) low (l .inv .2) (l .inv .3);
     }
 
 loop-again : tie.Need-loop-again Inv-loop μ-loop

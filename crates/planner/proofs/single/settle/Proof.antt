@@ -1,6 +1,6 @@
 -- `planner::single::settle` meets its contract. Assumes nothing.
 use mathlib.Core.Path.{_≡_, ap₂}
-use Prim.Native.Nat.{ℕ, _+_, _-_}
+use Prim.Native.Nat.{ℕ, _-_}
 use native.Mathlib.Omega.{arith}
 use denote.Ref.{now}
 use Rattle.model.specs.Table.{limitOf, weightAt}
@@ -17,27 +17,30 @@ sub-room c =
 cut-children-requires : tie.Need-cut-children-requires
 cut-children-requires c κs = settle-cuts (c .before .before .before .before .before .before .before .pre)
 
+-- the room that is left of the limit
+room-is : (d : tie.After-cut-children)
+    → let w = d .before .before .before .before in
+    let a = w .before .before .before .before .args in
+    d .before .before .before .limit-of .result - w .weight-at .result
+    ≡ limitOf (now (a .table)) - weightAt (now (a .table)) (a .v)
+room-is d =
+    let k = d .before .before .before in ap₂ (λ (x y : ℕ). x - y) (k .limit-of .ensures) (k .before .weight-at .ensures)
+
 add-scratch : tie.Need-add-scratch
 add-scratch c =
     let d = c .before .before .before .before in
-    let w = d .before .before .before .before .weight-at in
-    let k = d .before .before .before .limit-of in
-    let b = d .before .before .before .before .before .before .before .before in
-    let e : k .result - w .result ≡ limitOf (now (b .args .table)) - weightAt (now (b .args .table)) (b .args .v) =
-    ap₂ (λ (x y : ℕ). x - y) (k .ensures) (w .ensures) in
-    let high = settle-fits (b .pre) (k .result - w .result) (d .cut-children .result) e (d .cut-children .ensures) in
-    record { fits = omega (arith, high, w .ensures, b .pre .tree .sound .limit-high) }
+    let w = d .before .before .before .before in
+    let b = w .before .before .before .before in
+    let high = settle-fits (b .pre) _ _ (room-is d) (d .cut-children .ensures) in
+    record { fits = omega (arith, high, w .weight-at .ensures, b .pre .tree .sound .limit-high) }
 
 returns : tie.Need-returns
 returns c =
     let d = c .before .before .before .before in
-    let w = d .before .before .before .before .weight-at in
-    let k = d .before .before .before .limit-of in
-    let b = d .before .before .before .before .before .before .before .before in
-    let e : k .result - w .result ≡ limitOf (now (b .args .table)) - weightAt (now (b .args .table)) (b .args .v) =
-    ap₂ (λ (x y : ℕ). x - y) (k .ensures) (w .ensures) in
-    settle-done (b .pre) (k .result - w .result) (d .cut-children .result) e (d .cut-children .ensures) (w .result + d .cut-children .result)
-    (omega (arith, w .ensures)) (d .cut-children .kept .1 .1 .0) (d .cut-children .kept .1 .0)
+    let w = d .before .before .before .before in
+    let b = w .before .before .before .before in
+    settle-done (b .pre) _ _ (room-is d) (d .cut-children .ensures) _ (omega (arith, w .weight-at .ensures))
+    (d .cut-children .kept .1 .1 .0) (d .cut-children .kept .1 .0)
 
 pub settle-spec : {M : Type 1} → statement M
 settle-spec =

@@ -6,7 +6,7 @@ use denote.Ref.{now}
 use Rattle.model.specs.Table.{nodeCount}
 use Rattle.theory.specs.PlanShape.{size}
 use Rattle.theory.specs.TableChain.{chainAt}
-use Rattle.planner.specs.Single.{restAt}
+use Rattle.planner.specs.SingleMembers.{restAt}
 use Rattle.planner.proofs.Scan.{next-less, next-high, sum-more, sum-fits, sum-end}
 use borrow.Author.Needs.{needs}
 use Rattle.planner.proofs.single.sum_rests.Statement.{statement}
@@ -23,13 +23,18 @@ add-sum : tie.Need-add-sum Inv-loop μ-loop
 add-sum c =
     let l = c .before .before .loop in
     let b = c .before .before .before .before .before in
-    omega (arith, b .pre .1, sum-fits (b .pre .0 .sound) (now (b .args .scratch)) (l .u) (l .sum) _ (c .kept-at .result) (omega arith) (l .inv .0) (c .kept-at .ensures) (l .inv .1))
+    omega (
+      arith,
+      b .pre .1,
+      sum-fits (b .pre .0 .sound) (now (b .args .scratch)) (l .u) (l .sum) _ _ (omega arith) (l .inv .0)
+          (c .kept-at .ensures) (l .inv .1),
+    )
 
 loop-less : tie.Need-loop-less Inv-loop μ-loop
 loop-less c =
     let l = c .before .before .before .loop in
     let b = c .before .before .before .before .before .before in
-    next-less (b .pre .0 .sound) (now (b .args .scratch)) (l .u) (c .next-at .result) (omega arith) (l .inv .0) (c .next-at .ensures)
+    next-less (b .pre .0 .sound) (now (b .args .scratch)) (l .u) _ (omega arith) (l .inv .0) (c .next-at .ensures)
 
 loop-again : tie.Need-loop-again Inv-loop μ-loop
 loop-again c =
@@ -37,8 +42,9 @@ loop-again c =
     let b = c .before .before .before .before .before .before in
     let sound = b .pre .0 .sound in
     let s = now (b .args .scratch) in (
-      next-high sound s (l .u) (c .next-at .result) (omega arith) (l .inv .0) (c .next-at .ensures),
-      sum-more sound s (l .u) (c .next-at .result) (l .sum) _ (c .before .kept-at .result) (omega arith) (l .inv .0) (c .next-at .ensures) (c .before .kept-at .ensures) (l .inv .1),
+      next-high sound s (l .u) _ (omega arith) (l .inv .0) (c .next-at .ensures),
+      sum-more sound s (l .u) _ (l .sum) _ _ (omega arith) (l .inv .0) (c .next-at .ensures)
+          (c .before .kept-at .ensures) (l .inv .1),
     )
 
 returns : tie.Need-returns Inv-loop μ-loop

@@ -9,12 +9,12 @@ use Rattle.model.specs.Steps.{Member, restSum, reduce}
 use Rattle.theory.specs.TableFacts.{SoundFacts, AcceptedFacts}
 use Rattle.theory.specs.PlanShape.{size}
 use Rattle.theory.specs.TableChain.{chainAt}
-use Rattle.planner.specs.Nodes.{Outside}
-use Rattle.planner.specs.Single.{members, LaidAt, EarliestAt, largestAt, restAt}
-use Rattle.planner.specs.Settled.{Fresh, kidsOf}
+use Rattle.planner.specs.Kept.{Outside}
+use Rattle.planner.specs.SingleMembers.{membersAt, LaidAt, EarliestAt, largestAt, restAt}
+use Rattle.planner.specs.SingleSettled.{RemaindersKept, kidsOf}
 
 -- the siblings from node v on are scanned: the table is of sound form, and the scratch has a word for each node
-pub record Scanned (t s : List ℕ) (v : ℕ) : Type 0 where
+pub record ScanReady (t s : List ℕ) (v : ℕ) : Type 0 where
   pub sound : SoundFacts t
   pub high : v ≤ nodeCount t
   pub long : nodeCount t ≤ length s
@@ -31,7 +31,7 @@ pub record Heaviest (t s : List ℕ) (v h : ℕ) : Type 0 where
 
 -- the children of node v as members
 abbrev pub kidMembers : List ℕ → List ℕ → List ℕ → ℕ → List Member
-kidMembers t s a v = members t s a (firstAt t v) (kidsOf t v)
+kidMembers t s a v = membersAt t s a (firstAt t v) (kidsOf t v)
 
 pub record CutReady (t s a : List ℕ) (v : ℕ) : Type 0 where
   pub sound : SoundFacts t
@@ -55,10 +55,4 @@ pub record SettleReady (t s a : List ℕ) (v : ℕ) : Type 0 where
   pub high : v ≤ nodeCount t
   pub marks-long : length a ≡ nodeCount t
   pub long : nodeCount t ≤ length s
-  pub fresh : Fresh t s a (firstAt t v) (kidsOf t v)
-
--- what laying a plan asks of what it was lent
-pub record LayReady (t a s : List ℕ) : Type 0 where
-  pub tree : AcceptedFacts t
-  pub marks-long : length a ≡ nodeCount t
-  pub long : nodeCount t ≤ length s
+  pub rests-kept : RemaindersKept t s a (firstAt t v) (kidsOf t v)

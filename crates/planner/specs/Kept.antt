@@ -29,6 +29,10 @@ kept-some s (suc i) h = let e : suc i - 1 ≡ i = omega arith in rw e
 pub kept-same : (s : List ℕ) (v x : ℕ) → 1 ≤ v → v ≤ length s → kept (set s (v - 1) x) v ≡ x
 kept-same s v x low high = sym (kept-some (set s (v - 1) x) v low) ∙ getD-set-same s (v - 1) x 0 (omega arith)
 
+-- at node u, where that is v
+pub kept-here : (s : List ℕ) (u v x : ℕ) → u ≡ v → 1 ≤ v → v ≤ length s → kept (set s (u - 1) x) v ≡ x
+kept-here s u v x e low high = rw e (kept-same s v x low high)
+
 pub kept-other : (s : List ℕ) (v u x : ℕ) → 1 ≤ v → (u ≡ v → ⊥) → kept (set s (v - 1) x) u ≡ kept s u
 unfolding kept
 kept-other s v zero x low ne = refl
@@ -55,7 +59,8 @@ outside-store m e s v x low high =
 pub record Same (m e : ℕ) (s s′ : List ℕ) : Type 0 where
   pub keeps : (u : ℕ) → m < u → u ≤ e → kept s′ u ≡ kept s u
 
-pub outside-same : {m e : ℕ} {s s′ : List ℕ} (p q : ℕ) → ((u : ℕ) → p < u → u ≤ q → m < u → u ≤ e → ⊥) → Outside m e s s′ → Same p q s s′
+pub outside-same : {m e : ℕ} {s s′ : List ℕ} (p q : ℕ) → ((u : ℕ) → p < u → u ≤ q → m < u → u ≤ e → ⊥)
+    → Outside m e s s′ → Same p q s s′
 outside-same p q apart a = record { keeps = λ u low high. a .keeps u (λ l h. apart u low high l h) }
 
 pub same-less : {m e : ℕ} {s s′ : List ℕ} (p q : ℕ) → m ≤ p → q ≤ e → Same m e s s′ → Same p q s s′

@@ -1,5 +1,6 @@
 -- The two sides of a node of the two-way tree: which of them are cut, by tests of their weights.
--- Defines leftFirst, leftCut, rightCut. Proves sides-left, sides-right: these are the sides that the pair planner takes. Assumes nothing.
+-- Defines leftFirst, leftCut, rightCut. Proves sides-left, sides-right: these are the sides that the pair planner
+-- takes. Assumes nothing.
 use Prim.Native.Nat.{ℕ, _+_, _-_, _≤_, _<_}
 use native.Mathlib.Omega.{arith}
 use mathlib.Core.Path.{_≡_, refl, _∙_, ap}
@@ -31,14 +32,16 @@ module _ (room : ℕ) (x y : Member) where
   unfolding restSum
   two-stop h = reduce-stop room (x ∷ y ∷ []) (inl (omega arith))
 
-  two-left : room < x .rest + y .rest → 0 < x .gain → y .gain ≤ x .gain → reduce room (x ∷ y ∷ []) ≡ reduce room (offBy (x .gain) x ∷ y ∷ [])
+  two-left : room < x .rest + y .rest → 0 < x .gain → y .gain ≤ x .gain
+      → reduce room (x ∷ y ∷ []) ≡ reduce room (offBy (x .gain) x ∷ y ∷ [])
   unfolding restSum largestGain takeEarliest pick
   two-left over some most =
       let largest : largestGain (x ∷ y ∷ []) ≡ x .gain = omega arith in
       reduce-turn room (x ∷ y ∷ []) (record { over = omega arith; some = omega arith })
       ∙ ap (reduce room) (ap (λ (g : ℕ). takeEarliest g (x ∷ y ∷ [])) largest ∙ rw (eq-eqb (x .gain) (x .gain) refl))
 
-  two-right : room < x .rest + y .rest → x .gain < y .gain → reduce room (x ∷ y ∷ []) ≡ reduce room (x ∷ offBy (y .gain) y ∷ [])
+  two-right : room < x .rest + y .rest → x .gain < y .gain
+      → reduce room (x ∷ y ∷ []) ≡ reduce room (x ∷ offBy (y .gain) y ∷ [])
   unfolding restSum largestGain takeEarliest pick
   two-right over most =
       let largest : largestGain (x ∷ y ∷ []) ≡ y .gain = omega arith in
@@ -50,8 +53,8 @@ module _ (room : ℕ) (x y : Member) where
 -- ---- The sides
 
 record Taken (K w left right : ℕ) (ms : List Member) : Type 0 where
-  pub on-left : takenAt 0 ms ≡ leftCut K w left right
-  pub on-right : takenAt 1 ms ≡ rightCut K w left right
+  on-left : takenAt 0 ms ≡ leftCut K w left right
+  on-right : takenAt 1 ms ≡ rightCut K w left right
 
 module _ (K w left right : ℕ) (light : w ≤ K) where
   abbrev room : ℕ
@@ -73,12 +76,14 @@ module _ (K w left right : ℕ) (light : w ≤ K) where
   both-cut : reduce room (cut left ∷ cut right ∷ []) ≡ cut left ∷ cut right ∷ []
   both-cut = two-stop room (cut left) (cut right) (omega arith)
 
-  taken-is : (a b : Member) (ms : List Member) → ms ≡ a ∷ b ∷ [] → a .taken ≡ leftCut K w left right → b .taken ≡ rightCut K w left right
+  taken-is : (a b : Member) (ms : List Member) → ms ≡ a ∷ b ∷ [] → a .taken ≡ leftCut K w left right
+      → b .taken ≡ rightCut K w left right
       → Taken K w left right ms
   unfolding takenAt
   taken-is a b ms e p q = record { on-left = ap (takenAt 0) e ∙ p; on-right = ap (takenAt 1) e ∙ q }
 
-  sides-taken : (o f l r : Bool) → leb (left + right) room ≡ o → leb right left ≡ f → leb left room ≡ l → leb right room ≡ r
+  sides-taken : (o f l r : Bool) → leb (left + right) room ≡ o → leb right left ≡ f → leb left room ≡ l
+      → leb right room ≡ r
       → Taken K w left right (sides K w left right)
   unfolding leftCut rightCut
   sides-taken true f l r eo ef el er =

@@ -1,7 +1,7 @@
--- The pair planner by node number: the remainders that the scratch keeps, and the marks that each node gives its first child and its
--- next sibling.
--- Defines Rests, SidesAt, firstCut, nextCut, LinkMarks, put. Proves pair-plan: with these marks for every node, the marks are the plan.
--- Assumes nothing.
+-- The pair planner by node number: the remainders that the scratch keeps, and the marks that each node gives its first
+-- child and its next sibling.
+-- Defines Rests, SidesAt, firstCutAt, nextCutAt, LinkMarks, put. Proves pair-plan: with these marks for every node, the
+-- marks are the plan. Assumes nothing.
 use Prim.Native.Nat.{ℕ, zero, suc, _+_, _-_, _*_, _≤_, _<_}
 use native.Mathlib.Omega.{arith}
 use mathlib.Core.Path.{_≡_, refl, sym, _∙_, ap, ap₂}
@@ -16,7 +16,7 @@ use Rattle.model.specs.Steps.{sides, remainder, takenAt, layPair, pairMarks}
 use Rattle.theory.specs.TableFacts.{SoundFacts, AcceptedFacts}
 use Rattle.theory.specs.TableNumbered.{Numbered, none, some, numbered-le, Between, sound-tree}
 use Rattle.theory.specs.TableChain.{chainAt, chain-is}
-use Rattle.planner.specs.Nodes.{kept, kept-suc}
+use Rattle.planner.specs.Kept.{kept, kept-suc}
 use Rattle.planner.specs.declared.pair.Sides.{Sides}
 
 -- the remainder of the chain at node v
@@ -44,11 +44,11 @@ pub record SidesAt (t : List ℕ) (v : ℕ) (s : Sides) : Type 0 where
   pub fits : s .weight + s .left + s .right ≤ 3 * maxLimit
 
 -- whether node u cuts its first child, and its next sibling
-unfoldable pub firstCut : List ℕ → ℕ → Bool
-firstCut t u = takenAt 0 (sides (limitOf t) (weightAt t u) (remainderAt t (firstAt t u)) (remainderAt t (nextAt t u)))
+unfoldable pub firstCutAt : List ℕ → ℕ → Bool
+firstCutAt t u = takenAt 0 (sides (limitOf t) (weightAt t u) (remainderAt t (firstAt t u)) (remainderAt t (nextAt t u)))
 
-unfoldable pub nextCut : List ℕ → ℕ → Bool
-nextCut t u = takenAt 1 (sides (limitOf t) (weightAt t u) (remainderAt t (firstAt t u)) (remainderAt t (nextAt t u)))
+unfoldable pub nextCutAt : List ℕ → ℕ → Bool
+nextCutAt t u = takenAt 1 (sides (limitOf t) (weightAt t u) (remainderAt t (firstAt t u)) (remainderAt t (nextAt t u)))
 
 -- the mark of an uncut sibling after one with mark k
 unfoldable pub uncutAfter : ℕ → ℕ
@@ -56,8 +56,8 @@ uncutAfter k = pick (eqb k 0) 0 2
 
 -- the marks that node u gives
 pub record LinkMarks (t a : List ℕ) (u : ℕ) : Type 0 where
-  pub first : 1 ≤ firstAt t u → kept a (firstAt t u) ≡ pick (firstCut t u) 1 0
-  pub next : 1 ≤ nextAt t u → kept a (nextAt t u) ≡ pick (nextCut t u) 1 (uncutAfter (kept a u))
+  pub first : 1 ≤ firstAt t u → kept a (firstAt t u) ≡ pick (firstCutAt t u) 1 0
+  pub next : 1 ≤ nextAt t u → kept a (nextAt t u) ≡ pick (nextCutAt t u) 1 (uncutAfter (kept a u))
 
 -- a mark stored at a node; nothing for no node
 unfoldable pub put : List ℕ → ℕ → ℕ → List ℕ
@@ -91,14 +91,16 @@ put-other a (suc i) (suc j) x ne = getD-set-other a i j x 0 (λ e. ne (omega ari
 
 -- what the step at node v makes of the marks
 unfoldable pub laidBelow : List ℕ → List ℕ → ℕ → List ℕ
-laidBelow t a v = put (put a (firstAt t v) (pick (firstCut t v) 1 0)) (nextAt t v) (pick (nextCut t v) 1 (uncutAfter (kept a v)))
+laidBelow t a v =
+    put (put a (firstAt t v) (pick (firstCutAt t v) 1 0)) (nextAt t v) (pick (nextCutAt t v) 1 (uncutAfter (kept a v)))
 
 -- ---- The plan
 
 module _ {t : List ℕ} (a : List ℕ) where
   pair-marks : {m v e : ℕ} {c : Chain} (cut : Bool) (uncut : ℕ) → Numbered t m v c e → e ≤ nodeCount t → e ≤ length a
-      → Between m e (LinkMarks t a) → (1 ≤ v → kept a v ≡ pick cut 1 uncut) → drop m a ≡ layPair (limitOf t) c cut uncut ++ drop e a
-  unfolding layPair firstCut nextCut uncutAfter
+      → Between m e (LinkMarks t a) → (1 ≤ v → kept a v ≡ pick cut 1 uncut)
+      → drop m a ≡ layPair (limitOf t) c cut uncut ++ drop e a
+  unfolding layPair firstCutAt nextCutAt uncutAfter
   pair-marks cut uncut none h l marks here = refl
   pair-marks cut uncut (some {m = m} {e₁ = e₁} {e₂ = e₂} {kids = kids} {next = next} k n) h l marks here =
       let K = limitOf t in
@@ -109,27 +111,30 @@ module _ {t : List ℕ} (a : List ℕ) where
       let ms = sides K (weightAt t (suc m)) (remainder K kids) (remainder K next) in
       let x = marks (suc m) (omega arith) (omega arith) in
       let mark : kept a (suc m) ≡ pick cut 1 uncut = here (omega arith) in
-      let same : sides K (weightAt t (suc m)) (remainderAt t (firstAt t (suc m))) (remainderAt t (nextAt t (suc m))) ≡ ms =
-      ap₂ (λ (c d : Chain). sides K (weightAt t (suc m)) (remainder K c) (remainder K d)) ks ns in
-      let left : firstCut t (suc m) ≡ takenAt 0 ms = ap (takenAt 0) same in
-      let right : nextCut t (suc m) ≡ takenAt 1 ms = ap (takenAt 1) same in
+      let same : sides K (weightAt t (suc m)) (remainderAt t (firstAt t (suc m))) (remainderAt t (nextAt t (suc m)))
+      ≡ ms = ap₂ (λ (c d : Chain). sides K (weightAt t (suc m)) (remainder K c) (remainder K d)) ks ns in
+      let left : firstCutAt t (suc m) ≡ takenAt 0 ms = ap (takenAt 0) same in
+      let right : nextCutAt t (suc m) ≡ takenAt 1 ms = ap (takenAt 1) same in
       let below =
       pair-marks (takenAt 0 ms) 0 k (omega arith) (omega arith) (λ u lo hi. marks u (omega arith) (omega arith))
       (λ lo. x .first lo ∙ ap (λ (b : Bool). pick b 1 0) left) in
       let after =
-      pair-marks (takenAt 1 ms) (pick (eqb (pick cut 1 uncut) 0) 0 2) n h l (λ u lo hi. marks u (omega arith) (omega arith))
+      pair-marks (takenAt 1 ms) (pick (eqb (pick cut 1 uncut) 0) 0 2) n h l
+      (λ u lo hi. marks u (omega arith) (omega arith))
       (λ lo. x .next lo ∙ ap₂ (λ (b : Bool) (q : ℕ). pick b 1 (pick (eqb q 0) 0 2)) right mark) in
       drop-cons a m 0 (omega arith)
       ∙ ap₂ (λ (b : ℕ) (r : List ℕ). b ∷ r) (sym (kept-suc a m) ∙ mark)
       (below
       ∙ ap (λ (r : List ℕ). layPair K kids (takenAt 0 ms) 0 ++ r) after
       ∙ sym
-      (append-assoc (layPair K kids (takenAt 0 ms) 0) (layPair K next (takenAt 1 ms) (pick (eqb (pick cut 1 uncut) 0) 0 2)) (drop e₂ a)))
+      (append-assoc (layPair K kids (takenAt 0 ms) 0)
+      (layPair K next (takenAt 1 ms) (pick (eqb (pick cut 1 uncut) 0) 0 2)) (drop e₂ a)))
 
 pub pair-plan : {t : List ℕ} (a : List ℕ) → SoundFacts t → length a ≡ nodeCount t → kept a 1 ≡ 1
     → Between 0 (nodeCount t) (LinkMarks t a) → a ≡ pairMarks (limitOf t) (treeOf t)
 unfolding pairMarks pick
 pair-plan {t} a sound long one marks =
     pair-marks a true 0 (sound-tree sound) (omega arith) (omega arith) marks (λ l. one)
-    ∙ ap (λ (l : List ℕ). layPair (limitOf t) (treeOf t) true 0 ++ l) (ap (λ (n : ℕ). drop n a) (sym long) ∙ drop-length a)
+    ∙ ap (λ (l : List ℕ). layPair (limitOf t) (treeOf t) true 0 ++ l)
+    (ap (λ (n : ℕ). drop n a) (sym long) ∙ drop-length a)
     ∙ append-nil (layPair (limitOf t) (treeOf t) true 0)
