@@ -64,7 +64,8 @@ tree-begin e a o o₁ o₂ n k e₁ e₂ n-is k-is room =
 -- what is decoded of an archive is what it tells
 pub decoded : {e : Edition} → Described e → (a parents links lasts tree plan : List ℕ) (n : ℕ) → n ≡ nodesIn e a
     → Loaded e a n parents → Linked parents n links → ((t m : List ℕ) → WrittenBy e a t m → Lasts t m lasts)
-    → Starts tree (treeUpto e a links (nodesIn e a)) → ((t m : List ℕ) → MarksInput t m lasts links n → MarksRow m n plan)
+    → Starts tree (treeUpto e a links (nodesIn e a))
+    → ((t m : List ℕ) → MarksInput t m lasts links n → MarksRow m n plan)
     → nodesIn e a ≤ length plan → isArchive e a ≡ true
     → (take (tableBytes (nodesIn e a)) tree ≡ tableIn e a) × (take (nodesIn e a) plan ≡ marksIn e a)
 unfolding Starts

@@ -1,4 +1,4 @@
--- The answers of the archive's writer and reader, case by case, and what each tells. The writer is also verdictIn as it goes
+-- The answers of the archive's writer and reader, case by case, and what each tells. The writer is also said as it goes
 -- on from the tree's answer, whatever that is: so a reader may judge its tree otherwise than the writer's entry does.
 -- Defines filmAnswer, writeFrom, WriteDone. Proves write-entry, write-done, writer-done, writer-refused; read-none,
 -- read-table, read-marks, read-done, reader-done, read-thirteen. Assumes nothing.
@@ -287,7 +287,8 @@ module _ (e : Edition) (a t m : List ℕ) where
       unfolding pick badMarks
       read-done long =
           restored-by true
-          (table-next ∙ outcome-next (badMarks nodes m) [] verdictIn (equal (length m) nodes long) ∙ outcome-none verdictIn)
+          (table-next ∙ outcome-next (badMarks nodes m) [] verdictIn (equal (length m) nodes long)
+          ∙ outcome-none verdictIn)
 
   -- ---- What the reader's answer tells: the bytes are an archive, and the table and the marks are those that it tells
 
@@ -323,7 +324,8 @@ module _ (e : Edition) (a t m : List ℕ) where
       (rw none, rw none)
     where
       zero : passes (readChecks e a t m) ≡ true → firstOf (readChecks e a t m) verdictIn .number ≡ 0
-      zero p = ap (λ (x : Answer). x .number) (firstOf-all (readChecks e a t m) verdictIn p) ∙ archive-zero (pass-archive p)
+      zero p =
+          ap (λ (x : Answer). x .number) (firstOf-all (readChecks e a t m) verdictIn p) ∙ archive-zero (pass-archive p)
 
   -- 13 is for bytes that are no archive
   pub read-thirteen : readArchive e a t m .answer .number ≡ 13 → isArchive e a ≡ false
