@@ -18,8 +18,8 @@ use Rattle.theory.specs.Put.{putWord, length-putWord, Starts, starts-none, star
 use Rattle.theory.specs.ArchiveWords.{Described}
 use Rattle.archive.specs.Links.{Linked}
 use Rattle.archive.specs.DecodeTable.{WrittenBy, written-by, by-nodes, Loaded, links-in, links-at}
-use Rattle.archive.specs.DecodeTable.{treeUpto, length-treeUpto, tree-told}
-use Rattle.archive.specs.DecodeMarks.{Lasts, Guides, MarksRow, marks-told}
+use Rattle.archive.specs.DecodeTable.{treeUpto, length-treeUpto, tree-decoded}
+use Rattle.archive.specs.DecodeMarks.{Lasts, MarksInput, MarksRow, marks-decoded}
 
 module _ (e : Edition) (a : List ℕ) (v : ℕ) where
   test : Bool
@@ -64,7 +64,8 @@ tree-begin e a o o₁ o₂ n k e₁ e₂ n-is k-is room =
 -- what is decoded of an archive is what it tells
 pub decoded : {e : Edition} → Described e → (a parents links lasts tree plan : List ℕ) (n : ℕ) → n ≡ nodesIn e a
     → Loaded e a n parents → Linked parents n links → ((t m : List ℕ) → WrittenBy e a t m → Lasts t m lasts)
-    → Starts tree (treeUpto e a links (nodesIn e a)) → ((t m : List ℕ) → Guides t m lasts links n → MarksRow m n plan)
+    → Starts tree (treeUpto e a links (nodesIn e a))
+    → ((t m : List ℕ) → MarksInput t m lasts links n → MarksRow m n plan)
     → nodesIn e a ≤ length plan → isArchive e a ≡ true
     → (take (tableBytes (nodesIn e a)) tree ≡ tableIn e a) × (take (nodesIn e a) plan ≡ marksIn e a)
 unfolding Starts
@@ -77,14 +78,14 @@ decoded {e} d a parents links lasts tree plan n n-is loaded linked lasts-are put
     let size : tableBytes (nodesIn e a) ≡ 2 * length (treeUpto e a links (nodesIn e a)) =
     omega (arith, length-treeUpto e a links (nodesIn e a)) in
     let same : nodesIn e a ≡ nodeCount t = by-nodes d w in
-    let guides : Guides t m lasts links n =
+    let input : MarksInput t m lasts links n =
     record {
       plan = w .plan;
       count = n-is ∙ same;
       lasts-are = lasts-are t m w;
       links-are = λ v low high. links-at d w parents links loaded′ linked′ v low (omega arith);
     } in (
-      ap (λ k. take k tree) size ∙ put ∙ tree-told e a links (links-in d w parents links loaded′ linked′),
+      ap (λ k. take k tree) size ∙ put ∙ tree-decoded e a links (links-in d w parents links loaded′ linked′),
       ap (λ k. take k plan) same
-          ∙ marks-told t m plan (w .plan .long) (omega arith) (λ v low high. marked t m guides v low (omega arith)),
+          ∙ marks-decoded t m plan (w .plan .long) (omega arith) (λ v low high. marked t m input v low (omega arith)),
     )

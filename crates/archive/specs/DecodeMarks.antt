@@ -1,6 +1,6 @@
 -- The marks of a plan from its page records: the last of each run at its first node, carried from sibling to sibling. A
 -- node is in the run of the sibling before it where that run goes so far.
--- Defines endOf, dueAt, lastAt, runEnd, markFor, Lasts, Guides. Assumes nothing.
+-- Defines endOf, dueAt, lastAt, runEnd, markFor, Lasts, MarksInput. Assumes nothing.
 use Prim.Native.Nat.{ℕ, zero, suc, _+_, _-_, _≤_, _<_}
 use native.Mathlib.Omega.{arith}
 use mathlib.Core.Bool.{Bool, true, false, _&&_, _||_}
@@ -314,10 +314,10 @@ module _ {e : Edition} {a t m : List ℕ} (w : WrittenBy e a t m) where
 
 -- ---- The marks
 
-pub marks-told : (t m l : List ℕ) → length m ≡ nodeCount t → nodeCount t ≤ length l
+pub marks-decoded : (t m l : List ℕ) → length m ≡ nodeCount t → nodeCount t ≤ length l
     → Upto (nodeCount t) (λ v. getD l (v - 1) 0 ≡ markAt m v) → take (nodeCount t) l ≡ m
 unfolding markAt
-marks-told t m l long room h =
+marks-decoded t m l long room h =
     ext-getD 0 (take (nodeCount t) l) m (length-take-le (nodeCount t) l room ∙ sym long)
     (λ i less.
     let within : i < nodeCount t = omega (arith, length-take-le (nodeCount t) l room) in
@@ -328,7 +328,7 @@ marks-told t m l long room h =
 
 -- ---- What the pass over the nodes goes by
 
-pub record Guides (t m lasts links : List ℕ) (nodes : ℕ) : Type 0 where
+pub record MarksInput (t m lasts links : List ℕ) (nodes : ℕ) : Type 0 where
   pub plan : Judged t m
   pub count : nodes ≡ nodeCount t
   pub lasts-are : Lasts t m lasts
@@ -341,7 +341,7 @@ MarksRow m v l = Upto v (λ u. getD l (u - 1) 0 ≡ markAt m u)
 -- the marks of the nodes 1 to v, and what they carry on, whatever the pass goes by
 abbrev pub MarksPass : List ℕ → List ℕ → ℕ → ℕ → List ℕ → List ℕ → Type 0
 MarksPass lasts links nodes v out due =
-    (t m : List ℕ) → Guides t m lasts links nodes → MarksRow m v out × DueRow t m v due
+    (t m : List ℕ) → MarksInput t m lasts links nodes → MarksRow m v out × DueRow t m v due
 
 pub marks-start : (lasts links : List ℕ) (nodes : ℕ) (out due : List ℕ) → ((k : ℕ) → k < slots → getD due k 0 ≡ 0)
     → MarksPass lasts links nodes 0 out due

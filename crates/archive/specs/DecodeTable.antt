@@ -144,11 +144,11 @@ pub length-treeUpto : (e : Edition) (a l : List ℕ) (v : ℕ) → length (treeU
 unfolding treeUpto
 length-treeUpto e a l v = omega (arith, length-recordsTo (treeRow e a l) 4 (tree-wide e a l) v)
 
-pub tree-told : (e : Edition) (a l : List ℕ)
+pub tree-decoded : (e : Edition) (a l : List ℕ)
     → Upto (nodesIn e a) (λ v. pick (eqb v 1) 0 (getD l v 0) ≡ nextIn e a v)
     → bytesOf (treeUpto e a l (nodesIn e a)) ≡ tableIn e a
 unfolding treeUpto treeRow tableIn
-tree-told e a l h =
+tree-decoded e a l h =
     ap (λ (r : List ℕ). bytesOf (nodesIn e a ∷ limitIn e a ∷ r))
     (listTo-cong (nodesIn e a) (treeRow e a l) _
     (λ v low high. ap (λ n. nodeFieldIn e a v 0 ∷ nodeFieldIn e a v 1 ∷ firstIn e a v ∷ n ∷ []) (h v low high)))

@@ -68,32 +68,32 @@ page-room {e} d pages p i long less at room =
 
 -- node v's record, with its parent and the next node of its page from two lists
 unfoldable pub nodeRow : List ℕ → List ℕ → List ℕ → ℕ → List ℕ
-nodeRow t parents onward v = weightAt t v ∷ labelAt t v ∷ getD parents v 0 ∷ getD onward v 0 ∷ []
+nodeRow t parents nexts v = weightAt t v ∷ labelAt t v ∷ getD parents v 0 ∷ getD nexts v 0 ∷ []
 
-pub node-wide : (t parents onward : List ℕ) (v : ℕ) → length (nodeRow t parents onward v) ≡ 4
+pub node-wide : (t parents nexts : List ℕ) (v : ℕ) → length (nodeRow t parents nexts v) ≡ 4
 unfolding nodeRow
-node-wide t parents onward v = refl
+node-wide t parents nexts v = refl
 
 -- a record as it is put
-pub node-row : (t parents onward : List ℕ) (v weight label : ℕ) → weight ≡ weightAt t v → label ≡ labelAt t v
-    → nodeRow t parents onward v ≡ weight ∷ label ∷ getD parents v 0 ∷ getD onward v 0 ∷ []
+pub node-row : (t parents nexts : List ℕ) (v weight label : ℕ) → weight ≡ weightAt t v → label ≡ labelAt t v
+    → nodeRow t parents nexts v ≡ weight ∷ label ∷ getD parents v 0 ∷ getD nexts v 0 ∷ []
 unfolding nodeRow
-node-row t parents onward v weight label weight-is label-is = rw (weight-is, label-is)
+node-row t parents nexts v weight label weight-is label-is = rw (weight-is, label-is)
 
 -- ---- The whole archive
 
 module _ {e : Edition} (d : Described e) (t m : List ℕ) where
   -- head, page records and node records, put one after the other from rows that are those of the tree and the plan
-  pub all-put : (firsts lasts weights parents onward : List ℕ) (pages : ℕ) → pages ≡ pageCount t m
+  pub all-put : (firsts lasts weights parents nexts : List ℕ) (pages : ℕ) → pages ≡ pageCount t m
       → Row (pageCount t m) (λ p. pageRun t m p .first) firsts → Row (pageCount t m) (λ p. pageRun t m p .last) lasts
       → Row (pageCount t m) (pageWeight t m) weights → Row (nodeCount t) (parentAt t) parents
-      → Row (nodeCount t) (nextOnPage t m) onward
+      → Row (nodeCount t) (nextOnPage t m) nexts
       → (o₁ o₂ o₃ : List ℕ) → Starts o₁ (headWords e t m)
       → RecordsPut (pageRow firsts lasts weights pages) (e .head) pages o₁ o₂
-      → RecordsPut (nodeRow t parents onward) (e .head + e .page * pages) (nodeCount t) o₂ o₃
+      → RecordsPut (nodeRow t parents nexts) (e .head + e .page * pages) (nodeCount t) o₂ o₃
       → length o₃ ≡ archiveBytes e pages (nodeCount t) → o₃ ≡ archiveOf e t m
   unfolding archiveOf
-  all-put firsts lasts weights parents onward pages is firsts-are lasts-are weights-are parents-are onward-are o₁ o₂ o₃
+  all-put firsts lasts weights parents nexts pages is firsts-are lasts-are weights-are parents-are nexts-are o₁ o₂ o₃
       h p n long =
       starts-all o₃ (front ++ listTo (nodeCount t) (nodeRecord t m)) (rw nodes-same at (n front words begun))
       (omega (
@@ -113,10 +113,10 @@ module _ {e : Edition} (d : Described e) (t m : List ℕ) where
           (λ q low high. unfold pageRow pageRecord in
           rw (firsts-are q low high, lasts-are q low high, weights-are q low high))
 
-      nodes-same : listTo (nodeCount t) (nodeRow t parents onward) ≡ listTo (nodeCount t) (nodeRecord t m)
+      nodes-same : listTo (nodeCount t) (nodeRow t parents nexts) ≡ listTo (nodeCount t) (nodeRecord t m)
       nodes-same =
-          listTo-cong (nodeCount t) (nodeRow t parents onward) (nodeRecord t m)
-          (λ v low high. unfold nodeRow nodeRecord in rw (parents-are v low high, onward-are v low high))
+          listTo-cong (nodeCount t) (nodeRow t parents nexts) (nodeRecord t m)
+          (λ v low high. unfold nodeRow nodeRecord in rw (parents-are v low high, nexts-are v low high))
 
       words : length front ≡ e .head + e .page * pages
       words =
@@ -128,10 +128,10 @@ module _ {e : Edition} (d : Described e) (t m : List ℕ) where
       begun = rw pages-same at (p (headWords e t m) (d .head t m) h)
 
 -- the next node of the same page, from the pages of the nodes
-pub next-of-page : (t m page onward : List ℕ) (n : ℕ) → n ≡ nodeCount t → Row (nodeCount t) (pageOf t m) page
-    → Linked page n onward → Row (nodeCount t) (nextOnPage t m) onward
+pub next-of-page : (t m page nexts : List ℕ) (n : ℕ) → n ≡ nodeCount t → Row (nodeCount t) (pageOf t m) page
+    → Linked page n nexts → Row (nodeCount t) (nextOnPage t m) nexts
 unfolding nextWith nextOnPage
-next-of-page t m page onward n n-is row h v low high =
+next-of-page t m page nexts n n-is row h v low high =
     h v low (omega arith)
     ∙ ap (λ k. nextWith (λ u. getD page u 0) k v (getD page v 0)) n-is
     ∙ nextWith-cong (λ u. getD page u 0) (pageOf t m) (nodeCount t) v (getD page v 0) row

@@ -25,7 +25,7 @@ ghost use Rattle.theory.specs.Put.{Starts};
 ghost use Rattle.archive.specs.Size.{InRoom, archiveNodes, longestTable};
 ghost use Rattle.archive.specs.Links.{Fit};
 ghost use Rattle.archive.specs.DecodeTable.{WrittenBy, Loaded, fitted, treeUpto};
-ghost use Rattle.archive.specs.DecodeMarks.{runEnd, markFor, Lasts, Guides, MarksRow};
+ghost use Rattle.archive.specs.DecodeMarks.{runEnd, markFor, Lasts, MarksInput, MarksRow};
 
 // Node v's first child is the node after it, if that has v for its parent.
 fn first_in(e: Edition, archive: &[u8], v: u16) -> u16
@@ -135,7 +135,7 @@ fn mark_for(last: u16, end: u16) -> u8
 // The marks of the plan. A node's due is the last of the run that the sibling before it is in.
 fn fill_marks(nodes: u16, lasts: &[u16; SLOTS], links: &[u16; SLOTS], plan: &mut [u8])
     requires { ⌜ (nodes ≤ archiveNodes) × Fit nodes (now links) × (length (now plan) ≡ archiveNodes) ⌝ }
-    ensures { λ r. ⌜ ((t m : List ℕ) → Guides t m (now (lasts .entry)) (now (links .entry)) nodes
+    ensures { λ r. ⌜ ((t m : List ℕ) → MarksInput t m (now (lasts .entry)) (now (links .entry)) nodes
         → MarksRow m nodes (now (plan .exit))) ⌝ }
 {
     let mut due = [0u16; SLOTS];

@@ -68,13 +68,13 @@ pub fn put_nodes<'a>(
     e: Edition,
     table: &[u8],
     parents: &'a [u16; SLOTS],
-    onward: &'a [u16; SLOTS],
+    nexts: &'a [u16; SLOTS],
     pages: u16,
     out: &mut [u8],
 )
     requires { ⌜ InRoom e × (nodeCount (now table) < slots) × (pages < slots)
         × (length (now out) ≡ archiveBytes e pages (nodeCount (now table))) ⌝ }
-    ensures { λ r. ⌜ RecordsPut (nodeRow (now (table .entry)) (now (parents .entry)) (now (onward .entry)))
+    ensures { λ r. ⌜ RecordsPut (nodeRow (now (table .entry)) (now (parents .entry)) (now (nexts .entry)))
         (e .head + e .page * pages) (nodeCount (now (table .entry))) (now (out .entry)) (now (out .exit)) ⌝ }
 {
     let nodes = node_count(table);
@@ -85,7 +85,7 @@ pub fn put_nodes<'a>(
         let weight = weight_at(table, v);
         let label = label_at(table, v);
         let parent = parents[v as usize];
-        let after = onward[v as usize];
+        let after = nexts[v as usize];
         put_record(out, at, weight, label, parent, after);
         at += 4;
     }

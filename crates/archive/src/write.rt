@@ -35,10 +35,10 @@ fn fill_archive(e: Edition, table: &[u8], marks: &[u8], plan: Layout, out: &mut 
 {
     let nodes = node_count(table);
     let limit = limit_of(table);
-    let onward = link_next(&plan.page, nodes);
+    let nexts = link_next(&plan.page, nodes);
     put_head(e, nodes, limit, plan.pages, out);
     put_pages(e, &plan.firsts, &plan.lasts, &plan.weights, plan.pages, out);
-    put_nodes(e, table, &plan.parents, &onward, plan.pages, out);
+    put_nodes(e, table, &plan.parents, &nexts, plan.pages, out);
 }
 
 // The writer of an edition, going on from the answer of what judged the tree.

@@ -1,4 +1,4 @@
--- The answers of the archive's writer and reader, case by case, and what each tells. The writer is also told as it goes
+-- The answers of the archive's writer and reader, case by case, and what each tells. The writer is also said as it goes
 -- on from the tree's answer, whatever that is: so a reader may judge its tree otherwise than the writer's entry does.
 -- Defines filmAnswer, writeFrom, WriteDone. Proves write-entry, write-done, writer-done, writer-refused; read-none,
 -- read-table, read-marks, read-done, reader-done, read-thirteen. Assumes nothing.
@@ -223,13 +223,13 @@ module _ (e : Edition) (t m out : List ℕ) where
 -- ---- The reader
 
 module _ (e : Edition) (a t m : List ℕ) where
-  abbrev told : Answer
-  told = answerOf (verdictOf (tableIn e a) (marksIn e a))
+  abbrev verdictIn : Answer
+  verdictIn = answerOf (verdictOf (tableIn e a) (marksIn e a))
 
   abbrev nodes : ℕ
   nodes = nodesIn e a
 
-  restored-by : {r : Answer} (b : Bool) → outcome (readChecks e a t m) told ≡ (r, b)
+  restored-by : {r : Answer} (b : Bool) → outcome (readChecks e a t m) verdictIn ≡ (r, b)
       → record { answer = r; table = pick b (tableIn e a) t; marks = pick b (marksIn e a) m } ≡ readArchive e a t m
   unfolding readArchive
   restored-by b h =
@@ -241,14 +241,14 @@ module _ (e : Edition) (a t m : List ℕ) where
   unfolding pick readChecks noArchive
   read-none n =
       restored-by false
-      (outcome-stop (noArchive (isArchive e a)) (backChecks nodes t m) told 0
+      (outcome-stop (noArchive (isArchive e a)) (backChecks nodes t m) verdictIn 0
       (when-true (not (isArchive e a)) 0 (ap not n)))
 
   module _ (is : isArchive e a ≡ true) where
-    archive-next : outcome (readChecks e a t m) told ≡ outcome (backChecks nodes t m) told
+    archive-next : outcome (readChecks e a t m) verdictIn ≡ outcome (backChecks nodes t m) verdictIn
     unfolding readChecks noArchive
     archive-next =
-        outcome-next (noArchive (isArchive e a)) (backChecks nodes t m) told
+        outcome-next (noArchive (isArchive e a)) (backChecks nodes t m) verdictIn
         (when-false (not (isArchive e a)) 0 (ap not is))
 
     -- 12
@@ -258,15 +258,15 @@ module _ (e : Edition) (a t m : List ℕ) where
     read-table other =
         restored-by false
         (archive-next
-        ∙ outcome-stop (badOutput (tableBytes nodes) t) (badMarks nodes m ∷ []) told (tableBytes nodes)
+        ∙ outcome-stop (badOutput (tableBytes nodes) t) (badMarks nodes m ∷ []) verdictIn (tableBytes nodes)
         (unequal (length t) (tableBytes nodes) other))
 
     module _ (fits : length t ≡ tableBytes (nodesIn e a)) where
-      table-next : outcome (readChecks e a t m) told ≡ outcome (badMarks nodes m ∷ []) told
+      table-next : outcome (readChecks e a t m) verdictIn ≡ outcome (badMarks nodes m ∷ []) verdictIn
       unfolding backChecks badOutput
       table-next =
           archive-next
-          ∙ outcome-next (badOutput (tableBytes nodes) t) (badMarks nodes m ∷ []) told
+          ∙ outcome-next (badOutput (tableBytes nodes) t) (badMarks nodes m ∷ []) verdictIn
           (equal (length t) (tableBytes nodes) fits)
 
       -- 8
@@ -275,7 +275,7 @@ module _ (e : Edition) (a t m : List ℕ) where
       unfolding pick badMarks
       read-marks other =
           restored-by false
-          (table-next ∙ outcome-stop (badMarks nodes m) [] told nodes (unequal (length m) nodes other))
+          (table-next ∙ outcome-stop (badMarks nodes m) [] verdictIn nodes (unequal (length m) nodes other))
 
       pub read-done : length m ≡ nodesIn e a
           → record {
@@ -287,13 +287,14 @@ module _ (e : Edition) (a t m : List ℕ) where
       unfolding pick badMarks
       read-done long =
           restored-by true
-          (table-next ∙ outcome-next (badMarks nodes m) [] told (equal (length m) nodes long) ∙ outcome-none told)
+          (table-next ∙ outcome-next (badMarks nodes m) [] verdictIn (equal (length m) nodes long)
+          ∙ outcome-none verdictIn)
 
   -- ---- What the reader's answer tells: the bytes are an archive, and the table and the marks are those that it tells
 
-  pub read-film : passes (readChecks e a t m) ≡ true → isArchive e a ≡ true
+  pub pass-archive : passes (readChecks e a t m) ≡ true → isArchive e a ≡ true
   unfolding Pass readChecks noArchive
-  read-film p =
+  pass-archive p =
       not-false (isArchive e a) (when-nowhere (not (isArchive e a)) 0 (pass-all (readChecks e a t m) .0 p .0))
 
   -- an archive's own answer is acceptance
@@ -311,8 +312,8 @@ module _ (e : Edition) (a t m : List ℕ) where
   unfolding readArchive pick
   reader-done z =
       let all : passes (readChecks e a t m) ≡ true =
-      accepted-pass (readChecks e a t m) told (read-never e a t m) z in
-      (read-film all, rw (all, firstOf-all (readChecks e a t m) told all))
+      accepted-pass (readChecks e a t m) verdictIn (read-never e a t m) z in
+      (pass-archive all, rw (all, firstOf-all (readChecks e a t m) verdictIn all))
 
   -- on refusal the table and the marks are as lent
   pub read-kept : (readArchive e a t m .answer .number ≡ 0 → ⊥)
@@ -322,8 +323,9 @@ module _ (e : Edition) (a t m : List ℕ) where
       let none : passes (readChecks e a t m) ≡ false = never-true (passes (readChecks e a t m)) (λ p. h (zero p)) in
       (rw none, rw none)
     where
-      zero : passes (readChecks e a t m) ≡ true → firstOf (readChecks e a t m) told .number ≡ 0
-      zero p = ap (λ (x : Answer). x .number) (firstOf-all (readChecks e a t m) told p) ∙ archive-zero (read-film p)
+      zero : passes (readChecks e a t m) ≡ true → firstOf (readChecks e a t m) verdictIn .number ≡ 0
+      zero p =
+          ap (λ (x : Answer). x .number) (firstOf-all (readChecks e a t m) verdictIn p) ∙ archive-zero (pass-archive p)
 
   -- 13 is for bytes that are no archive
   pub read-thirteen : readArchive e a t m .answer .number ≡ 13 → isArchive e a ≡ false
@@ -332,5 +334,5 @@ module _ (e : Edition) (a t m : List ℕ) where
       never-true (isArchive e a)
       (λ is.
       let given = ap (λ (x : Answer × Bool). x .0 .number) (archive-next is) in
-      let last = never-first 13 (backChecks nodes t m) told (λ p. refl) (sym given ∙ h) in
+      let last = never-first 13 (backChecks nodes t m) verdictIn (λ p. refl) (sym given ∙ h) in
       omega (arith, last .1, archive-zero is))

@@ -59,8 +59,8 @@ module _ (b : tie.After-table-bytes) where
   plan-long : nodes ≡ length plan
   plan-long = known-part _ archiveNodes _ (b .before .before .before .decode .kept .1 .1 .1 .0) few
 
-  told : isArchive edition archive ≡ true → (tree ≡ tableIn edition archive) × (plan ≡ marksIn edition archive)
-  told y =
+  is-decoded : isArchive edition archive ≡ true → (tree ≡ tableIn edition archive) × (plan ≡ marksIn edition archive)
+  is-decoded y =
       let d = b .before .before .before .decode in (
         ap (λ k. take k (d .last .1 .1 .0)) size-is ∙ d .ensures y .0,
         ap (λ k. take k (d .last .1 .1 .1 .0)) nodes-are ∙ d .ensures y .1,
@@ -82,7 +82,7 @@ returns-2 c =
     let j = c .before .before in
     let b = j .before .before .before in
     reader-none (archive b) _ _ (tree b) (plan b) (j .judge-copy .result) (j .judge-copy .ensures) (c .if2 .taken)
-    (told b)
+    (is-decoded b)
 
 returns-3 : tie.Need-returns-3
 returns-3 c =

@@ -13,12 +13,12 @@ use Rattle.archive.proofs.records.put_nodes.Statement.{statement}
 use Rattle.archive.proofs.records.put_nodes.Tie as tie
 
 abbrev Inv-loop : tie.InvT-loop
-Inv-loop table parents onward pages out₀ nodes at₀ v₀ out at v =
+Inv-loop table parents nexts pages out₀ nodes at₀ v₀ out at v =
     (v ≤ nodes) × (length out ≡ length out₀) × (at ≡ at₀ + 4 * v)
-    × RecordsPut (nodeRow table parents onward) at₀ v out₀ out
+    × RecordsPut (nodeRow table parents nexts) at₀ v out₀ out
 
 abbrev μ-loop : tie.MeasureT-loop
-μ-loop table parents onward pages out₀ nodes at₀ v₀ out at v = nodes - v
+μ-loop table parents nexts pages out₀ nodes at₀ v₀ out at v = nodes - v
 
 -- the words of the page records
 few : (n : tie.After-node-count Inv-loop μ-loop)
@@ -34,7 +34,7 @@ add-at c = let h = few (c .before .before) in search needs
 loop-holds : tie.Need-loop-holds Inv-loop μ-loop
 loop-holds c =
     let a = c .before .before .before .before .before .args in
-    let wide = node-wide (a .table .now) (a .parents .now) (a .onward .now) in
+    let wide = node-wide (a .table .now) (a .parents .now) (a .nexts .now) in
     (omega arith, refl, omega arith, records-none _ 4 wide _ (a .out .now))
 
 put-record-requires : tie.Need-put-record-requires Inv-loop μ-loop
@@ -59,9 +59,9 @@ loop-again c =
     let start = n .before .before .before in
     let a = start .args in
     let put = c .before .before .put-record in
-    let wide = node-wide (a .table .now) (a .parents .now) (a .onward .now) in
+    let wide = node-wide (a .table .now) (a .parents .now) (a .nexts .now) in
     let row =
-    node-row (a .table .now) (a .parents .now) (a .onward .now) (l .v + 1) _ _
+    node-row (a .table .now) (a .parents .now) (a .nexts .now) (l .v + 1) _ _
     (c .before .before .before .before .before .before .before .weight-at .ensures)
     (c .before .before .before .before .before .before .label-at .ensures) in
     let less = c .before .before .before .before .before .before .before .before .loop-test .taken in (
@@ -83,7 +83,7 @@ returns c =
     let same : l .v ≡ nodeCount (a .table .now) =
     omega (arith, n .node-count .ensures, c .loop-test .left, l .inv .0) in
     let words = a .e .head + a .e .page * a .pages in
-    subst (λ k. RecordsPut (nodeRow (a .table .now) (a .parents .now) (a .onward .now)) words k (a .out .now) (l .out))
+    subst (λ k. RecordsPut (nodeRow (a .table .now) (a .parents .now) (a .nexts .now)) words k (a .out .now) (l .out))
     same
     (l .inv .3)
 

@@ -68,12 +68,12 @@ returns c =
     let d = start .pre .0 .is in
     let count = h .before .before .before .before .before .before .node-count .ensures in
     let limit = h .before .before .before .before .before .limit-of .ensures in
-    let onward = h .before .before .link-next in
+    let nexts = h .before .before .link-next in
     let nodes = c .before .before .put-nodes in
-    all-put d t m (a .t4 .firsts) (a .t4 .lasts) (a .t4 .weights) (a .t4 .parents) (onward .result) (a .t4 .pages)
+    all-put d t m (a .t4 .firsts) (a .t4 .lasts) (a .t4 .weights) (a .t4 .parents) (nexts .result) (a .t4 .pages)
     (plan .pages-are) (plan .firsts-are good) (plan .lasts-are good)
     (λ q low high. plan .weights-are q (omega (arith, pageCount-le t m, start .pre .1 .tree .sound .count-high)))
-    (plan .parents-are) (next-of-page t m (a .t4 .page) (onward .result) _ count (plan .page-is) (onward .ensures))
+    (plan .parents-are) (next-of-page t m (a .t4 .page) (nexts .result) _ count (plan .page-is) (nexts .ensures))
     _ _ _
     (head-put d t m (a .out .now) _ _ _ _ (h .put-head .ensures) count limit (plan .pages-are)
     (omega (arith, start .pre .3)))
