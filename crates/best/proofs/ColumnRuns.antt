@@ -15,7 +15,7 @@ use borrow.Author.Tests.{leb-true, le-leb, lt-leb}
 use Rattle.model.specs.Basics.{pick}
 use Rattle.model.specs.Table.{maxNodes, maxLimit}
 use Rattle.model.specs.Steps.{Child, runOf}
-use Rattle.theory.specs.ReduceCount.{figuresOf}
+use Rattle.theory.specs.ReduceCount.{totalsOf}
 use Rattle.best.specs.Cells.{Cell, pageWord, noWord, lower, tryRun, stayCell, cellAt, longerRuns}
 use Rattle.best.specs.CellsArrays.{childIn, childrenIn, children-none, children-cons, children-good}
 use Rattle.best.specs.CellsArrays.{children-length, cellIn, Swept}
@@ -62,7 +62,7 @@ Tried K run len ks s cell = longerRuns K s run len ks cell
 
 -- second plans are being taken: the choices left lead to the run's figures
 pub record Taking (K c : ℕ) (rests gains prevs counts : List ℕ) (sums : Sums) (sum taken gain left : ℕ) : Type 0 where
-  pub figures : figuresOf (runOf K (lastChildrenIn rests gains prevs (sums .len) c))
+  pub figures : totalsOf (runOf K (lastChildrenIn rests gains prevs (sums .len) c))
       ≡ choosing gain left (countsOf counts) K (record { sum = sum; count = taken })
   pub gain-high : gain ≤ K
   pub taken-high : taken + sum ≤ sums .total
@@ -256,7 +256,7 @@ module _ {K start c : ℕ} {rests gains prevs xs : List ℕ} (f : Fillable K sta
           }
 
       module _ (high : sum ≤ K) (low : 1 ≤ sums .len) where
-        last-figures : figuresOf (runOf K (run (sums .len))) ≡ record { sum = sum; count = taken }
+        last-figures : totalsOf (runOf K (run (sums .len))) ≡ record { sum = sum; count = taken }
         last-figures = w .figures ∙ choosing-room gain left (countsOf counts) K
             (record { sum = sum; count = taken }) high
 

@@ -22,8 +22,8 @@ use Rattle.model.specs.Steps.{Member, Child, restSum, gainSum, takenCount, larg
 use Rattle.model.specs.Steps.{lightest, stopsAt}
 use Rattle.theory.specs.Ranges.{pick-true, pick-false}
 use Rattle.theory.specs.Reduce.{EachMember, GainFits, sumOf, leastSum, reduce-least, least-gain}
-use Rattle.theory.specs.ReduceCount.{Sound, asMember-sound, hasGain, countGain, countGain-cons, Counted, Figures}
-use Rattle.theory.specs.ReduceCount.{figuresOf, takeUpTo, takeUpTo-room, byCount, byCount-room, reduce-by-count}
+use Rattle.theory.specs.ReduceCount.{Sound, asMember-sound, hasGain, countGain, countGain-cons, Counted, Totals}
+use Rattle.theory.specs.ReduceCount.{totalsOf, takeUpTo, takeUpTo-room, byCount, byCount-room, reduce-by-count}
 use Rattle.best.specs.Cells.{Cell, pageWord, lower, tryRun, cellAt, longerRuns, GoodChild, GoodChildren}
 use Rattle.best.specs.Cells.{run-taken, entry-within, cell-entry}
 use Rattle.best.specs.CellsArrays.{Earlier, EachGood, childrenIn}
@@ -161,17 +161,17 @@ module _ {K : ℕ} {run : List Child} {len total gained top : ℕ} {counts : Lis
 -- ---- Second plans, one choice a turn
 
 -- what the choices left make of the figures: n more of the gain g, then c of each gain below it
-unfoldable pub choosing : ℕ → ℕ → (ℕ → ℕ) → ℕ → Figures → Figures
+unfoldable pub choosing : ℕ → ℕ → (ℕ → ℕ) → ℕ → Totals → Totals
 choosing zero n c room s = s
 choosing (suc g) n c room s = byCount g c room (takeUpTo n (suc g) room s)
 
-pub choosing-start : (g : ℕ) (c : ℕ → ℕ) (room : ℕ) (s : Figures) → byCount g c room s ≡ choosing g (c g) c room s
+pub choosing-start : (g : ℕ) (c : ℕ → ℕ) (room : ℕ) (s : Totals) → byCount g c room s ≡ choosing g (c g) c room s
 unfolding choosing byCount
 choosing-start zero c room s = refl
 choosing-start (suc g) c room s = refl
 
 -- none of this gain is left
-pub choosing-down : (g : ℕ) (c : ℕ → ℕ) (room : ℕ) (s : Figures) → 0 < g
+pub choosing-down : (g : ℕ) (c : ℕ → ℕ) (room : ℕ) (s : Totals) → 0 < g
     → choosing g 0 c room s ≡ choosing (g - 1) (c (g - 1)) c room s
 unfolding choosing takeUpTo
 choosing-down zero c room s p = absurd (omega arith)
@@ -192,12 +192,12 @@ choosing-take (suc g) (suc n) c room sum count p q over =
     rw (e, f, lt-leb sum room over)
 
 -- there is room
-pub choosing-room : (g n : ℕ) (c : ℕ → ℕ) (room : ℕ) (s : Figures) → s .sum ≤ room → choosing g n c room s ≡ s
+pub choosing-room : (g n : ℕ) (c : ℕ → ℕ) (room : ℕ) (s : Totals) → s .sum ≤ room → choosing g n c room s ≡ s
 unfolding choosing
 choosing-room zero n c room s h = refl
 choosing-room (suc g) n c room s h = rw (takeUpTo-room n (suc g) room s h) (byCount-room g c room s h)
 
-pub choosing-none : (n : ℕ) (c : ℕ → ℕ) (room : ℕ) (s : Figures) → choosing 0 n c room s ≡ s
+pub choosing-none : (n : ℕ) (c : ℕ → ℕ) (room : ℕ) (s : Totals) → choosing 0 n c room s ≡ s
 unfolding choosing
 choosing-none n c room s = refl
 
@@ -207,9 +207,9 @@ countsOf counts h = getD counts h 0
 module _ {K : ℕ} {run : List Child} {len total gained top : ℕ} {counts : List ℕ}
     (kept : RunSums K run len total gained top counts) where
   -- the figures of the run's members, with the second plans taken
-  pub run-figures : figuresOf (runOf K run)
+  pub run-figures : totalsOf (runOf K run)
       ≡ choosing top (countsOf counts top) (countsOf counts) K (record { sum = total; count = 0 })
-  unfolding runOf figuresOf
+  unfolding runOf totalsOf
   run-figures =
       let counted : Counted top (countsOf counts) (asMembers run) =
       record {
@@ -226,13 +226,13 @@ module _ {K : ℕ} {run : List Child} {len total gained top : ℕ} {counts : Lis
   unfolding stopsAt lightest
   run-stops = rw (kept .total-is, kept .gained-is)
 
-  module _ (sum taken : ℕ) (is : figuresOf (runOf K run) ≡ record { sum = sum; count = taken }) where
+  module _ (sum taken : ℕ) (is : totalsOf (runOf K run) ≡ record { sum = sum; count = taken }) where
     sum-is : restSum (runOf K run) ≡ sum
-    unfolding figuresOf
+    unfolding totalsOf
     sum-is = ap (λ f. f .sum) is
 
     taken-is : takenCount (runOf K run) ≡ taken
-    unfolding figuresOf
+    unfolding totalsOf
     taken-is = ap (λ f. f .count) is
 
     pub run-taken-le : taken ≤ len

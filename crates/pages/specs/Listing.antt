@@ -17,7 +17,7 @@ use Rattle.model.specs.declared.Answer.{Answer}
 use Rattle.theory.specs.Ranges.{Upto, pick-true, pick-false, listTo-zero, listTo-suc, listTo-cong}
 use Rattle.theory.specs.JudgeAnswers.{pageCount-le}
 use Rattle.judge.specs.declared.pages.Layout.{Layout}
-use Rattle.planner.specs.Outcome.{outcome, PlanLaid}
+use Rattle.planner.specs.Outcome.{outcome, FeasibleLayout}
 use Rattle.pages.specs.Text.{headLine, pageLine, refusalLine, planLines, answerLines}
 
 -- ---- Lines of a layout
@@ -48,7 +48,7 @@ module _ (l : Layout) (limit : ℕ) where
       (ap (λ (x : List ℕ). headOf l limit ++ x) (listTo-suc n (lineOf l))
       ∙ sym (append-assoc (headOf l limit) (listTo n (lineOf l)) (lineOf l (suc n))))
 
-module _ {t m : List ℕ} {l : Layout} (p : PlanLaid t m l) where
+module _ {t m : List ℕ} {l : Layout} (p : FeasibleLayout t m l) where
   -- a page's number is a place of the arrays
   page-slot : (q : ℕ) → q ≤ pageCount t m → q < slots
   page-slot q high = omega (arith, pageCount-le t m, p .judged .tree .sound .count-high)

@@ -20,7 +20,7 @@ use Rattle.theory.specs.JudgeAnswers.{tree-accepted, marksAnswer, judge-then}
 use Rattle.theory.specs.PromisePlanner.{passes-lent, planned-done, planned-refused, plan-promise, best-promise}
 use Rattle.judge.specs.Rows.{IsLayout}
 use Rattle.judge.specs.declared.pages.Layout.{Layout}
-use Rattle.planner.specs.Outcome.{outcome, PlanReady, PlanLaid}
+use Rattle.planner.specs.Outcome.{outcome, PlanReady, FeasibleLayout}
 
 -- ---- The refusals
 
@@ -81,7 +81,7 @@ module _ (t m s : List ℕ) (r : Answer) (is : r ≡ firstOf (planChecks t m s) 
 
 -- what the judge accepts is feasible
 pub judged-laid : (t m : List ℕ) (a : Answer) (l : Layout) → a ≡ judgePlan t m → (a .number ≡ 0 → IsLayout t m l)
-    → a .number ≡ 0 → PlanLaid t m l
+    → a .number ≡ 0 → FeasibleLayout t m l
 judged-laid t m a l e laid z =
     let zero = sym (ap (λ (x : Answer). x .number) e) ∙ z in
     record { judged = feasible-judged t m (judge-feasible t m zero); layout = laid z }

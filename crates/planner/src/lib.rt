@@ -17,7 +17,7 @@ ghost use mathlib.Core.Path.{_≡_};
 ghost use Rattle.model.specs.Table.{limitOf, treeOf};
 ghost use Rattle.model.specs.Refusals.{planned, planBest, planLevel, planSingle, planPair};
 ghost use Rattle.model.specs.Demand.{PlanPromise, BestPromise};
-ghost use Rattle.planner.specs.Outcome.{outcome, stepsOf, PlanReady, PlanLaid};
+ghost use Rattle.planner.specs.Outcome.{outcome, stepsOf, PlanReady, FeasibleLayout};
 
 // Whose steps make the plan.
 enum Planner {
@@ -46,7 +46,7 @@ fn plan_pages(planner: Planner, table: &[u8], marks: &mut [u8], scratch: &mut [u
     ensures { λ r. ⌜ outcome (r .answer) (now (marks .exit)) (now (scratch .exit))
         ≡ planned (stepsOf planner) (now (table .entry)) (now (marks .entry)) (now (scratch .entry)) ⌝ }
     ensures { λ r. ⌜ (r .answer .number ≡ 0
-        → PlanLaid (now (table .entry)) (now (marks .exit)) (r .layout)) ⌝ }
+        → FeasibleLayout (now (table .entry)) (now (marks .exit)) (r .layout)) ⌝ }
 {
     let checked = check_plan(table, marks, scratch);
     if checked.number != 0 {
@@ -62,7 +62,7 @@ pub fn plan_best_pages(table: &[u8], marks: &mut [u8], scratch: &mut [u32]) -> J
     ensures { λ r. ⌜ outcome (r .answer) (now (marks .exit)) (now (scratch .exit)) ≡ planBest
         (now (table .entry)) (now (marks .entry)) (now (scratch .entry)) ⌝ }
     ensures { λ r. ⌜ (r .answer .number ≡ 0
-        → PlanLaid (now (table .entry)) (now (marks .exit)) (r .layout)) ⌝ }
+        → FeasibleLayout (now (table .entry)) (now (marks .exit)) (r .layout)) ⌝ }
 {
     plan_pages(Planner::Best, table, marks, scratch)
 }

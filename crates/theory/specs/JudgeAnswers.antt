@@ -1,7 +1,7 @@
 -- The answers of the tree reader and of the judge: what acceptance tells of a tree, and the judge's answer from the
 -- tree's and the marks'.
 -- Defines headAnswer, nodeAnswer, marksAnswer. Proves tree-accepted, tree-facts; head-refuses, head-goes-on,
--- head-count; judge-then, marks-length, marks-verdict; pageCount-le. Assumes nothing.
+-- head-count; judge-then, marks-refused, marks-verdict; pageCount-le. Assumes nothing.
 use Prim.Native.Nat.{ℕ, _≤_}
 use mathlib.Core.Path.{_≡_, refl, sym, ap, _∙_}
 use mathlib.Core.Bool.{true, not}
@@ -91,8 +91,8 @@ module _ (t m : List ℕ) where
       (verdict-stands (badMark t m) (heavyPage t m) (Feasible (pageCount t m) (pageWeight t m 1)))
 
   -- a plan that is not one mark a node
-  pub marks-length : (length m ≡ nodeCount t → ⊥) → refused 8 (nodeCount t) ≡ marksAnswer t m
-  marks-length h =
+  pub marks-refused : (length m ≡ nodeCount t → ⊥) → refused 8 (nodeCount t) ≡ marksAnswer t m
+  marks-refused h =
       sym
       (marks-are
       ∙ atPlace-at _ (nodeCount t) (refused 8) _

@@ -1,6 +1,6 @@
 -- What counting gains needs of `reduce`: its figures, the sum and how many members were taken, follow from the sum,
 -- the room and how many members have each gain.
--- Defines Sound, hasGain, countGain, Figures, figuresOf, takeUpTo, byCount, Counted. Proves reduce-stop, reduce-turn
+-- Defines Sound, hasGain, countGain, Totals, totalsOf, takeUpTo, byCount, Counted. Proves reduce-stop, reduce-turn
 -- (one turn), earliest-rest, earliest-taken, earliest-count, earliest-count-other (what a turn does to the figures
 -- and to each count) and reduce-by-count (the figures of `reduce`, from the largest gain down). Assumes nothing.
 use Prim.Native.Nat.{ℕ, zero, suc, _+_, _-_, _≤_, _<_}
@@ -107,30 +107,30 @@ earliest-largest (there n r) = omega (arith, earliest-largest r)
 
 -- ---- The figures, from the largest gain down
 
-pub record Figures : Type 0 where
+pub record Totals : Type 0 where
   pub sum : ℕ
   pub count : ℕ
 
-unfoldable pub figuresOf : List Member → Figures
-figuresOf ms = record { sum = restSum ms; count = takenCount ms }
+unfoldable pub totalsOf : List Member → Totals
+totalsOf ms = record { sum = restSum ms; count = takenCount ms }
 
 -- the gain g is taken at most n times, while the sum has no room
-unfoldable pub takeUpTo : ℕ → ℕ → ℕ → Figures → Figures
+unfoldable pub takeUpTo : ℕ → ℕ → ℕ → Totals → Totals
 takeUpTo zero g room s = s
 takeUpTo (suc n) g room s =
     pick (leb (s .sum) room) s (takeUpTo n g room (record { sum = s .sum - g; count = suc (s .count) }))
 
 -- each gain from g down to 1, of which there are c g
-unfoldable pub byCount : ℕ → (ℕ → ℕ) → ℕ → Figures → Figures
+unfoldable pub byCount : ℕ → (ℕ → ℕ) → ℕ → Totals → Totals
 byCount zero c room s = s
 byCount (suc g) c room s = byCount g c room (takeUpTo (c (suc g)) (suc g) room s)
 
-pub takeUpTo-room : (n g room : ℕ) (s : Figures) → s .sum ≤ room → takeUpTo n g room s ≡ s
+pub takeUpTo-room : (n g room : ℕ) (s : Totals) → s .sum ≤ room → takeUpTo n g room s ≡ s
 unfolding takeUpTo pick
 takeUpTo-room zero g room s h = refl
 takeUpTo-room (suc n) g room s h = rw (le-leb (s .sum) room h)
 
-pub byCount-room : (g : ℕ) (c : ℕ → ℕ) (room : ℕ) (s : Figures) → s .sum ≤ room → byCount g c room s ≡ s
+pub byCount-room : (g : ℕ) (c : ℕ → ℕ) (room : ℕ) (s : Totals) → s .sum ≤ room → byCount g c room s ≡ s
 unfolding byCount
 byCount-room zero c room s h = refl
 byCount-room (suc g) c room s h = rw (takeUpTo-room (c (suc g)) (suc g) room s h) (byCount-room g c room s h)
@@ -159,41 +159,41 @@ counted-turn r k =
     }
 
 figures-turn : {g : ℕ} {ms ns : List Member} → Earliest (suc g) ms ns → EachMember Sound ms
-    → figuresOf ns ≡ record { sum = restSum ms - suc g; count = suc (takenCount ms) }
-unfolding figuresOf
+    → totalsOf ns ≡ record { sum = restSum ms - suc g; count = suc (takenCount ms) }
+unfolding totalsOf
 figures-turn {g} {ms} {ns} r h =
     let sum-is : restSum ns ≡ restSum ms - suc g = omega (arith, earliest-rest r h) in
     rw (sum-is, earliest-taken (omega arith) r h)
 
 module _ (g : ℕ) (c : ℕ → ℕ) (room : ℕ)
-    (lower : (ms : List Member) → Counted g c ms → figuresOf (reduce room ms) ≡ byCount g c room (figuresOf ms))
+    (lower : (ms : List Member) → Counted g c ms → totalsOf (reduce room ms) ≡ byCount g c room (totalsOf ms))
   where
     level-by-count : (n : ℕ) (ms : List Member) → CountedAt g c n ms
-        → figuresOf (reduce room ms) ≡ byCount g c room (takeUpTo n (suc g) room (figuresOf ms))
-    unfolding takeUpTo figuresOf pick
+        → totalsOf (reduce room ms) ≡ byCount g c room (takeUpTo n (suc g) room (totalsOf ms))
+    unfolding takeUpTo totalsOf pick
     level-by-count zero ms k =
         lower ms (record { sound = k .sound; below = largest-below g ms (k .below) (k .these); counts = k .counts })
     level-by-count (suc n) ms k = go (leb (restSum ms) room) refl (level-by-count n (takeEarliest (suc g) ms))
       where
         go : (b : Bool) → leb (restSum ms) room ≡ b
-            → (CountedAt g c n (takeEarliest (suc g) ms) → figuresOf (reduce room (takeEarliest (suc g) ms))
-            ≡ byCount g c room (takeUpTo n (suc g) room (figuresOf (takeEarliest (suc g) ms))))
-            → figuresOf (reduce room ms) ≡ byCount g c room (takeUpTo (suc n) (suc g) room (figuresOf ms))
+            → (CountedAt g c n (takeEarliest (suc g) ms) → totalsOf (reduce room (takeEarliest (suc g) ms))
+            ≡ byCount g c room (takeUpTo n (suc g) room (totalsOf (takeEarliest (suc g) ms))))
+            → totalsOf (reduce room ms) ≡ byCount g c room (takeUpTo (suc n) (suc g) room (totalsOf ms))
         go true e ih =
             let fits : restSum ms ≤ room = leb-true (restSum ms) room e in
-            rw (reduce-stop room ms (inl fits), e) (sym (byCount-room g c room (figuresOf ms) fits))
+            rw (reduce-stop room ms (inl fits), e) (sym (byCount-room g c room (totalsOf ms) fits))
         go false e ih =
             let over : room < restSum ms = leb-false (restSum ms) room e in
             let most : largestGain ms ≡ suc g =
             omega (arith, k .below, k .these, count-le-largest (suc g) ms (omega (arith, k .these))) in
             let r = earliest (suc g) ms (omega arith) most in
             let turn = rw most at (reduce-turn room ms (record { over = over; some = omega arith })) in
-            rw e (ap figuresOf turn ∙ ih (counted-turn r k)
+            rw e (ap totalsOf turn ∙ ih (counted-turn r k)
             ∙ ap (λ s. byCount g c room (takeUpTo n (suc g) room s)) (figures-turn r (k .sound)))
 
 -- The figures of reduced members: each gain from the largest down, taken while the sum has no room.
 pub reduce-by-count : (g : ℕ) (c : ℕ → ℕ) (room : ℕ) (ms : List Member) → Counted g c ms
-    → figuresOf (reduce room ms) ≡ byCount g c room (figuresOf ms)
+    → totalsOf (reduce room ms) ≡ byCount g c room (totalsOf ms)
 unfolding byCount
 reduce-by-count zero c room ms k = rw (reduce-stop room ms (inr (omega (arith, k .below))))
 reduce-by-count (suc g) c room ms k =

@@ -4,7 +4,7 @@ use native.Mathlib.Omega.{arith}
 use Rattle.model.specs.Refusals.{refused}
 use Rattle.model.specs.declared.Answer.{Answer}
 use Rattle.theory.specs.Checks.{then-next, then-stands}
-use Rattle.theory.specs.JudgeAnswers.{marks-length, marks-verdict}
+use Rattle.theory.specs.JudgeAnswers.{marks-refused, marks-verdict}
 use borrow.Author.Needs.{needs}
 use Rattle.judge.proofs.judge_pages.Statement.{statement}
 use Rattle.judge.proofs.judge_pages.Tie as tie
@@ -22,7 +22,7 @@ returns-2 c =
     let n = c .before .before .before in
     let r = c .without-layout2 .ensures ∙ c .before .refuse .ensures ∙ ap (refused 8) (n .node-count .ensures) in (
       r
-          ∙ marks-length _ _ (λ z. omega (arith, c .before .before .if2, n .node-count .ensures))
+          ∙ marks-refused _ _ (λ z. omega (arith, c .before .before .if2, n .node-count .ensures))
           ∙ sym (then-next _ _ (n .before .if1 .left)),
       λ z. absurd (omega (arith, ap (λ (x : Answer). x .number) r)),
     )

@@ -1,7 +1,7 @@
 -- `pages::report::report_plan` meets its contract. Assumes nothing.
 use mathlib.Core.Path.{_∙_, ap}
 use native.Mathlib.Omega.{arith}
-use Rattle.planner.specs.Outcome.{PlanLaid}
+use Rattle.planner.specs.Outcome.{FeasibleLayout}
 use Rattle.pages.specs.Appended.{filled-first}
 use Rattle.pages.specs.Listing.{layoutLines, pages-most, layout-lines, lines-refused, lines-planned}
 use borrow.Author.Needs.{needs}
@@ -19,7 +19,7 @@ made c = c .before .before .before .before .before .before
 -- the plan that was accepted
 laid : (c : tie.Else1)
     → let p = made (c .before) in
-    PlanLaid (start p .args .table .now) (p .plan-best-pages .last .1 .0) (p .plan-best-pages .result .layout)
+    FeasibleLayout (start p .args .table .now) (p .plan-best-pages .last .1 .0) (p .plan-best-pages .result .layout)
 laid c = made (c .before) .plan-best-pages .ensures .1 (c .if1 .left)
 
 -- ---- The needs
