@@ -1,10 +1,10 @@
 // The archive: its writer and its reader, in an edition. Refusals 12 and 13.
 mod decode;
-pub mod fields;
+mod fields;
 mod links;
 mod read;
 mod records;
-pub mod size;
+mod size;
 mod write;
 
 pub use read::read_archive;

@@ -134,7 +134,7 @@ module _ (e : Edition) (t m out : List ℕ) where
 
   -- ---- The entry
 
-  pub write-feasible : passes (writeChecks e t m out) ≡ true → feasiblePlan t m ≡ true
+  write-feasible : passes (writeChecks e t m out) ≡ true → feasiblePlan t m ≡ true
   unfolding writeChecks feasiblePlan
   write-feasible p = passes-both (judgeChecks t m) (filmChecks e t m out) p .0
 
@@ -292,13 +292,13 @@ module _ (e : Edition) (a t m : List ℕ) where
 
   -- ---- What the reader's answer tells: the bytes are an archive, and the table and the marks are those that it tells
 
-  pub pass-archive : passes (readChecks e a t m) ≡ true → isArchive e a ≡ true
+  pass-archive : passes (readChecks e a t m) ≡ true → isArchive e a ≡ true
   unfolding Pass readChecks noArchive
   pass-archive p =
       not-false (isArchive e a) (when-nowhere (not (isArchive e a)) 0 (pass-all (readChecks e a t m) .0 p .0))
 
   -- an archive's own answer is acceptance
-  pub archive-zero : isArchive e a ≡ true → answerOf (verdictOf (tableIn e a) (marksIn e a)) .number ≡ 0
+  archive-zero : isArchive e a ≡ true → answerOf (verdictOf (tableIn e a) (marksIn e a)) .number ≡ 0
   archive-zero is = feasible-zero (tableIn e a) (marksIn e a) (read-write e a is .feasible)
 
   pub reader-done : readArchive e a t m .answer .number ≡ 0

@@ -51,7 +51,7 @@ judged-light {t} {m} p q low high =
 
 -- ---- A table is told by its words
 
-unfoldable pub tableRow : List ℕ → ℕ → List ℕ
+unfoldable tableRow : List ℕ → ℕ → List ℕ
 tableRow t v = weightAt t v ∷ labelAt t v ∷ firstAt t v ∷ nextAt t v ∷ []
 
 four-row : (t : List ℕ) (v : ℕ) → length (tableRow t v) ≡ 4
@@ -66,7 +66,7 @@ row-field t v (suc (suc zero)) h = refl
 row-field t v (suc (suc (suc zero))) h = refl
 row-field t v (suc (suc (suc (suc f)))) h = absurd (omega arith)
 
-pub table-words : (t : List ℕ) → Bytes t → length t ≡ tableBytes (nodeCount t)
+table-words : (t : List ℕ) → Bytes t → length t ≡ tableBytes (nodeCount t)
     → bytesOf (nodeCount t ∷ limitOf t ∷ listTo (nodeCount t) (tableRow t)) ≡ t
 unfolding fieldAt
 table-words t b long =
@@ -105,7 +105,7 @@ module _ {e : Edition} (d : Described e) {t m : List ℕ} (p : Judged t m) where
   g : GoodMarks t m
   g = good-marks t m (p .marked)
 
-  pub archive-first : (v : ℕ) → 1 ≤ v → v ≤ nodeCount t → firstIn e (archiveOf e t m) v ≡ firstAt t v
+  archive-first : (v : ℕ) → 1 ≤ v → v ≤ nodeCount t → firstIn e (archiveOf e t m) v ≡ firstAt t v
   unfolding firstIn s
   archive-first v low high =
       ap (λ n. pick (ltb v n && eqb (parentIn e a (v + 1)) v) (v + 1) 0) (archive-nodes d t m)

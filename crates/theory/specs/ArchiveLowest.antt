@@ -1,7 +1,7 @@
 -- Demand 3 read off the archive's bytes, in an edition: page count, the weight in page record 1 and the runs in the
 -- page records are the plan's; so where a planner promises that its plan is the lowest, the archive of that plan is the
 -- lowest too.
--- Proves archive-runs, archive-root, plan-feasible, film-lowest. Assumes nothing.
+-- Proves plan-feasible, film-lowest. Assumes nothing.
 use Prim.Native.Nat.{ℕ, suc, _-_, _≤_, _<_}
 use native.Mathlib.Omega.{arith}
 use mathlib.Core.Path.{_≡_, sym, _∙_, ap, ap₂}
@@ -40,7 +40,7 @@ module _ {e : Edition} (d : Described e) (t m : List ℕ) where
       (archive-end d t m (suc i) (omega arith) high)
       ∙ ap (λ j. getD (runsOf t m) j rootRun) (omega arith)
 
-  pub archive-runs : runsIn e (archiveOf e t m) ≡ runsOf t m
+  archive-runs : runsIn e (archiveOf e t m) ≡ runsOf t m
   unfolding runsIn
   archive-runs =
       let long = length-listTo (pagesIn e a) (runIn e a) in
@@ -50,7 +50,7 @@ module _ {e : Edition} (d : Described e) (t m : List ℕ) where
       let less : i < pagesIn e a =
       rw long at h in getD-listTo (pagesIn e a) i (runIn e a) rootRun less ∙ run-back i less)
 
-  pub archive-root : 1 ≤ pageCount t m → rootIn e (archiveOf e t m) ≡ pageWeight t m 1
+  archive-root : 1 ≤ pageCount t m → rootIn e (archiveOf e t m) ≡ pageWeight t m 1
   unfolding rootIn
   archive-root some = archive-weight d t m 1 (omega arith) some
 

@@ -114,7 +114,7 @@ module _ {e : Edition} (d : Described e) (t m : List ℕ) where
   archive-pages = archive-head (e .head - 1) (omega (arith, d .head-low)) ∙ d .pages-at t m
 
   -- word f of page q's record
-  pub archive-page : (q f : ℕ) → 1 ≤ q → q ≤ pageCount t m → f < e .page
+  archive-page : (q f : ℕ) → 1 ≤ q → q ≤ pageCount t m → f < e .page
       → pageFieldIn e (archiveOf e t m) q f ≡ getD (pageRecord e t m q) f 0
   unfolding pageFieldIn
   archive-page q f low high less =
