@@ -183,7 +183,8 @@ module _ (g : ℕ) (c : ℕ → ℕ) (room : ℕ)
     (next : (ms : List Member) → Counted g c ms → reduce room ms ≡ takeByLevel (levelFrom g c room (restSum ms)) ms)
   where
     -- n members have the gain g + 1, and t had it
-    level-reduce : (n t : ℕ) (ms ls : List Member) → EachMember Sound ms → largestGain ms ≤ suc g → countGain (suc g) ms ≡ n
+    level-reduce : (n t : ℕ) (ms ls : List Member) → EachMember Sound ms → largestGain ms ≤ suc g
+        → countGain (suc g) ms ≡ n
         → ((h : ℕ) → 0 < h → h ≤ g → countGain h ms ≡ c h) → AfterTurns g t ms ls
         → reduce room ms ≡ takeByLevel (levelHere n t (suc g) room (restSum ms) (levelFrom g c room)) ls
     unfolding levelHere pick

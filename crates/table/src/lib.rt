@@ -1,4 +1,5 @@
-// The tree reader: words, the walk of the chains, and the refusals 1 to 7. Words are also put, for whoever writes a table.
+// The tree reader: words, the walk of the chains, and the refusals 1 to 7. Words are also put, for whoever writes a
+// table.
 pub mod put;
 mod walk;
 pub mod words;

@@ -95,7 +95,8 @@ module _ (K w l : ℕ) (kids next : Chain) (in-kids : PairLaid K kids) (in-next 
         rw (remainder-node K w kids next l)
         (laid-stays K w l kids-laid run (in-next .staying (nextSideCut K w kids next) false))
 
-    pair-continues : (cut : Bool) → MarksLaid K true this (layPair K this cut continues) 0 (unlessCut cut (remainder K this))
+    pair-continues : (cut : Bool) → MarksLaid K true this (layPair K this cut continues) 0
+        (unlessCut cut (remainder K this))
     unfolding layPair pick
     pair-continues true = pair-begins continues true
     pair-continues false =
