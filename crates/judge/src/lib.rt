@@ -1,14 +1,14 @@
 // The judge of plans: bad marks, page weights, and the verdict, with the layout that they come from. Refusals 1 to
 // 8, 10 and 11.
-pub mod marks;
-pub mod pages;
+mod marks;
+mod pages;
 
 use model::Answer;
 use model::Beside;
 use model::Cause;
 use model::Place;
 use model::Verdict;
-use pages::Layout;
+pub use pages::Layout;
 use pages::first_heavy;
 use pages::lay_pages;
 use pages::no_layout;

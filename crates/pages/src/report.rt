@@ -2,7 +2,7 @@
 use crate::text::head_line;
 use crate::text::page_line;
 use crate::text::refusal_line;
-use judge::pages::Layout;
+use judge::Layout;
 use planner::plan_best_pages;
 use table::words::limit_of;
 use table::words::node_count;
