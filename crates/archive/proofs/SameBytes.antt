@@ -5,11 +5,12 @@ use mathlib.Core.Bool.{Bool, true, false}
 use mathlib.Core.Path.{_≡_, refl, sym, _∙_, ap}
 use mathlib.Core.List.{List}
 use lib.ListN.{length, getD, set}
-use lib.Seq.{ext-getD, getD-set-same, getD-set-other}
+use lib.Seq.{ext-getD}
 use lib.Dec.{eqb}
 use borrow.Author.Tests.{eqb-true, eqb-false}
 use Rattle.model.specs.Basics.{sameList}
 use Rattle.theory.specs.Bools.{never-true}
+use Rattle.theory.specs.Lists.{getD-set}
 use Rattle.theory.specs.ArchiveBack.{sameList-self, sameList-true}
 
 -- the bytes before i agree
@@ -44,7 +45,6 @@ bytes-differ a b i other = bytes-no a b (λ e. other (ap (λ l. getD l i 0) e))
 
 pub copy-turn : (from to : List ℕ) (i : ℕ) → SameUpto to from i → i < length to
     → SameUpto (set to i (getD from i 0)) from (i + 1)
-copy-turn from to i h fits =
-    same-turn (set to i (getD from i 0)) from i
-    (λ k less. getD-set-other to i k (getD from i 0) 0 (λ e. omega arith) ∙ h k less)
-    (getD-set-same to i (getD from i 0) 0 fits)
+copy-turn from to i h fits k less =
+    getD-set to i (getD from i 0) k (getD from k 0) (λ same. (fits, ap (λ j. getD from j 0) (sym same)))
+    (λ other. h k (omega arith))

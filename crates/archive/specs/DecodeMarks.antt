@@ -8,7 +8,7 @@ use mathlib.Core.Path.{_≡_, refl, sym, _∙_, ap, ap₂}
 use mathlib.Core.Logic.{_⊎_, inl, inr}
 use mathlib.Core.List.{List}
 use lib.ListN.{length, getD, take, set}
-use lib.Seq.{getD-set-same, getD-set-other, getD-take, length-take-le, ext-getD}
+use lib.Seq.{getD-take, length-take-le, ext-getD}
 use lib.Dec.{eqb, leb}
 use borrow.Author.Tests.{eqb-true, eqb-false, eq-eqb, ne-eqb, leb-true, le-leb, lt-leb}
 use Rattle.model.specs.Basics.{pick, countTo}
@@ -18,6 +18,7 @@ use Rattle.model.specs.Archive.{pagesIn, pageFieldIn}
 use Rattle.model.specs.declared.Edition.{Edition}
 use Rattle.theory.specs.Bools.{and-true, and-false-left, and-false-right}
 use Rattle.theory.specs.Ranges.{Upto, pick-true, pick-false, order-cases}
+use Rattle.theory.specs.Lists.{getD-set}
 use Rattle.theory.specs.TableFacts.{SoundFacts}
 use Rattle.theory.specs.TableLinks.{prevAt-less, prevAt-next, next-prev}
 use Rattle.theory.specs.Chosen.{ranked-one, countTo-mono, countTo-pass}
@@ -47,6 +48,15 @@ runEnd v last due = pick (eqb last 0) (pick (leb v due) due 0) last
 
 unfoldable pub markFor : ℕ → ℕ → ℕ
 markFor last end = pick (eqb last 0) (pick (eqb end 0) 0 2) 1
+
+-- a number that is not v + 1 is at most v just where it is at most v + 1
+leb-other : (x v : ℕ) → (x ≡ v + 1 → ⊥) → leb x v ≡ leb x (v + 1)
+leb-other x v other = by-order (order-cases x (v + 1))
+  where
+    by-order : (x < v + 1) ⊎ ((x ≡ v + 1) ⊎ (v + 1 < x)) → leb x v ≡ leb x (v + 1)
+    by-order (inl k) = le-leb x v (omega arith) ∙ sym (le-leb x (v + 1) (omega arith))
+    by-order (inr (inl k)) = absurd (other k)
+    by-order (inr (inr k)) = lt-leb x v (omega arith) ∙ sym (lt-leb x (v + 1) k)
 
 module _ (t m : List ℕ) where
   endOf-none : endOf t m 0 ≡ 0
@@ -93,36 +103,20 @@ module _ (t m : List ℕ) where
       → nodeCount t ≤ maxNodes
       → x ≡ nextAt t (v + 1) → end ≡ endOf t m (v + 1) → DueRow (v + 1) (set l x end)
   unfolding dueAt
-  due-turn s l v x end h long less few e q w later high = go (eqb w x) refl
-    where
-      other-leb : (prevAt t w ≡ v + 1 → ⊥) → leb (prevAt t w) v ≡ leb (prevAt t w) (v + 1)
-      other-leb other = by-order (order-cases (prevAt t w) (v + 1))
-        where
-          by-order : (prevAt t w < v + 1) ⊎ ((prevAt t w ≡ v + 1) ⊎ (v + 1 < prevAt t w))
-              → leb (prevAt t w) v ≡ leb (prevAt t w) (v + 1)
-          by-order (inl k) = le-leb (prevAt t w) v (omega arith) ∙ sym (le-leb (prevAt t w) (v + 1) (omega arith))
-          by-order (inr (inl k)) = absurd (other k)
-          by-order (inr (inr k)) = lt-leb (prevAt t w) v (omega arith) ∙ sym (lt-leb (prevAt t w) (v + 1) k)
-
-      go : (b : Bool) → eqb w x ≡ b
-          → getD (set l x end) w 0 ≡ pick (leb (prevAt t w) (v + 1)) (endOf t m (prevAt t w)) 0
-      go true d =
-          let same : w ≡ x = eqb-true w x d in
-          let before : prevAt t w ≡ v + 1 =
-          next-prev s (v + 1) w (omega arith) (omega arith) (omega arith) (sym e ∙ sym same) in
-          ap (λ j. getD (set l x end) j 0) same
-          ∙ getD-set-same l x end 0 (omega arith)
-          ∙ q
-          ∙ ap (endOf t m) (sym before)
-          ∙ sym
-          (pick-true (leb (prevAt t w) (v + 1)) (endOf t m (prevAt t w)) 0 (le-leb (prevAt t w) (v + 1) (omega arith)))
-      go false d =
-          let other : w ≡ x → ⊥ = eqb-false w x d in
-          let not-before : prevAt t w ≡ v + 1 → ⊥ =
-          λ k. other (sym (prevAt-next t w (omega arith)) ∙ ap (nextAt t) k ∙ sym e) in
-          getD-set-other l x w end 0 other
-          ∙ h w (omega arith) high
-          ∙ ap (λ b. pick b (endOf t m (prevAt t w)) 0) (other-leb not-before)
+  due-turn s l v x end h long less few e q w later high =
+      getD-set l x end w (pick (leb (prevAt t w) (v + 1)) (endOf t m (prevAt t w)) 0)
+      (λ same.
+      let before : prevAt t w ≡ v + 1 =
+      next-prev s (v + 1) w (omega arith) (omega arith) (omega arith) (sym e ∙ sym same) in (
+        omega arith,
+        q ∙ ap (endOf t m) (sym before)
+            ∙ sym (pick-true _ (endOf t m (prevAt t w)) 0 (le-leb (prevAt t w) (v + 1) (omega arith))),
+      ))
+      (λ other.
+      h w (omega arith) high
+      ∙ ap (λ b. pick b (endOf t m (prevAt t w)) 0)
+      (leb-other (prevAt t w) v
+      (λ k. other (sym (prevAt-next t w (omega arith)) ∙ ap (nextAt t) k ∙ sym e))))
 
 -- ---- The run end and the mark of a node
 
@@ -242,7 +236,19 @@ module _ {e : Edition} {a t m : List ℕ} (w : WrittenBy e a t m) where
   last-turn d l q first last h long less f g = on (page-first t m (q + 1) (omega arith) (omega arith))
     where
       on : (b : ℕ) × Page t m (q + 1) b → LastRow t m (q + 1) (set l first last)
-      on x v low high = go (eqb v first) refl
+      on x v low high =
+          getD-set l first last v (pick next (runLast t m v) 0)
+          (λ same.
+          let is-b : v ≡ b = same ∙ here in
+          let test : next ≡ true =
+          and-true (hasMark m begins v) (leb rank (q + 1)) (ap (hasMark m begins) is-b ∙ x .1 .passed)
+          (le-leb rank (q + 1) (omega (arith, ap (λ u. countTo u (hasMark m begins)) is-b, x .1 .rank))) in (
+            omega (arith, w .plan .tree .sound .count-high),
+            last-here ∙ ap (runLast t m) (sym is-b) ∙ sym (pick-true next (runLast t m v) 0 test),
+          ))
+          (λ other.
+          h v low high
+          ∙ ap (λ y. pick y (runLast t m v) 0) (same-test (λ k. other (k ∙ sym here)) (hasMark m begins v) refl))
         where
           b : ℕ
           b = x .0
@@ -253,51 +259,23 @@ module _ {e : Edition} {a t m : List ℕ} (w : WrittenBy e a t m) where
           last-here : last ≡ runLast t m b
           last-here = g ∙ by-end d w (q + 1) b (omega arith) (omega arith) (x .1)
 
+          rank : ℕ
+          rank = countTo v (hasMark m begins)
+
           next : Bool
-          next = hasMark m begins v && leb (countTo v (hasMark m begins)) (q + 1)
+          next = hasMark m begins v && leb rank (q + 1)
 
           -- another node has another rank
-          same-test : (v ≡ b → ⊥) → (c : Bool) → hasMark m begins v ≡ c
-              → (hasMark m begins v && leb (countTo v (hasMark m begins)) q) ≡ next
-          same-test other true e = by-order (order-cases (countTo v (hasMark m begins)) (q + 1))
-            where
-              by-order : (countTo v (hasMark m begins) < q + 1)
-                  ⊎ ((countTo v (hasMark m begins) ≡ q + 1) ⊎ (q + 1 < countTo v (hasMark m begins)))
-                  → (hasMark m begins v && leb (countTo v (hasMark m begins)) q) ≡ next
-              by-order (inl k) =
-                  ap (λ y. hasMark m begins v && y)
-                  (le-leb (countTo v (hasMark m begins)) q (omega arith)
-                  ∙ sym (le-leb (countTo v (hasMark m begins)) (q + 1) (omega arith)))
-              by-order (inr (inl k)) =
-                  let mine : Page t m (q + 1) v = record { low = low; high = high; passed = e; rank = k } in
-                  absurd (other (ranked-one (hasMark m begins) mine (x .1)))
-              by-order (inr (inr k)) =
-                  ap (λ y. hasMark m begins v && y)
-                  (lt-leb (countTo v (hasMark m begins)) q (omega arith)
-                  ∙ sym (lt-leb (countTo v (hasMark m begins)) (q + 1) k))
+          same-test : (v ≡ b → ⊥) → (c : Bool) → hasMark m begins v ≡ c → (hasMark m begins v && leb rank q) ≡ next
+          same-test other true e =
+              ap (λ y. hasMark m begins v && y)
+              (leb-other rank q
+              (λ k.
+              other
+              (ranked-one (hasMark m begins) (record { low = low; high = high; passed = e; rank = k }) (x .1))))
           same-test other false e =
-              and-false-left (hasMark m begins v) (leb (countTo v (hasMark m begins)) q) e
-              ∙ sym (and-false-left (hasMark m begins v) (leb (countTo v (hasMark m begins)) (q + 1)) e)
-
-          go : (c : Bool) → eqb v first ≡ c → getD (set l first last) v 0 ≡ pick next (runLast t m v) 0
-          go true e =
-              let same : v ≡ first = eqb-true v first e in
-              let is-b : v ≡ b = same ∙ here in
-              let test : next ≡ true =
-              and-true (hasMark m begins v) (leb (countTo v (hasMark m begins)) (q + 1))
-              (ap (hasMark m begins) is-b ∙ x .1 .passed)
-              (le-leb (countTo v (hasMark m begins)) (q + 1)
-              (omega (arith, ap (λ u. countTo u (hasMark m begins)) is-b, x .1 .rank))) in
-              ap (λ j. getD (set l first last) j 0) same
-              ∙ getD-set-same l first last 0 (omega (arith, w .plan .tree .sound .count-high))
-              ∙ last-here
-              ∙ ap (runLast t m) (sym is-b)
-              ∙ sym (pick-true next (runLast t m v) 0 test)
-          go false e =
-              let other : v ≡ first → ⊥ = eqb-false v first e in
-              getD-set-other l first v last 0 other
-              ∙ h v low high
-              ∙ ap (λ y. pick y (runLast t m v) 0) (same-test (λ k. other (k ∙ sym here)) (hasMark m begins v) refl)
+              and-false-left (hasMark m begins v) (leb rank q) e
+              ∙ sym (and-false-left (hasMark m begins v) (leb rank (q + 1)) e)
 
   last-end : (l : List ℕ) (q : ℕ) → LastRow t m q l → pageCount t m ≤ q → Lasts t m l
   unfolding lastAt pageCount
@@ -370,17 +348,9 @@ marks-turn lasts links nodes v out due end mark next h long less room e k q t m 
     )
   where
     row : MarksRow m v out → mark ≡ markAt m (v + 1) → MarksRow m (v + 1) (set out v mark)
-    row old here u low high = go (eqb u (v + 1)) refl
-      where
-        go : (b : Bool) → eqb u (v + 1) ≡ b → getD (set out v mark) (u - 1) 0 ≡ markAt m u
-        go true d =
-            let same : u ≡ v + 1 = eqb-true u (v + 1) d in
-            let place : u - 1 ≡ v = omega arith in
-            ap (λ j. getD (set out v mark) j 0) place ∙ getD-set-same out v mark 0 room ∙ here
-            ∙ ap (markAt m) (sym same)
-        go false d =
-            let other : u ≡ v + 1 → ⊥ = eqb-false u (v + 1) d in
-            getD-set-other out v (u - 1) mark 0 (λ z. omega arith) ∙ old u low (omega arith)
+    row old here u low high =
+        getD-set out v mark (u - 1) (markAt m u) (λ same. (room, here ∙ ap (markAt m) (omega arith)))
+        (λ other. old u low (omega arith))
 
 -- ---- The lasts, from the page records
 

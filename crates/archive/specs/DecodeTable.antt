@@ -7,9 +7,8 @@ use mathlib.Core.Bool.{Bool, true, false}
 use mathlib.Core.Path.{_≡_, refl, sym, _∙_, ap}
 use mathlib.Core.List.{List, [], _∷_}
 use lib.ListN.{length, getD, set}
-use lib.Seq.{getD-set-same, getD-set-other}
 use lib.Dec.{eqb, ltb}
-use borrow.Author.Tests.{eqb-true, eqb-false, ltb-true, lt-ltb}
+use borrow.Author.Tests.{ltb-true, lt-ltb}
 use Rattle.model.specs.Basics.{pick, listTo}
 use Rattle.model.specs.Table.{bytesOf, nodeCount, nextAt, slots}
 use Rattle.model.specs.Plan.{parentAt, pageCount, runLast}
@@ -19,6 +18,7 @@ use Rattle.model.specs.Archive.{tableIn, marksIn}
 use Rattle.model.specs.Refusals.{isArchive}
 use Rattle.model.specs.declared.Edition.{Edition}
 use Rattle.theory.specs.Ranges.{Upto, pick-true, pick-false, listTo-cong}
+use Rattle.theory.specs.Lists.{getD-set}
 use Rattle.theory.specs.TableLinks.{parentAt-less}
 use Rattle.theory.specs.PlanFeasible.{Judged, feasible-judged}
 use Rattle.theory.specs.PagesByNumber.{Page}
@@ -91,16 +91,10 @@ Loaded e a v l = Upto v (λ u. getD l u 0 ≡ fitted (parentIn e a u))
 
 pub loaded-turn : (e : Edition) (a l : List ℕ) (v x : ℕ) → Loaded e a v l → length l ≡ slots → v + 1 < slots
     → x ≡ fitted (parentIn e a (v + 1)) → Loaded e a (v + 1) (set l (v + 1) x)
-loaded-turn e a l v x h long less is u low high = go (eqb u (v + 1)) refl
-  where
-    go : (b : Bool) → eqb u (v + 1) ≡ b → getD (set l (v + 1) x) u 0 ≡ fitted (parentIn e a u)
-    go true q =
-        let same : u ≡ v + 1 = eqb-true u (v + 1) q in
-        ap (λ j. getD (set l (v + 1) x) j 0) same ∙ getD-set-same l (v + 1) x 0 (omega arith)
-        ∙ is ∙ ap (λ j. fitted (parentIn e a j)) (sym same)
-    go false q =
-        let other : u ≡ v + 1 → ⊥ = eqb-false u (v + 1) q in
-        getD-set-other l (v + 1) u x 0 other ∙ h u low (omega arith)
+loaded-turn e a l v x h long less is u low high =
+    getD-set l (v + 1) x u (fitted (parentIn e a u))
+    (λ same. (omega arith, is ∙ ap (λ j. fitted (parentIn e a j)) (sym same)))
+    (λ other. h u low (omega arith))
 
 -- the links of the parents of an archive are its siblings
 module _ {e : Edition} (d : Described e) {a t m : List ℕ} (w : WrittenBy e a t m) (parents links : List ℕ)

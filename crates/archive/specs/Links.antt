@@ -2,19 +2,19 @@
 -- LinkedFrom. Assumes nothing.
 use Prim.Native.Nat.{ℕ, _-_, _≤_, _<_}
 use native.Mathlib.Omega.{arith}
-use mathlib.Core.Bool.{Bool, true, false, _&&_}
+use mathlib.Core.Bool.{false, _&&_}
 use mathlib.Core.Path.{_≡_, refl, sym, _∙_, ap}
 use mathlib.Core.Logic.{_⊎_, inl, inr}
 use mathlib.Core.List.{List}
 use lib.ListN.{length, getD, set}
-use lib.Seq.{getD-set-same, getD-set-other}
 use lib.Dec.{eqb, ltb}
-use borrow.Author.Tests.{eqb-true, eqb-false, eq-eqb, ne-eqb, lt-ltb, le-ltb}
+use borrow.Author.Tests.{eq-eqb, ne-eqb, lt-ltb, le-ltb}
 use Rattle.model.specs.Basics.{atPlace, firstTo}
 use Rattle.theory.specs.Bools.{and-true, and-false-left, and-false-right}
 use Rattle.theory.specs.Ranges.{Upto, atPlace-at, atPlace-nowhere, firstTo-none, firstTo-first}
 use Rattle.theory.specs.Ranges.{firstTo-cong, order-cases}
 use Rattle.model.specs.Table.{slots}
+use Rattle.theory.specs.Lists.{getD-set}
 use Rattle.theory.specs.ArchiveBack.{found-small}
 use Rattle.judge.specs.Rows.{Row}
 use Rattle.model.specs.declared.Place.{Place}
@@ -94,27 +94,14 @@ module _ (f : ℕ → ℕ) (n : ℕ) where
 
   pub seen-turn : (l : List ℕ) (v : ℕ) → Seen f n v l → length l ≡ slots → 1 ≤ v → v ≤ n → f v < slots
       → Seen f n (v - 1) (set l (f v) v)
-  seen-turn l v h long low high fits k within = go (eqb k (f v)) refl
-    where
-      go : (b : Bool) → eqb k (f v) ≡ b → getD (set l (f v) v) k 0 ≡ nextWith f n (v - 1) k
-      go true e =
-          let same : k ≡ f v = eqb-true k (f v) e in
-          ap (λ j. getD (set l (f v) v) j 0) same ∙ getD-set-same l (f v) v 0 (omega arith)
-          ∙ sym (ap (nextWith f n (v - 1)) same ∙ nextWith-here f n v low high)
-      go false e =
-          let other : k ≡ f v → ⊥ = eqb-false k (f v) e in
-          getD-set-other l (f v) k v 0 other ∙ h k within ∙ sym (nextWith-skip f n v k low (λ q. other (sym q)))
+  seen-turn l v h long low high fits k within =
+      getD-set l (f v) v k (nextWith f n (v - 1) k)
+      (λ same. (omega arith, sym (ap (nextWith f n (v - 1)) same ∙ nextWith-here f n v low high)))
+      (λ other. h k within ∙ sym (nextWith-skip f n v k low (λ q. other (sym q))))
 
   pub linked-turn : (s l : List ℕ) (v : ℕ) → Seen f n v s → LinkedFrom f n v l → v < length l → f v < slots → 1 ≤ v
       → LinkedFrom f n (v - 1) (set l v (getD s (f v) 0))
-  linked-turn s l v seen h fits key low u less high = go (eqb u v) refl
-    where
-      go : (b : Bool) → eqb u v ≡ b → getD (set l v (getD s (f v) 0)) u 0 ≡ nextWith f n u (f u)
-      go true e =
-          let same : u ≡ v = eqb-true u v e in
-          ap (λ j. getD (set l v (getD s (f v) 0)) j 0) same ∙ getD-set-same l v (getD s (f v) 0) 0 fits
-          ∙ seen (f v) key
-          ∙ ap (λ j. nextWith f n j (f j)) (sym same)
-      go false e =
-          let other : u ≡ v → ⊥ = eqb-false u v e in
-          getD-set-other l v u (getD s (f v) 0) 0 other ∙ h u (omega arith) high
+  linked-turn s l v seen h fits key low u less high =
+      getD-set l v (getD s (f v) 0) u (nextWith f n u (f u))
+      (λ same. (fits, seen (f v) key ∙ ap (λ j. nextWith f n j (f j)) (sym same)))
+      (λ other. h u (omega arith) high)

@@ -8,8 +8,8 @@ use Prim.Native.Nat.{ℕ, zero, suc, _+_, _-_, _*_, _≤_, _<_}
 use native.Mathlib.Omega.{arith}
 use native.Mathlib.Numerals.{add-one}
 use lib.ListN.{length, getD, set, replicate, getD-replicate, length-set}
-use lib.Seq.{getD-set-same, getD-set-other}
-use borrow.Author.Tests.{eqb-true, eqb-false, eq-eqb, ne-eqb}
+use lib.Seq.{getD-set-other}
+use borrow.Author.Tests.{eqb-false, eq-eqb, ne-eqb}
 use Rattle.model.specs.Basics.{pick, when, atPlace, countTo, firstTo, lastTo}
 use Rattle.model.specs.Table.{maxNodes, maxLimit, slots, nodeCount, limitOf, weightAt, nextAt}
 use Rattle.model.specs.Plan.{prevAt, parentAt, markAt, hasMark, begins, inRun, goodMark, pageOf}
@@ -19,6 +19,7 @@ use Rattle.model.specs.declared.Place.the-variants.{At}
 use Rattle.theory.specs.Ranges.{pick-true, pick-false, countTo-zero, countTo-suc, countTo-le}
 use Rattle.theory.specs.Ranges.{firstTo-zero, firstTo-suc, firstTo-cong, lastTo-zero, lastTo-yes, lastTo-no}
 use Rattle.theory.specs.Sums.{sumTo-most}
+use Rattle.theory.specs.Lists.{getD-set}
 use Rattle.theory.specs.TableFacts.{AcceptedFacts}
 use Rattle.theory.specs.TableLinks.{next-le, prevAt-less}
 use Rattle.theory.specs.PlanPass.{stepBack, back-less, pageOf-none, pageOf-le, pageOf-step, parentAt-step}
@@ -34,13 +35,7 @@ use Rattle.judge.specs.Rows.{Row, goodCase, IsLayout, noLayout}
 -- what stands at w after a store of x at q, where x is g q and all else had its g already
 stored : (g : ℕ → ℕ) (l : List ℕ) (q x w : ℕ) → q < length l → x ≡ g q → ((w ≡ q → ⊥) → getD l w 0 ≡ g w)
     → getD (set l q x) w 0 ≡ g w
-stored g l q x w fits e other = go (eqb w q) refl
-  where
-    go : (b : Bool) → eqb w q ≡ b → getD (set l q x) w 0 ≡ g w
-    go true s =
-        let same : w ≡ q = eqb-true w q s in
-        ap (λ (k : ℕ). getD (set l q x) k 0) same ∙ getD-set-same l q x 0 fits ∙ e ∙ ap g (sym same)
-    go false s = getD-set-other l q w x 0 (eqb-false w q s) ∙ other (eqb-false w q s)
+stored g l q x w fits e other = getD-set l q x w (g w) (λ same. (fits, e ∙ ap g (sym same))) other
 
 -- an array has f w in each slot w
 pub record SlotsHold (f : ℕ → ℕ) (l : List ℕ) : Type 0 where

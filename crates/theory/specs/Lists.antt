@@ -1,13 +1,17 @@
 -- Tests and counts over lists, and over the list of what is made of each of 1 to n that passes a test: which elements
--- it has, and what is counted in it. Defines Mem, From. Proves every-all, all-every, countOf-one, chosen-from,
--- chosen-mem, countOf-chosen. Assumes nothing.
-use Prim.Native.Nat.{ℕ, zero, suc, _+_, _≤_}
+-- it has, and what is counted in it; and what stands in a list of numbers after a store. Defines Mem, From. Proves
+-- every-all, all-every, countOf-one, chosen-from, chosen-mem, countOf-chosen; getD-set. Assumes nothing.
+use Prim.Native.Nat.{ℕ, zero, suc, _+_, _≤_, _<_}
 use native.Mathlib.Omega.{arith}
 use mathlib.Core.Bool.{Bool, true, false, _&&_, true≢false}
 use mathlib.Core.Path.{_≡_, refl, sym, _∙_, ap}
 use mathlib.Core.Logic.{_⊎_, inl, inr, ⊎-elim}
 use mathlib.Core.List.{List, [], _∷_, _++_, List·Memᴰ, List·Memᴰ·head, List·Memᴰ·tail, List·Memᴰ·not-nil}
 use mathlib.Core.List.{List·Memᴰ·append-cases, List·Memᴰ·eq-of-singleton, Memᴰ·append-left, Memᴰ·append-right}
+use lib.ListN.{length, getD, set}
+use lib.Seq.{getD-set-same, getD-set-other}
+use lib.Dec.{eqb}
+use borrow.Author.Tests.{eqb-true, eqb-false}
 use Rattle.model.specs.Basics.{pick, countTo, every}
 use Rattle.model.specs.Runs.{countOf}
 use Rattle.theory.specs.Bools.{bool-cases, both-true, and-false-left}
@@ -162,3 +166,16 @@ module _ {ℓ} {X : Type ℓ} (p : ℕ → Bool) (f : ℕ → X) where
       go false e ih =
           ap (countOf q) (chosen-no p f n e) ∙ ih
           ∙ sym (countTo-no n both (and-false-left (p (suc n)) (q (f (suc n))) e))
+
+-- ---- A store
+
+-- what stands at w after x is stored at q: y, where x is y if w is q, and y stood there if not
+pub getD-set : (l : List ℕ) (q x w y : ℕ) → (w ≡ q → (q < length l) × (x ≡ y)) → ((w ≡ q → ⊥) → getD l w 0 ≡ y)
+    → getD (set l q x) w 0 ≡ y
+getD-set l q x w y here there = go (eqb w q) refl
+  where
+    go : (b : Bool) → eqb w q ≡ b → getD (set l q x) w 0 ≡ y
+    go true e =
+        let same : w ≡ q = eqb-true w q e in
+        ap (λ (k : ℕ). getD (set l q x) k 0) same ∙ getD-set-same l q x 0 (here same .0) ∙ here same .1
+    go false e = let other = eqb-false w q e in getD-set-other l q w x 0 other ∙ there other
