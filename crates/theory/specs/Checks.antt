@@ -2,9 +2,9 @@
 -- list is told by its parts, so that a check put into one of them is met here and in the facts that the part stands
 -- for, and nowhere else.
 -- Defines Pass, Never, Plain, andThen. Proves pass-all, passes-append, passes-both, both-pass; firstOf-pass,
--- firstOf-stop, firstOf-all, firstOf-cons, firstOf-append; never-append, never-first, accepted-pass, refused-fails; that
--- no check gives 0, and that of the weights alone 7 (head-plain to read-never); then-next, then-stands, then-both,
--- firstOf-then. Assumes nothing.
+-- firstOf-stop, firstOf-all, firstOf-cons, firstOf-append; never-append, never-first, accepted-pass, refused-fails;
+-- that no check gives 0, and that of the weights alone 7 (head-plain to read-never); then-next, then-stands,
+-- then-both, firstOf-then. Assumes nothing.
 use Prim.Native.Nat.{ℕ}
 use mathlib.Core.Path.{_≡_, refl, sym, ap, ap₂, _∙_}
 use mathlib.Core.Bool.{Bool, true, false, not, _&&_, false≢true, true≢false}
