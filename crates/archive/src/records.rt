@@ -64,11 +64,11 @@ pub fn put_pages<'a>(
 }
 
 // The node records, after the page records.
-pub fn put_nodes<'a>(
+pub fn put_nodes(
     e: Edition,
     table: &[u8],
-    parents: &'a [u16; SLOTS],
-    nexts: &'a [u16; SLOTS],
+    parents: &[u16; SLOTS],
+    nexts: &[u16; SLOTS],
     pages: u16,
     out: &mut [u8],
 )

@@ -1,5 +1,5 @@
 -- The answers of the archive's writer and reader, case by case, and what each tells. writeFrom is the writer that goes
--- on from the answer of whatever judged the tree: so a reader may judge its tree otherwise than the writer's entry does.
+-- on from the answer of whatever judged the tree: a reader may judge its tree otherwise than the writer's entry does.
 -- Defines filmAnswer, writeFrom, WriteDone. Proves write-entry, write-done, writer-done, writer-refused; read-none,
 -- read-table, read-marks, read-done, reader-done, read-thirteen. Assumes nothing.
 use Prim.Native.Nat.{ℕ, _≤_}
