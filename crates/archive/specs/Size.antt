@@ -8,8 +8,8 @@ use Rattle.model.specs.Archive.{firstEdition, archiveBytes}
 use Rattle.model.specs.declared.Edition.{Edition}
 use Rattle.theory.specs.ArchiveWords.{Described, first-described}
 
--- Room for the largest edition: the words of its head and of a page record, and the most nodes, and so pages, of an
--- archive. It is the archive's own limit, by which film decks size their memory, and not the table's.
+-- Room for the largest edition in the reader's arrays: the words of its head and of a page record, and the most nodes,
+-- and so pages, of an archive. An edition's own limit is its description's.
 abbrev pub mostHead : ℕ
 mostHead = 3
 

@@ -4,8 +4,8 @@ ghost use mathlib.Core.Path.{_≡_};
 ghost use Rattle.model.specs.Archive.{firstEdition, archiveBytes};
 ghost use Rattle.archive.specs.Size.{InRoom};
 
-// Room for the largest edition: the words of its head and of a page record, and the most nodes, and so pages, of an
-// archive.
+// Room for the largest edition in the reader's arrays: the words of its head and of a page record, and the most nodes,
+// and so pages, of an archive.
 pub const MOST_HEAD: usize = 3;
 
 pub const MOST_PAGE: usize = 4;
