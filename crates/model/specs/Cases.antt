@@ -1,5 +1,5 @@
 -- Document 01, 'Trees on both sides' and the examples of 'What is refused', computed from the definitions: one result
--- for the starred cases and one for the refusals. Assumes nothing.
+-- for the starred cases and one for the refusals; and one for trees with unfiled lots. Assumes nothing.
 use mathlib.Core.Path.{_≡_, refl}
 use Prim.Native.Nat.{ℕ}
 use mathlib.Core.Bool.{Bool, true, not, _&&_}
@@ -18,7 +18,8 @@ use Rattle.model.specs.Table.{bytesOf, nodeCount, limitOf}
 use Rattle.model.specs.Runs.{Run, holds, withinLimit, runsOf, runCount, rootWeight}
 use Rattle.model.specs.Archive.{firstEdition, archiveOf}
 use Rattle.model.specs.Refusals.{refusedForWeight, readTree, judgePlan, planBest, planLevel, planSingle}
-use Rattle.model.specs.Refusals.{planPair, writeArchive, Written, readArchive, scratchWords, Planned}
+use Rattle.model.specs.Refusals.{planPair, writeArchive, writeUnfiled, Written, readArchive, scratchWords}
+use Rattle.model.specs.Refusals.{Planned}
 use Rattle.model.specs.declared.Beside.{Beside}
 use Rattle.model.specs.declared.Beside.the-variants.{Given, Nothing}
 use Rattle.model.specs.declared.Verdict.the-variants.{Feasible, Failed}
@@ -73,12 +74,13 @@ unfolding Basics.pick Basics.when Basics.atPlace Basics.sumTo Basics.countTo Bas
     Archive.firstIn Archive.nextIn Archive.tableIn Archive.beginsIn Archive.continuesIn Archive.markIn Archive.marksIn
     Refusals.shortTable Refusals.badCount Refusals.badLimit Refusals.badLength Refusals.noWeight Refusals.badWalk
     Refusals.heavyNode Refusals.badMarks Refusals.shortScratch Refusals.markRefused Refusals.pageRefused
-    Refusals.badOutput Refusals.noArchive Refusals.headChecks Refusals.nodeChecks Refusals.weightChecks
-    Refusals.lentChecks Refusals.markChecks Refusals.filmChecks Refusals.backChecks Refusals.formChecks
-    Refusals.treeChecks Refusals.planChecks Refusals.judgeChecks Refusals.writeChecks Refusals.passes
-    Refusals.soundForm Refusals.acceptedTree Refusals.refusedForWeight Refusals.feasiblePlan Refusals.firstOf
-    Refusals.readTree Refusals.judgePlan Refusals.planned Refusals.writeArchive Refusals.isArchive Refusals.readChecks
-    Refusals.readArchive
+    Refusals.badOutput Refusals.noArchive Refusals.noLabel Refusals.headChecks Refusals.nodeChecks
+    Refusals.weightChecks Refusals.lentChecks Refusals.markChecks Refusals.filmChecks Refusals.backChecks
+    Refusals.formChecks Refusals.treeChecks Refusals.planChecks Refusals.judgeChecks Refusals.writeChecks
+    Refusals.passes Refusals.without Refusals.soundForm Refusals.acceptedTree Refusals.refusedForWeight
+    Refusals.feasiblePlan Refusals.feasibleUnfiled Refusals.firstOf Refusals.readTree Refusals.judgePlan
+    Refusals.planned Refusals.writeChecked Refusals.writeArchive Refusals.writeUnfiled Refusals.isArchive
+    Refusals.readChecks Refusals.readArchive
 computed b = b
 
 abbrev saysFeasible : Beside → ℕ → ℕ → Bool
@@ -167,6 +169,39 @@ back =
 pub back-hold : every computed back ≡ true
 unfolding computed back
 back-hold = refl
+
+-- ---- Unfiled lots: F with labels 0 at the nodes 2 and 3, of which node 3 weighs 3 in F itself
+
+abbrev unfiledF : ℕ → List ℕ
+unfiledF three = bytesOf (3 ∷ 4 ∷ 1 ∷ 1 ∷ 2 ∷ 0 ∷ 3 ∷ 0 ∷ 0 ∷ 3 ∷ three ∷ 0 ∷ 0 ∷ 0 ∷ [])
+
+abbrev bestF : List ℕ
+bestF = 1 ∷ 1 ∷ 0 ∷ []
+
+-- after 5 and before 6 and 7; no entry but the reader takes such a tree, and only the writer without 14 writes it
+pub unfiled : List Bool
+unfiled =
+    let lent : List ℕ = replicate 46 7 in
+    let film : List ℕ = archiveOf firstEdition (unfiledF 3) bestF in
+    let w = writeArchive firstEdition (unfiledF 3) bestF lent in
+    let r = readArchive firstEdition film (replicate 28 7) (replicate 3 7) in
+    answers (readTree (unfiledF 3)) 14 2
+    ∷ answers (readTree (unfiledF 0)) 5 3
+    ∷ answers (readTree (0 ∷ 1 ∷ 0 ∷ 5 ∷ 0 ∷ 1 ∷ 0 ∷ 0 ∷ 0 ∷ 5 ∷ 0 ∷ 0 ∷ [])) 14 1
+    ∷ answers (readTree (unfiledF 5)) 14 2
+    ∷ not (refusedForWeight (unfiledF 5))
+    ∷ answers (planBest (unfiledF 3) bestF (replicate 84 7) .answer) 14 2
+    ∷ answers (judgePlan (unfiledF 3) bestF) 14 2
+    ∷ keeps (w .answer) (w .archive) lent 14 2
+    ∷ leaves (writeUnfiled firstEdition (unfiledF 3) bestF lent) film
+    ∷ saysFeasible (r .answer .beside) 2 4
+    ∷ keeps (r .answer) (r .table) (unfiledF 3) 0 0
+    ∷ keeps (r .answer) (r .marks) bestF 0 0
+    ∷ []
+
+pub unfiled-hold : every computed unfiled ≡ true
+unfolding computed unfiled
+unfiled-hold = refl
 
 -- ---- Sequences of sibling runs of E: its best plan's in any order, and those that do not hold it, or too heavy
 

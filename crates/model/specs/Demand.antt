@@ -1,19 +1,19 @@
 -- The demands in the words of their document, as the entries promise them beside their equations. Demand 3 speaks of
 -- sibling runs told from the tree alone: what the lowest plan there is means, of a planner's answer and marks and of
 -- an archive's bytes, and when a tree is refused for weight.
-use Prim.Native.Nat.{ℕ, _≤_}
+use Prim.Native.Nat.{ℕ, _≤_, _<_}
 use mathlib.Core.Path.{_≡_}
 use mathlib.Core.Bool.{true}
 use mathlib.Core.List.{List, [], _∷_}
 use mathlib.Core.Logic.{_↔_}
 use lib.ListN.{length}
 use Rattle.model.specs.Basics.{listTo}
-use Rattle.model.specs.Table.{Bytes, nodeCount, limitOf}
+use Rattle.model.specs.Table.{Bytes, nodeCount, limitOf, labelAt}
 use Rattle.model.specs.Plan.{pageCount, pageWeight}
 use Rattle.model.specs.Runs.{Run, holds, withinLimit, runCount, rootWeight, runsOf}
 use Rattle.model.specs.Archive.{pagesIn, pageFieldIn, archiveBytes}
-use Rattle.model.specs.Refusals.{scratchWords, acceptedTree, feasiblePlan, soundForm, answerOf, planBest}
-use Rattle.model.specs.Refusals.{writeArchive}
+use Rattle.model.specs.Refusals.{scratchWords, acceptedTree, feasiblePlan, feasibleUnfiled, soundForm, answerOf}
+use Rattle.model.specs.Refusals.{refused, planBest, Written, writeArchive, writeUnfiled}
 use Rattle.model.specs.declared.Answer.{Answer}
 use Rattle.model.specs.declared.Edition.{Edition}
 use Rattle.model.specs.declared.Verdict.the-variants.{Feasible}
@@ -102,22 +102,44 @@ pub record WritePromise (e : Edition) (t m out : List ℕ) (r : Answer) (a : Lis
   pub weight : WeightPromise t r
 
 -- the writer, lent the table t, the marks m and some output, accepts and leaves the archive a
-pub record WrittenFrom (e : Edition) (t m a : List ℕ) : Type 0 where
+pub record WrittenFrom (write : List ℕ → List ℕ → List ℕ → Written) (t m a : List ℕ) : Type 0 where
   pub bytes : Bytes t
   pub out : List ℕ
-  pub accepts : writeArchive e t m out .answer .number ≡ 0
-  pub leaves : writeArchive e t m out .archive ≡ a
+  pub accepts : write t m out .answer .number ≡ 0
+  pub leaves : write t m out .archive ≡ a
+
+-- no label is 0
+abbrev pub Filed : List ℕ → Type 0
+Filed t = (v : ℕ) → 1 ≤ v → v ≤ nodeCount t → 1 ≤ labelAt t v
+
+-- node v is the first with label 0
+pub record FirstUnfiled (t : List ℕ) (v : ℕ) : Type 0 where
+  pub low : 1 ≤ v
+  pub high : v ≤ nodeCount t
+  pub label : labelAt t v ≡ 0
+  pub before : (u : ℕ) → 1 ≤ u → u < v → 1 ≤ labelAt t u
 
 -- What the reader says with its answer r, and the table t and the marks m that it leaves, where it was lent the
--- archive a and the buffers table and marks. An archive that was written reads back as the very table and marks it
--- was written from, where the buffers are as long as these. What is read is an accepted tree and a feasible plan,
--- and the writer gives this very archive for them, with this answer. 13 means that no table and marks write the
--- archive. On refusal both buffers are as lent.
+-- archive a and the buffers table and marks. An archive that the writer without 14 wrote, and so every archive that
+-- the writer wrote, reads back as the very table and marks it was written from, where the buffers are as long as
+-- these. What is read, with its verdict, is a tree and a plan in which nothing but a label 0 can be refused, and the
+-- writer without 14 gives this very archive for them, with this answer. Where no label is 0, they are an accepted tree
+-- and a feasible plan, and so does the writer; where one is, the writer answers 14 at the first such node, and leaves
+-- its output as lent. 13 means that no table and marks write the archive with the writer without 14. On refusal both
+-- buffers are as lent.
 pub record ReadPromise (e : Edition) (a table marks : List ℕ) (r : Answer) (t m : List ℕ) : Type 0 where
-  pub back : (u n : List ℕ) → WrittenFrom e u n a → length table ≡ length u → length marks ≡ length n
+  pub back : (u n : List ℕ) → WrittenFrom (writeUnfiled e) u n a → length table ≡ length u → length marks ≡ length n
       → (r .number ≡ 0) × (t ≡ u) × (m ≡ n)
-  pub sound : r .number ≡ 0 → (acceptedTree t ≡ true) × (feasiblePlan t m ≡ true)
+  pub written : (u n : List ℕ) → WrittenFrom (writeArchive e) u n a → length table ≡ length u
+      → length marks ≡ length n → (r .number ≡ 0) × (t ≡ u) × (m ≡ n)
+  pub sound : r .number ≡ 0
+      → (r ≡ answerOf (Feasible (pageCount t m) (pageWeight t m 1))) × (feasibleUnfiled t m ≡ true)
   pub again : r .number ≡ 0 → (out : List ℕ) → length out ≡ length a
-      → writeArchive e t m out ≡ record { answer = r; archive = a }
-  pub none : (r .number ≡ 13) ↔ ((u n : List ℕ) → WrittenFrom e u n a → ⊥)
+      → writeUnfiled e t m out ≡ record { answer = r; archive = a }
+  pub filed : r .number ≡ 0 → Filed t
+      → (feasiblePlan t m ≡ true) × ((out : List ℕ) → length out ≡ length a
+      → writeArchive e t m out ≡ record { answer = r; archive = a })
+  pub unfiled : r .number ≡ 0 → (v : ℕ) → FirstUnfiled t v → (out : List ℕ)
+      → writeArchive e t m out ≡ record { answer = refused 14 v; archive = out }
+  pub none : (r .number ≡ 13) ↔ ((u n : List ℕ) → WrittenFrom (writeUnfiled e) u n a → ⊥)
   pub kept : (r .number ≡ 0 → ⊥) → (t ≡ table) × (m ≡ marks)

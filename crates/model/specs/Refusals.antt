@@ -1,13 +1,13 @@
--- Document 01, 'What is refused': the list of refusals, the checks of each entry in their order, and for each entry
--- its answer and every lent buffer left behind, as one definition of all it was lent.
+-- Document 01, 'What is refused', with 14 of document 02: the list of refusals, the checks of each entry in their
+-- order, and for each entry its answer and every lent buffer left behind, as one definition of all it was lent.
 use Prim.Native.Nat.{ℕ, _+_, _*_}
 use mathlib.Core.Bool.{Bool, true, false, not, _&&_, _||_}
 use mathlib.Core.List.{List, [], _∷_, _++_}
 use lib.ListN.{length, replicate}
 use lib.Dec.{eqb, ltb, leb}
 use Rattle.model.specs.Basics.{pick, when, atPlace, firstTo, sameList}
-use Rattle.model.specs.Table.{maxNodes, maxLimit, nodeCount, limitOf, weightAt, tableBytes, walkPlace, Chain}
-use Rattle.model.specs.Table.{treeOf}
+use Rattle.model.specs.Table.{maxNodes, maxLimit, nodeCount, limitOf, weightAt, labelAt, tableBytes, walkPlace}
+use Rattle.model.specs.Table.{Chain, treeOf}
 use Rattle.model.specs.Plan.{badMark, heavyPage, pageCount, verdictOf}
 use Rattle.model.specs.Steps.{bestMarks, levelMarks, singleMarks, pairMarks}
 use Rattle.model.specs.Archive.{archiveOf, archiveBytes, nodesIn, tableIn, marksIn}
@@ -107,9 +107,13 @@ pageRefused t m = record { answer = λ p. answerOf (Failed (HeavyPage p)); place
 unfoldable pub badOutput : ℕ → List ℕ → Check
 badOutput size out = record { answer = refused 12; place = when (not (eqb (length out) size)) size }
 
--- 13: no accepted tree and feasible plan write this archive; place 0
+-- 13: no tree and plan write this archive with the writer without 14; place 0
 unfoldable pub noArchive : Bool → Check
 noArchive written = record { answer = refused 13; place = when (not written) 0 }
+
+-- 14: a label is 0, for a lot that nobody has filed; place the first such node
+unfoldable pub noLabel : List ℕ → Check
+noLabel t = record { answer = refused 14; place = firstTo (nodeCount t) (λ v. eqb (labelAt t v) 0) }
 
 -- ---- The order: its parts, and for each entry those that it checks
 
@@ -119,7 +123,7 @@ headChecks t = shortTable t ∷ badCount t ∷ badLimit t ∷ badLength t ∷ []
 
 -- the nodes and their links
 unfoldable pub nodeChecks : List ℕ → List Check
-nodeChecks t = noWeight t ∷ badWalk t ∷ []
+nodeChecks t = noWeight t ∷ noLabel t ∷ badWalk t ∷ []
 
 -- the nodes' weights against the limit
 unfoldable pub weightChecks : List ℕ → List Check
@@ -161,6 +165,11 @@ unfoldable pub passes : List Check → Bool
 passes [] = true
 passes (c ∷ cs) = atPlace (c .place) (λ p. false) (passes cs)
 
+-- the list without those of its checks that give the number n
+unfoldable pub without : ℕ → List Check → List Check
+without n [] = []
+without n (c ∷ cs) = pick (eqb (c .answer 0 .number) n) (without n cs) (c ∷ without n cs)
+
 -- A tree is of sound form when nothing that is checked before 7 applies to it, accepted when 7 does not apply to it
 -- either, and refused for weight means 7.
 unfoldable pub soundForm : List ℕ → Bool
@@ -175,6 +184,11 @@ refusedForWeight t = soundForm t && not (acceptedTree t)
 -- a plan of an accepted tree is feasible when the judge finds nothing
 unfoldable pub feasiblePlan : List ℕ → List ℕ → Bool
 feasiblePlan t m = passes (judgeChecks t m)
+
+-- Film written before 14 was given may have labels 0. Names with Unfiled tell what holds where 14 is left out and
+-- nothing else: here, the judge without 14 finds nothing.
+unfoldable pub feasibleUnfiled : List ℕ → List ℕ → Bool
+feasibleUnfiled t m = passes (without 14 (judgeChecks t m))
 
 -- ---- The entries
 
@@ -221,18 +235,23 @@ pub record Written : Type 0 where
   pub answer : Answer
   pub archive : List ℕ
 
-unfoldable pub writeArchive : Edition → List ℕ → List ℕ → List ℕ → Written
-writeArchive e t m out =
-    record {
-      answer = firstOf (writeChecks e t m out) (answerOf (verdictOf t m));
-      archive = pick (passes (writeChecks e t m out)) (archiveOf e t m) out;
-    }
+-- a writer with the list of checks cs
+unfoldable pub writeChecked : List Check → Edition → List ℕ → List ℕ → List ℕ → Written
+writeChecked cs e t m out =
+    record { answer = firstOf cs (answerOf (verdictOf t m)); archive = pick (passes cs) (archiveOf e t m) out }
 
--- an accepted tree and a feasible plan write this archive: those that it tells, within the edition's most nodes
+unfoldable pub writeArchive : Edition → List ℕ → List ℕ → List ℕ → Written
+writeArchive e t m out = writeChecked (writeChecks e t m out) e t m out
+
+-- the writer without 14, which is no entry: an archive that is read is held against it
+unfoldable pub writeUnfiled : Edition → List ℕ → List ℕ → List ℕ → Written
+writeUnfiled e t m out = writeChecked (without 14 (writeChecks e t m out)) e t m out
+
+-- that writer writes this archive from the tree and the plan that it tells, within the edition's most nodes
 unfoldable pub isArchive : Edition → List ℕ → Bool
 isArchive e a =
     leb (nodesIn e a) (e .most)
-    && (feasiblePlan (tableIn e a) (marksIn e a) && sameList (archiveOf e (tableIn e a) (marksIn e a)) a)
+    && (feasibleUnfiled (tableIn e a) (marksIn e a) && sameList (archiveOf e (tableIn e a) (marksIn e a)) a)
 
 -- the archive reader checks 13, then 12, then 8: its answer, and the table and the marks that it leaves
 pub record Restored : Type 0 where
