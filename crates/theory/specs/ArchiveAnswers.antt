@@ -1,12 +1,14 @@
--- The answers of the archive's writer and reader, case by case, and what each tells. writeFrom is the writer that goes
--- on from the answer of whatever judged the tree: a reader may judge its tree otherwise than the writer's entry does.
--- Defines filmAnswer, writeFrom, WriteDone. Proves write-entry, write-done, writer-done, writer-refused; read-none,
--- read-table, read-marks, read-done, reader-done, read-thirteen. Assumes nothing.
+-- The answers of the archive's writer, with 14 or without, and of its reader, case by case, and what each tells.
+-- writeFrom is the writer that goes on from the answer of whatever judged the tree: the reader judges its tree without
+-- 14, which the writer's entry does not.
+-- Defines filmAnswer, writeFrom, writeWith, WriteDone. Proves write-entry, write-done, write-kept, writer-done,
+-- writer-refused; unfiled-stops; read-none, read-table, read-marks, read-done, reader-done, read-thirteen. Assumes
+-- nothing.
 use Prim.Native.Nat.{ℕ, _≤_}
 use native.Mathlib.Omega.{arith}
 use mathlib.Core.Bool.{Bool, true, false, not, _&&_, true≢false}
 use mathlib.Core.Path.{_≡_, refl, sym, _∙_, ap, ap₂}
-use mathlib.Core.List.{List, [], _∷_}
+use mathlib.Core.List.{List, [], _∷_, _++_}
 use lib.ListN.{length}
 use lib.Dec.{eqb}
 use borrow.Author.Tests.{eq-eqb, ne-eqb, not-false}
@@ -15,9 +17,8 @@ use Rattle.model.specs.Table.{nodeCount, tableBytes}
 use Rattle.model.specs.Plan.{pageCount, verdictOf}
 use Rattle.model.specs.Archive.{archiveOf, archiveBytes, nodesIn, tableIn, marksIn}
 use Rattle.model.specs.Refusals.{Check, badMarks, badOutput, noArchive, markChecks, judgeChecks, filmChecks, backChecks}
-use Rattle.model.specs.Refusals.{writeChecks, readChecks, passes, feasiblePlan, answerOf, refused, firstOf, readTree}
-use Rattle.model.specs.Refusals.{judgePlan}
-use Rattle.model.specs.Refusals.{Written, writeArchive, isArchive, readArchive}
+use Rattle.model.specs.Refusals.{writeChecks, readChecks, passes, answerOf, refused, firstOf, noLabel, feasibleUnfiled}
+use Rattle.model.specs.Refusals.{Written, writeChecked, writeArchive, isArchive, readArchive}
 use Rattle.model.specs.declared.Edition.{Edition}
 use Rattle.model.specs.declared.Place.the-variants.{At, Nowhere}
 use Rattle.model.specs.declared.Answer.{Answer}
@@ -25,10 +26,12 @@ use Rattle.theory.specs.Bools.{never-true, both-true}
 use Rattle.theory.specs.Ranges.{when-true, when-false, when-nowhere, atPlace-at, atPlace-nowhere}
 use Rattle.theory.specs.Checks.{Pass, pass-all, passes-both, both-pass, firstOf-pass, firstOf-stop, firstOf-all}
 use Rattle.theory.specs.Checks.{never-first, accepted-pass, mark-plain, judge-never, write-never, read-never}
-use Rattle.theory.specs.Checks.{andThen, then-next, then-stands, then-both}
-use Rattle.theory.specs.JudgeAnswers.{marksAnswer, judge-then}
+use Rattle.theory.specs.Checks.{Never, andThen, then-next, then-stands, then-both}
+use Rattle.theory.specs.Checks.{firstOf-append, checksWith, never-with, with-write}
+use Rattle.theory.specs.JudgeAnswers.{treeAnswer, marksAnswer, with-then}
 use Rattle.theory.specs.TableFacts.{AcceptedFacts}
-use Rattle.theory.specs.PlanFeasible.{Judged, marks-judged, feasible-parts, feasible-judged, judged-verdict}
+use Rattle.theory.specs.PlanFeasible.{Judged, marks-judged, feasibleWith, with-judged, unfiled-judged}
+use Rattle.theory.specs.PlanFeasible.{judged-zero, label-stops}
 use Rattle.theory.specs.ArchiveWords.{Described, length-archive}
 use Rattle.theory.specs.ArchiveBack.{sameList-true, read-write}
 
@@ -62,10 +65,6 @@ equal : (x n : ℕ) → x ≡ n → when (not (eqb x n)) n ≡ Nowhere
 equal x n h = when-false (not (eqb x n)) n (ap not (eq-eqb x n h))
 
 -- ---- The writer
-
--- a feasible plan's answer is acceptance
-pub feasible-zero : (t m : List ℕ) → feasiblePlan t m ≡ true → answerOf (verdictOf t m) .number ≡ 0
-feasible-zero t m f = ap (λ v. answerOf v .number) (judged-verdict (feasible-judged t m f))
 
 -- the judge, going on from the tree's answer r, accepts: nothing is found in the plan, and the answer is its verdict's
 pub judged-from : (t m : List ℕ) (r j : Answer) → j ≡ andThen r (marksAnswer t m) → (r .number ≡ 0 → AcceptedFacts t)
@@ -132,93 +131,121 @@ module _ (e : Edition) (t m out : List ℕ) where
         ∙ sym (then-next j filmAnswer z ∙ ap (λ (x : Answer × Bool). x .0) (film-long fits)))
         (eq-eqb (j .number) 0 z)
 
-  -- ---- The entry
+-- ---- The writer with 14, or without
 
-  write-feasible : passes (writeChecks e t m out) ≡ true → feasiblePlan t m ≡ true
-  unfolding writeChecks feasiblePlan
-  write-feasible p = passes-both (judgeChecks t m) (filmChecks e t m out) p .0
+module _ (filed : Bool) (e : Edition) (t m out : List ℕ) where
+  abbrev pub writeWith : Written
+  writeWith = writeChecked (checksWith filed (writeChecks e t m out)) e t m out
+
+  abbrev checks : List Check
+  checks = checksWith filed (writeChecks e t m out)
+
+  abbrev judging : List Check
+  judging = checksWith filed (judgeChecks t m)
+
+  abbrev given : Answer
+  given = answerOf (verdictOf t m)
+
+  checks-never : Never 0 checks
+  checks-never = never-with 0 filed (writeChecks e t m out) (write-never e t m out)
+
+  write-feasible : passes checks ≡ true → feasibleWith filed t m ≡ true
+  write-feasible p = passes-both judging (filmChecks e t m out) (sym (ap passes (with-write filed e t m out)) ∙ p) .0
 
   -- it accepts just where its checks pass
-  write-zero : passes (writeChecks e t m out) ≡ true → firstOf (writeChecks e t m out) verdict .number ≡ 0
+  write-zero : passes checks ≡ true → firstOf checks given .number ≡ 0
   write-zero p =
-      ap (λ (x : Answer). x .number) (firstOf-all (writeChecks e t m out) verdict p)
-      ∙ feasible-zero t m (write-feasible p)
+      ap (λ (x : Answer). x .number) (firstOf-all checks given p)
+      ∙ judged-zero (with-judged filed t m (write-feasible p))
 
-  zero-passes : (b : Bool) → passes (writeChecks e t m out) ≡ b
-      → eqb (firstOf (writeChecks e t m out) verdict .number) 0 ≡ b
+  zero-passes : (b : Bool) → passes checks ≡ b → eqb (firstOf checks given .number) 0 ≡ b
   zero-passes true p = eq-eqb _ 0 (write-zero p)
-  zero-passes false p =
-      ne-eqb _ 0
-      (λ z. true≢false (sym (accepted-pass (writeChecks e t m out) verdict (write-never e t m out) z) ∙ p))
+  zero-passes false p = ne-eqb _ 0 (λ z. true≢false (sym (accepted-pass checks given checks-never z) ∙ p))
 
-  answer-then : (b : Bool) → passes (judgeChecks t m) ≡ b
-      → firstOf (writeChecks e t m out) verdict ≡ andThen (judgePlan t m) filmAnswer
-  unfolding writeChecks judgePlan filmAnswer feasiblePlan
+  answer-then : (b : Bool) → passes judging ≡ b
+      → firstOf checks given ≡ andThen (firstOf judging given) (filmAnswer e t m out)
+  unfolding filmAnswer
   answer-then true p =
-      firstOf-pass (judgeChecks t m) (filmChecks e t m out) verdict p
+      ap (λ (cs : List Check). firstOf cs given) (with-write filed e t m out)
+      ∙ firstOf-pass judging (filmChecks e t m out) given p
       ∙ sym
-      (then-next _ _ (ap (λ (x : Answer). x .number) (firstOf-all (judgeChecks t m) verdict p) ∙ feasible-zero t m p))
+      (then-next _ _
+      (ap (λ (x : Answer). x .number) (firstOf-all judging given p) ∙ judged-zero (with-judged filed t m p)))
   answer-then false p =
-      firstOf-stop (judgeChecks t m) (filmChecks e t m out) verdict verdict p
+      ap (λ (cs : List Check). firstOf cs given) (with-write filed e t m out)
+      ∙ firstOf-stop judging (filmChecks e t m out) given given p
       ∙ sym
-      (then-stands _ _ (λ z. true≢false (sym (accepted-pass (judgeChecks t m) verdict (judge-never t m) z) ∙ p)))
+      (then-stands _ _
+      (λ z.
+      true≢false
+      (sym (accepted-pass judging given (never-with 0 filed (judgeChecks t m) (judge-never t m)) z) ∙ p)))
 
-  write-then : writeFrom (readTree t) ≡ writeArchive e t m out
-  unfolding writeFrom writeArchive
-  write-then =
-      rw (
-        ← judge-then t m,
-        ← answer-then (passes (judgeChecks t m)) refl,
-        zero-passes (passes (writeChecks e t m out))
-            refl,
-      )
+  write-then : writeFrom e t m out (treeAnswer filed t) ≡ writeWith
+  unfolding writeFrom writeChecked
+  write-then = rw (← with-then filed t m, ← answer-then (passes judging) refl, zero-passes (passes checks) refl)
 
-  -- the entry goes on from the tree reader's answer
-  pub write-entry : {w : Written} (r : Answer) → w ≡ writeFrom r → r ≡ readTree t → w ≡ writeArchive e t m out
-  write-entry r h is = h ∙ ap writeFrom is ∙ write-then
+  -- it goes on from the tree reader's answer
+  pub write-entry : {w : Written} (r : Answer) → w ≡ writeFrom e t m out r → r ≡ treeAnswer filed t → w ≡ writeWith
+  write-entry r h is = h ∙ ap (writeFrom e t m out) is ∙ write-then
 
-  pub write-done : feasiblePlan t m ≡ true → length out ≡ archiveBytes e (pageCount t m) (nodeCount t)
-      → writeArchive e t m out ≡ record { answer = answerOf (verdictOf t m); archive = archiveOf e t m }
-  unfolding writeArchive writeChecks feasiblePlan pick
+  pub write-done : feasibleWith filed t m ≡ true → length out ≡ archiveBytes e (pageCount t m) (nodeCount t)
+      → writeWith ≡ record { answer = answerOf (verdictOf t m); archive = archiveOf e t m }
+  unfolding writeChecked pick
   write-done f fits =
-      let all : passes (writeChecks e t m out) ≡ true =
-      both-pass (judgeChecks t m) (filmChecks e t m out) f (ap (λ (x : Answer × Bool). x .1) (film-long fits)) in
-      rw (all, firstOf-all (writeChecks e t m out) verdict all)
+      let all : passes checks ≡ true =
+      ap passes (with-write filed e t m out)
+      ∙ both-pass judging (filmChecks e t m out) f (ap (λ (x : Answer × Bool). x .1) (film-long e t m out fits)) in
+      rw (all, firstOf-all checks given all)
 
   -- on refusal the output is as lent
-  pub write-kept : (writeArchive e t m out .answer .number ≡ 0 → ⊥) → writeArchive e t m out .archive ≡ out
-  unfolding writeArchive pick
-  write-kept h = rw (never-true (passes (writeChecks e t m out)) (λ p. h (write-zero p)))
+  pub write-kept : (writeWith .answer .number ≡ 0 → ⊥) → writeWith .archive ≡ out
+  unfolding writeChecked pick
+  write-kept h = rw (never-true (passes checks) (λ p. h (write-zero p)))
 
   -- ---- What the writer's answer tells: it wrote an archive, or none of that length is written
 
   pub record WriteDone : Type 0 where
-    pub feasible : feasiblePlan t m ≡ true
+    pub feasible : feasibleWith filed t m ≡ true
+    pub judged : Judged t m
     pub few : nodeCount t ≤ e .most
-    pub wrote : writeArchive e t m out ≡ record { answer = answerOf (verdictOf t m); archive = archiveOf e t m }
+    pub wrote : writeWith ≡ record { answer = answerOf (verdictOf t m); archive = archiveOf e t m }
 
   module _ (d : Described e) where
-    pub writer-done : writeArchive e t m out .answer .number ≡ 0 → WriteDone
-    unfolding writeArchive pick
+    pub writer-done : writeWith .answer .number ≡ 0 → WriteDone
+    unfolding writeChecked pick
     writer-done z =
-        let all : passes (writeChecks e t m out) ≡ true =
-        accepted-pass (writeChecks e t m out) verdict (write-never e t m out) z in
+        let all : passes checks ≡ true = accepted-pass checks given checks-never z in
         let f = write-feasible all in
+        let j = with-judged filed t m f in
         record {
           feasible = f;
-          few = d .most t (feasible-parts t m f .0);
-          wrote = rw (all, firstOf-all (writeChecks e t m out) verdict all);
+          judged = j;
+          few = d .most t (j .tree);
+          wrote = rw (all, firstOf-all checks given all);
         }
 
-    pub writer-refused : (writeArchive e t m out .answer .number ≡ 0 → ⊥) → (a : List ℕ) → length out ≡ length a
-        → (feasiblePlan t m && sameList (archiveOf e t m) a) ≡ false
+    pub writer-refused : (writeWith .answer .number ≡ 0 → ⊥) → (a : List ℕ) → length out ≡ length a
+        → (feasibleWith filed t m && sameList (archiveOf e t m) a) ≡ false
     writer-refused h a long =
         never-true _
         (λ y.
-        let both = both-true (feasiblePlan t m) (sameList (archiveOf e t m) a) y in
-        let fits : length out ≡ size =
+        let both = both-true (feasibleWith filed t m) (sameList (archiveOf e t m) a) y in
+        let fits : length out ≡ archiveBytes e (pageCount t m) (nodeCount t) =
         long ∙ ap length (sym (sameList-true (archiveOf e t m) a (both .1))) ∙ length-archive d t m in
-        h (ap (λ (w : Written). w .answer .number) (write-done (both .0) fits) ∙ feasible-zero t m (both .0)))
+        h
+        (ap (λ (w : Written). w .answer .number) (write-done (both .0) fits)
+        ∙ judged-zero (with-judged filed t m (both .0))))
+
+-- the writer, handed a tree and a plan in which nothing but a label is refused
+pub unfiled-stops : (e : Edition) (t m out : List ℕ) → feasibleUnfiled t m ≡ true → (v : ℕ) → noLabel t .place ≡ At v
+    → writeArchive e t m out ≡ record { answer = refused 14 v; archive = out }
+unfolding writeArchive writeChecked writeChecks pick
+unfiled-stops e t m out f v found =
+    ap₂ (λ (r : Answer) (a : List ℕ). record { answer = r; archive = a }) answer
+    (write-kept true e t m out (λ z. omega (arith, ap (λ (r : Answer). r .number) answer)))
+  where
+    answer : firstOf (judgeChecks t m ++ filmChecks e t m out) (answerOf (verdictOf t m)) ≡ refused 14 v
+    answer = firstOf-append (judgeChecks t m) (filmChecks e t m out) _ ∙ label-stops t m f v found _
 
 -- ---- The reader
 
@@ -299,7 +326,7 @@ module _ (e : Edition) (a t m : List ℕ) where
 
   -- an archive's own answer is acceptance
   archive-zero : isArchive e a ≡ true → answerOf (verdictOf (tableIn e a) (marksIn e a)) .number ≡ 0
-  archive-zero is = feasible-zero (tableIn e a) (marksIn e a) (read-write e a is .feasible)
+  archive-zero is = judged-zero (unfiled-judged (tableIn e a) (marksIn e a) (read-write e a is .feasible))
 
   pub reader-done : readArchive e a t m .answer .number ≡ 0
       → (isArchive e a ≡ true)

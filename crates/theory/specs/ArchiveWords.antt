@@ -5,7 +5,6 @@
 use Prim.Native.Nat.{ℕ, suc, _+_, _-_, _*_, _≤_, _<_}
 use native.Mathlib.Omega.{arith}
 use native.Mathlib.Nat.{mul-le-mul-left}
-use mathlib.Core.Bool.{true}
 use mathlib.Core.Path.{_≡_, refl, _∙_, ap}
 use mathlib.Core.List.{List, [], _∷_, _++_}
 use lib.ListN.{length, getD, length-append, List·getD-append}
@@ -16,9 +15,8 @@ use Rattle.model.specs.Plan.{parentAt, pageCount, pageWeight}
 use Rattle.model.specs.Runs.{pageRun}
 use Rattle.model.specs.Archive.{firstEdition, headWords, pageRecord, nextOnPage, nodeRecord, archiveOf, archiveBytes}
 use Rattle.model.specs.Archive.{nodesIn, limitIn, pagesIn, pageFieldIn, nodeFieldIn, parentIn}
-use Rattle.model.specs.Refusals.{acceptedTree}
 use Rattle.model.specs.declared.Edition.{Edition}
-use Rattle.theory.specs.TableFacts.{accepted-facts}
+use Rattle.theory.specs.TableFacts.{AcceptedFacts}
 use Rattle.theory.specs.Words.{length-bytesOf, wordAt-bytesOf}
 use Rattle.theory.specs.Put.{length-recordsTo, getD-recordsTo}
 
@@ -38,7 +36,7 @@ pub record Described (e : Edition) : Type 0 where
   pub first-at : (t m : List ℕ) (p : ℕ) → getD (pageRecord e t m p) 0 0 ≡ pageRun t m p .first
   pub last-at : (t m : List ℕ) (p : ℕ) → getD (pageRecord e t m p) 1 0 ≡ pageRun t m p .last
   pub weight-at : (t m : List ℕ) (p : ℕ) → getD (pageRecord e t m p) 2 0 ≡ pageWeight t m p
-  pub most : (t : List ℕ) → acceptedTree t ≡ true → nodeCount t ≤ e .most
+  pub most : (t : List ℕ) → AcceptedFacts t → nodeCount t ≤ e .most
 
 -- The first edition takes every accepted tree because its limit is not below the table's. No other law makes the one
 -- limit of the other.
@@ -56,7 +54,7 @@ first-described =
       first-at = λ t m p. refl;
       last-at = λ t m p. refl;
       weight-at = λ t m p. refl;
-      most = λ t a. accepted-facts t a .sound .count-high;
+      most = λ t a. a .sound .count-high;
     }
 
 -- ---- The archive

@@ -1,28 +1,29 @@
 -- Lists of checks, one after the other: where all pass, which of them answers, and which numbers they never give. A
 -- list is told by its parts, so that a check put into one of them is met here and in the facts that the part stands
 -- for, and nowhere else.
--- Defines Pass, Never, Plain, andThen. Proves pass-all, passes-append, passes-both, both-pass; firstOf-pass,
--- firstOf-stop, firstOf-all, firstOf-cons, firstOf-append; never-append, never-first, accepted-pass, refused-fails;
--- that no check gives 0, and that of the weights alone 7 (head-plain to read-never); then-next, then-stands,
--- then-both, firstOf-then. Assumes nothing.
+-- Defines Pass, Never, Plain, andThen, checksWith. Proves pass-all, passes-append, passes-both, both-pass;
+-- firstOf-pass, firstOf-stop, firstOf-all, firstOf-cons, firstOf-append; never-append, never-first, accepted-pass,
+-- refused-fails; that no check gives 0, and that of the weights alone 7 (head-plain to read-never); then-next,
+-- then-stands, then-both, firstOf-then; what lists with 14 and without are, and what 14 adds (passes-without to
+-- node-stops). Assumes nothing.
 use Prim.Native.Nat.{ℕ}
 use mathlib.Core.Path.{_≡_, refl, sym, ap, ap₂, _∙_}
 use mathlib.Core.Bool.{Bool, true, false, not, _&&_, false≢true, true≢false}
 use mathlib.Core.Logic.{_↔_}
 use mathlib.Core.List.{List, [], _∷_, _++_, append-nil}
 use lib.Dec.{eqb}
-use borrow.Author.Tests.{eqb-true, eqb-false, eq-eqb, ne-eqb}
+use borrow.Author.Tests.{eqb-true, eqb-false, eq-eqb, ne-eqb, not-true}
 use Rattle.model.specs.Basics.{pick, atPlace, every}
-use Rattle.model.specs.Refusals.{Check, accepted, firstOf, passes}
+use Rattle.model.specs.Refusals.{Check, accepted, refused, firstOf, passes, without}
 use Rattle.model.specs.Refusals.{shortTable, badCount, badLimit, badLength, noWeight, badWalk, heavyNode, badMarks}
-use Rattle.model.specs.Refusals.{shortScratch, markRefused, pageRefused, badOutput, noArchive}
+use Rattle.model.specs.Refusals.{shortScratch, markRefused, pageRefused, badOutput, noArchive, noLabel}
 use Rattle.model.specs.Refusals.{headChecks, nodeChecks, weightChecks, lentChecks, markChecks, filmChecks, backChecks}
 use Rattle.model.specs.Refusals.{formChecks, treeChecks, planChecks, judgeChecks, writeChecks, readChecks}
 use Rattle.model.specs.declared.Place.{Place}
 use Rattle.model.specs.declared.Place.the-variants.{At, Nowhere}
 use Rattle.model.specs.declared.Answer.{Answer}
 use Rattle.model.specs.declared.Edition.{Edition}
-use Rattle.theory.specs.Ranges.{at-nowhere, pick-true, pick-false}
+use Rattle.theory.specs.Ranges.{at-nowhere, pick-true, pick-false, atPlace-at, atPlace-nowhere}
 use Rattle.theory.specs.Bools.{both-true, and-true}
 
 -- ---- Checks that pass
@@ -111,31 +112,32 @@ firstOf-append (c ∷ cs) ds a = ap (atPlace (c .place) (c .answer)) (firstOf-ap
 abbrev pub Never : ℕ → List Check → Type 0
 Never n cs = (p : ℕ) → every (λ c. not (eqb (c .answer p .number) n)) cs ≡ true
 
+never-cons : (n : ℕ) (c : Check) (cs : List Check) → Never n (c ∷ cs) → (p : ℕ)
+    → (not (eqb (c .answer p .number) n) ≡ true) × Never n cs
+unfolding every
+never-cons n c cs h p = (both p .0, λ q. both q .1)
+  where
+    both : (q : ℕ)
+        → (not (eqb (c .answer q .number) n) ≡ true) × (every (λ d. not (eqb (d .answer q .number) n)) cs ≡ true)
+    both q = both-true (not (eqb (c .answer q .number) n)) (every (λ d. not (eqb (d .answer q .number) n)) cs) (h q)
+
 pub never-append : (n : ℕ) (cs ds : List Check) → Never n cs → Never n ds → Never n (cs ++ ds)
 unfolding every
 never-append n [] ds h k p = k p
 never-append n (c ∷ cs) ds h k p =
-    let b = both-true (not (eqb (c .answer p .number) n)) (every (λ d. not (eqb (d .answer p .number) n)) cs) (h p) in
-    and-true _ _ (b .0) (never-append n cs ds rest k p)
-  where
-    rest : Never n cs
-    rest q = both-true (not (eqb (c .answer q .number) n)) (every (λ d. not (eqb (d .answer q .number) n)) cs) (h q) .1
+    let b = never-cons n c cs h p in and-true _ _ (b .0) (never-append n cs ds (b .1) k p)
 
 -- so the answer n is that of what comes after them, and all of them pass
 pub never-first : (n : ℕ) (cs : List Check) (a : Answer) → Never n cs → firstOf cs a .number ≡ n
     → (passes cs ≡ true) × (a .number ≡ n)
 unfolding passes firstOf atPlace every
 never-first n [] a h e = (refl, e)
-never-first n (c ∷ cs) a h e = go (c .place) (never-first n cs a (λ p. other p .1)) e
+never-first n (c ∷ cs) a h e = go (c .place) (never-first n cs a (never-cons n c cs h 0 .1)) e
   where
-    other : (p : ℕ)
-        → (not (eqb (c .answer p .number) n) ≡ true) × (every (λ d. not (eqb (d .answer p .number) n)) cs ≡ true)
-    other p = both-true (not (eqb (c .answer p .number) n)) (every (λ d. not (eqb (d .answer p .number) n)) cs) (h p)
-
     go : (o : Place) → (firstOf cs a .number ≡ n → (passes cs ≡ true) × (a .number ≡ n))
         → atPlace o (c .answer) (firstOf cs a) .number ≡ n
         → (atPlace o (λ p. false) (passes cs) ≡ true) × (a .number ≡ n)
-    go (At p) ih q = absurd (true≢false (sym (other p .0) ∙ ap not (eq-eqb (c .answer p .number) n q)))
+    go (At p) ih q = absurd (true≢false (sym (never-cons n c cs h p .0) ∙ ap not (eq-eqb (c .answer p .number) n q)))
     go Nowhere ih q = ih q
 
 -- 0 is acceptance: all pass
@@ -164,7 +166,7 @@ unfolding every headChecks shortTable badCount badLimit badLength
 head-plain t = (λ p. refl, λ p. refl)
 
 node-plain : (t : List ℕ) → Plain (nodeChecks t)
-unfolding every nodeChecks noWeight badWalk
+unfolding every nodeChecks noWeight noLabel badWalk
 node-plain t = (λ p. refl, λ p. refl)
 
 weight-never : (t : List ℕ) → Never 0 (weightChecks t)
@@ -254,3 +256,111 @@ firstOf-then cs ds a never = go (passes cs) refl
     go false e =
         firstOf-stop cs ds a accepted e
         ∙ sym (then-stands _ _ (λ z. true≢false (sym (accepted-pass cs accepted never z) ∙ e)))
+
+-- ---- A list without the checks of a number
+
+pass-without : (n : ℕ) (cs : List Check) → Pass cs → Pass (without n cs)
+unfolding Pass pick without
+pass-without n [] p = tt
+pass-without n (c ∷ cs) p = go (eqb (c .answer 0 .number) n) (pass-without n cs (p .1))
+  where
+    go : (b : Bool) → Pass (without n cs) → Pass (pick b (without n cs) (c ∷ without n cs))
+    go true ih = ih
+    go false ih = (p .0, ih)
+
+pub passes-without : (n : ℕ) (cs : List Check) → passes cs ≡ true → passes (without n cs) ≡ true
+passes-without n cs e = pass-all (without n cs) .1 (pass-without n cs (pass-all cs .0 e))
+
+pub never-without : (k n : ℕ) (cs : List Check) → Never k cs → Never k (without n cs)
+unfolding every pick without
+never-without k n [] h p = refl
+never-without k n (c ∷ cs) h p =
+    let here = never-cons k c cs h p in
+    go (eqb (c .answer 0 .number) n) (here .0) (never-without k n cs (here .1) p)
+  where
+    go : (b : Bool) → not (eqb (c .answer p .number) k) ≡ true
+        → every (λ d. not (eqb (d .answer p .number) k)) (without n cs) ≡ true
+        → every (λ d. not (eqb (d .answer p .number) k)) (pick b (without n cs) (c ∷ without n cs)) ≡ true
+    go true e ih = ih
+    go false e ih = and-true _ _ e ih
+
+pub without-append : (n : ℕ) (cs ds : List Check) → without n (cs ++ ds) ≡ without n cs ++ without n ds
+unfolding pick without
+without-append n [] ds = refl
+without-append n (c ∷ cs) ds = go (eqb (c .answer 0 .number) n) (without-append n cs ds)
+  where
+    go : (b : Bool) → without n (cs ++ ds) ≡ without n cs ++ without n ds
+        → pick b (without n (cs ++ ds)) (c ∷ without n (cs ++ ds))
+        ≡ pick b (without n cs) (c ∷ without n cs) ++ without n ds
+    go true ih = ih
+    go false ih = ap (λ (ds : List Check). c ∷ ds) ih
+
+-- checks that never give the number all stay
+pub without-never : (n : ℕ) (cs : List Check) → Never n cs → without n cs ≡ cs
+unfolding without every
+without-never n [] h = refl
+without-never n (c ∷ cs) h =
+    let here = never-cons n c cs h 0 in
+    pick-false (eqb (c .answer 0 .number) n) (without n cs) (c ∷ without n cs) (not-true _ (here .0))
+    ∙ ap (λ (ds : List Check). c ∷ ds) (without-never n cs (here .1))
+
+-- ---- Lists with 14, or without: it is a check of the nodes
+
+abbrev pub checksWith : Bool → List Check → List Check
+checksWith filed cs = pick filed cs (without 14 cs)
+
+-- checks that pass with 14 pass without
+pub passes-unfiled : (filed : Bool) (cs : List Check) → passes (checksWith filed cs) ≡ true
+    → passes (without 14 cs) ≡ true
+unfolding pick
+passes-unfiled true cs e = passes-without 14 cs e
+passes-unfiled false cs e = e
+
+pub never-with : (n : ℕ) (filed : Bool) (cs : List Check) → Never n cs → Never n (checksWith filed cs)
+unfolding pick
+never-with n true cs h = h
+never-with n false cs h = never-without n 14 cs h
+
+with-after : (filed : Bool) (cs ds : List Check) → Never 14 ds
+    → checksWith filed (cs ++ ds) ≡ checksWith filed cs ++ ds
+unfolding pick
+with-after true cs ds h = refl
+with-after false cs ds h =
+    without-append 14 cs ds ∙ ap (λ (es : List Check). without 14 cs ++ es) (without-never 14 ds h)
+
+pub with-form : (filed : Bool) (t : List ℕ)
+    → checksWith filed (formChecks t) ≡ headChecks t ++ checksWith filed (nodeChecks t)
+unfolding pick formChecks headChecks shortTable badCount badLimit badLength every
+with-form true t = refl
+with-form false t =
+    without-append 14 (headChecks t) (nodeChecks t)
+    ∙ ap (λ (cs : List Check). cs ++ without 14 (nodeChecks t)) (without-never 14 (headChecks t) (λ p. refl))
+
+pub with-tree : (filed : Bool) (t : List ℕ)
+    → checksWith filed (treeChecks t) ≡ checksWith filed (formChecks t) ++ weightChecks t
+unfolding treeChecks weightChecks heavyNode every
+with-tree filed t = with-after filed (formChecks t) (weightChecks t) (λ p. refl)
+
+pub with-judge : (filed : Bool) (t m : List ℕ)
+    → checksWith filed (judgeChecks t m) ≡ checksWith filed (treeChecks t) ++ markChecks t m
+unfolding judgeChecks markChecks badMarks markRefused pageRefused every
+with-judge filed t m = with-after filed (treeChecks t) (markChecks t m) (λ p. refl)
+
+pub with-write : (filed : Bool) (e : Edition) (t m out : List ℕ)
+    → checksWith filed (writeChecks e t m out) ≡ checksWith filed (judgeChecks t m) ++ filmChecks e t m out
+unfolding writeChecks filmChecks badOutput every
+with-write filed e t m out = with-after filed (judgeChecks t m) (filmChecks e t m out) (λ p. refl)
+
+-- nodes that pass all but 14: with no label 0 they pass, and with one the answer is 14
+module _ (t : List ℕ) (e : passes (without 14 (nodeChecks t)) ≡ true) where
+  pub filed-passes : noLabel t .place ≡ Nowhere → passes (nodeChecks t) ≡ true
+  unfolding Pass pick without nodeChecks noWeight noLabel badWalk
+  filed-passes none =
+      let p = pass-all (without 14 (nodeChecks t)) .0 e in
+      pass-all (nodeChecks t) .1 (p .0, (none, (p .1 .0, tt)))
+
+  pub node-stops : (v : ℕ) → noLabel t .place ≡ At v → (a : Answer) → firstOf (nodeChecks t) a ≡ refused 14 v
+  unfolding Pass pick without firstOf nodeChecks noWeight noLabel badWalk
+  node-stops v found a =
+      atPlace-nowhere (noWeight t .place) (refused 5) _ (pass-all (without 14 (nodeChecks t)) .0 e .0)
+      ∙ atPlace-at (noLabel t .place) v (refused 14) _ found

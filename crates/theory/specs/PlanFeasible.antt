@@ -1,25 +1,31 @@
 -- Feasible plans by number and by shape: the judge finds nothing just where node 1 has mark 1, the marks of the tree
 -- are allowed and every page by shape is within the limit; the verdict is then page count and root weight.
--- Defines Judged, ShapePlan. Proves feasible-parts, feasible-judged, judged-feasible, judged-verdict, judge-feasible,
--- feasible-judge; heavy-bridge, judged-bridge; shape-judged (from FeasibleShape). Assumes nothing.
+-- Defines Judged, feasibleWith, ShapePlan. Proves with-judged, feasible-judged, unfiled-judged, judged-feasible,
+-- judged-verdict, judged-zero, judge-feasible, feasible-judge; filed-feasible, label-stops; heavy-bridge,
+-- judged-bridge; shape-judged (from FeasibleShape). Assumes nothing.
 use Prim.Native.Nat.{ℕ, zero, suc, _-_, _≤_}
 use native.Mathlib.Omega.{arith}
-use mathlib.Core.Bool.{true, false, not}
+use mathlib.Core.Bool.{Bool, true, false, not}
 use mathlib.Core.Path.{_≡_, sym, _∙_, ap}
 use mathlib.Core.Logic.{_↔_}
 use mathlib.Core.List.{List, [], _∷_}
 use lib.ListN.{length, getD}
 use lib.Dec.{ltb}
 use borrow.Author.Tests.{eqb-true, eq-eqb, le-ltb, ltb-false, not-false}
+use Rattle.model.specs.Basics.{pick}
 use Rattle.model.specs.Table.{nodeCount, limitOf, treeOf}
 use Rattle.model.specs.Plan.{markAt, pageCount, pageWeight, badMark, heavyPage, verdictOf}
-use Rattle.model.specs.Refusals.{passes, badMarks, markRefused, pageRefused, treeChecks, markChecks, judgeChecks}
-use Rattle.model.specs.Refusals.{acceptedTree, feasiblePlan, answerOf, judgePlan}
-use Rattle.model.specs.declared.Place.the-variants.{Nowhere}
+use Rattle.model.specs.Refusals.{passes, without, noLabel, badMarks, markRefused, pageRefused, headChecks, nodeChecks}
+use Rattle.model.specs.Refusals.{weightChecks, formChecks, treeChecks, markChecks, judgeChecks, firstOf}
+use Rattle.model.specs.Refusals.{acceptedTree, feasiblePlan, feasibleUnfiled, answerOf, refused, judgePlan}
+use Rattle.model.specs.declared.Answer.{Answer}
+use Rattle.model.specs.declared.Place.the-variants.{At, Nowhere}
 use Rattle.model.specs.declared.Verdict.the-variants.{Feasible}
 use Rattle.theory.specs.Ranges.{Upto, when-false, when-nowhere, atPlace-nowhere, firstTo-none, firstTo-nowhere}
 use Rattle.theory.specs.Checks.{Pass, pass-all, passes-both, both-pass, firstOf-all, accepted-pass, judge-never}
-use Rattle.theory.specs.TableFacts.{SoundFacts, AcceptedFacts, accepted-facts}
+use Rattle.theory.specs.Checks.{firstOf-pass, firstOf-append, checksWith, passes-unfiled, with-form, with-tree}
+use Rattle.theory.specs.Checks.{with-judge, filed-passes, node-stops}
+use Rattle.theory.specs.TableFacts.{SoundFacts, AcceptedFacts, unfiled-facts}
 use Rattle.theory.specs.TableNumbered.{tree-size}
 use Rattle.theory.specs.PlanShape.{allowed, weighed, AllWithin}
 use Rattle.theory.specs.PlanLaid.{FeasibleShape}
@@ -59,11 +65,6 @@ pub record Judged (t m : List ℕ) : Type 0 where
   pub marked : badMark t m ≡ Nowhere
   pub light : heavyPage t m ≡ Nowhere
 
-pub feasible-parts : (t m : List ℕ) → feasiblePlan t m ≡ true → (acceptedTree t ≡ true)
-    × (passes (markChecks t m) ≡ true)
-unfolding feasiblePlan judgeChecks acceptedTree
-feasible-parts t m e = passes-both (treeChecks t) (markChecks t m) e
-
 pub marks-judged : (t m : List ℕ) → AcceptedFacts t → passes (markChecks t m) ≡ true → Judged t m
 unfolding Pass markChecks badMarks markRefused pageRefused
 marks-judged t m a e =
@@ -75,9 +76,23 @@ marks-judged t m a e =
       light = p .1 .1 .0;
     }
 
+-- the judge with 14, or without, finds nothing
+abbrev pub feasibleWith : Bool → List ℕ → List ℕ → Bool
+feasibleWith filed t m = passes (checksWith filed (judgeChecks t m))
+
+pub with-judged : (filed : Bool) (t m : List ℕ) → feasibleWith filed t m ≡ true → Judged t m
+with-judged filed t m e =
+    let parts =
+    passes-both (checksWith filed (treeChecks t)) (markChecks t m) (sym (ap passes (with-judge filed t m)) ∙ e) in
+    marks-judged t m (unfiled-facts t (passes-unfiled filed (treeChecks t) (parts .0))) (parts .1)
+
 pub feasible-judged : (t m : List ℕ) → feasiblePlan t m ≡ true → Judged t m
-feasible-judged t m e =
-    let parts = feasible-parts t m e in marks-judged t m (accepted-facts t (parts .0)) (parts .1)
+unfolding feasiblePlan pick
+feasible-judged t m e = with-judged true t m e
+
+pub unfiled-judged : (t m : List ℕ) → feasibleUnfiled t m ≡ true → Judged t m
+unfolding feasibleUnfiled pick
+unfiled-judged t m e = with-judged false t m e
 
 pub judged-feasible : {t m : List ℕ} → acceptedTree t ≡ true → Judged t m → feasiblePlan t m ≡ true
 unfolding Pass feasiblePlan judgeChecks acceptedTree markChecks badMarks markRefused pageRefused
@@ -91,6 +106,9 @@ unfolding verdictOf
 judged-verdict {t} {m} j = atPlace-nowhere (badMark t m) _ _ (j .marked) ∙ atPlace-nowhere (heavyPage t m) _ _
     (j .light)
 
+pub judged-zero : {t m : List ℕ} → Judged t m → answerOf (verdictOf t m) .number ≡ 0
+judged-zero j = ap (λ v. answerOf v .number) (judged-verdict j)
+
 -- ---- The judge's answer
 
 pub judge-feasible : (t m : List ℕ) → judgePlan t m .number ≡ 0 → feasiblePlan t m ≡ true
@@ -102,6 +120,40 @@ pub feasible-judge : (t m : List ℕ) → feasiblePlan t m ≡ true
 unfolding judgePlan feasiblePlan
 feasible-judge t m e =
     firstOf-all (judgeChecks t m) (answerOf (verdictOf t m)) e ∙ ap answerOf (judged-verdict (feasible-judged t m e))
+
+-- ---- A plan in which nothing but labels is refused
+
+module _ (t m : List ℕ) (f : feasibleUnfiled t m ≡ true) where
+  unfiled-parts : (passes (headChecks t) ≡ true) × (passes (without 14 (nodeChecks t)) ≡ true)
+      × (passes (weightChecks t) ≡ true) × (passes (markChecks t m) ≡ true)
+  unfolding feasibleUnfiled pick
+  unfiled-parts =
+      let plan =
+      passes-both (without 14 (treeChecks t)) (markChecks t m) (sym (ap passes (with-judge false t m)) ∙ f) in
+      let tree =
+      passes-both (without 14 (formChecks t)) (weightChecks t) (sym (ap passes (with-tree false t)) ∙ plan .0) in
+      let form =
+      passes-both (headChecks t) (without 14 (nodeChecks t)) (sym (ap passes (with-form false t)) ∙ tree .0) in
+      (form .0, form .1, tree .1, plan .1)
+
+  -- with no label 0 it is feasible
+  pub filed-feasible : noLabel t .place ≡ Nowhere → feasiblePlan t m ≡ true
+  unfolding feasiblePlan judgeChecks treeChecks formChecks
+  filed-feasible none =
+      let p = unfiled-parts in
+      both-pass (treeChecks t) (markChecks t m)
+      (both-pass (formChecks t) (weightChecks t)
+      (both-pass (headChecks t) (nodeChecks t) (p .0) (filed-passes t (p .1) none)) (p .2))
+      (p .3)
+
+  -- with one, 14 is the answer
+  pub label-stops : (v : ℕ) → noLabel t .place ≡ At v → (a : Answer) → firstOf (judgeChecks t m) a ≡ refused 14 v
+  unfolding judgeChecks treeChecks formChecks
+  label-stops v found a =
+      firstOf-append (treeChecks t) (markChecks t m) a
+      ∙ firstOf-append (formChecks t) (weightChecks t) (firstOf (markChecks t m) a)
+      ∙ firstOf-pass (headChecks t) (nodeChecks t) _ (unfiled-parts .0)
+      ∙ node-stops t (unfiled-parts .1) v found _
 
 -- ---- By shape
 

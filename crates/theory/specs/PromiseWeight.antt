@@ -9,7 +9,8 @@ use mathlib.Core.Logic.{_↔_}
 use mathlib.Core.List.{List, _++_, append-assoc}
 use Rattle.model.specs.Plan.{verdictOf}
 use Rattle.model.specs.Refusals.{Check, treeChecks, markChecks, filmChecks, judgeChecks, writeChecks, passes}
-use Rattle.model.specs.Refusals.{answerOf, accepted, firstOf, readTree, judgePlan, writeArchive}
+use Rattle.model.specs.Refusals.{answerOf, accepted, firstOf, readTree, judgePlan, writeChecked}
+use Rattle.model.specs.Refusals.{writeArchive}
 use Rattle.model.specs.Demand.{WeightPromise}
 use Rattle.model.specs.declared.Cause.the-variants.{BadMark, HeavyPage}
 use Rattle.model.specs.declared.Verdict.{Verdict}
@@ -61,7 +62,7 @@ module _ (t m : List ℕ) where
       (verdict-never-seven (verdictOf t m)))
 
   pub write-weight : (e : Edition) (out : List ℕ) → WeightPromise t (writeArchive e t m out .answer)
-  unfolding writeArchive writeChecks judgeChecks
+  unfolding writeArchive writeChecked writeChecks judgeChecks
   write-weight e out =
       weight-promise t (writeArchive e t m out .answer)
       (rw (append-assoc (treeChecks t) (markChecks t m) (filmChecks e t m out))

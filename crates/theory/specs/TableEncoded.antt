@@ -13,6 +13,7 @@ use lib.ListN.{length, length-append}
 use Rattle.model.specs.Table.{Bytes, maxNodes, maxLimit, wordAt, bytesOf, nodeCount, limitOf, fieldAt, weightAt}
 use Rattle.model.specs.Table.{labelAt, firstAt, nextAt, tableBytes, Chain, end, node, treeOf}
 use Rattle.model.specs.Refusals.{acceptedTree}
+use Rattle.model.specs.Demand.{Filed}
 use Rattle.theory.specs.Words.{Words, word-small, words-nil, words-cons, words-append, words-bytes}
 use Rattle.theory.specs.Words.{length-bytesOf, wordAt-bytesOf, Holds, holds-bytesOf, holds-append}
 use Rattle.theory.specs.TableFacts.{AcceptedFacts, facts-accepted}
@@ -81,7 +82,7 @@ holds-numbered t (node w l kids next) m i place h =
 
 -- the weight and the label of a node
 abbrev pub Fits : ℕ → ℕ → ℕ → Type 0
-Fits K w l = (1 ≤ w) × (w ≤ K) × (l < 65536)
+Fits K w l = (1 ≤ w) × (w ≤ K) × (1 ≤ l) × (l < 65536)
 
 pub record Encodable (K : ℕ) (c : Chain) : Type 0 where
   pub limit-low : 1 ≤ K
@@ -89,11 +90,16 @@ pub record Encodable (K : ℕ) (c : Chain) : Type 0 where
   pub few : size c ≤ maxNodes
   pub nodes : EachNode (Fits K) c
 
-pub tree-fits : {t : List ℕ} → AcceptedFacts t → Bytes t → EachNode (Fits (limitOf t)) (treeOf t)
+pub tree-fits : {t : List ℕ} → AcceptedFacts t → Filed t → Bytes t → EachNode (Fits (limitOf t)) (treeOf t)
 unfolding fieldAt
-tree-fits {t} a h =
+tree-fits {t} a f h =
     numbered-each (Fits (limitOf t)) (sound-tree (a .sound))
-    (λ u low high. (a .sound .weighs u low high, a .light u low high, word-small t (2 + 4 * (u - 1) + 1) h))
+    (λ u low high. (
+      a .sound .weighs u low high,
+      a .light u low high,
+      f u low high,
+      word-small t (2 + 4 * (u - 1) + 1) h,
+    ))
 
 linkTo-le : (m : ℕ) (c : Chain) → linkTo m c ≤ m + size c
 unfolding linkTo size
@@ -109,7 +115,7 @@ records-words K m (node w l kids next) h high few =
     let b : ℕ = linkTo last next in
     let rest : List ℕ = records (suc m) kids ++ records last next in
     words-cons w (l ∷ a ∷ b ∷ rest) (omega (arith, h .0 .1))
-    (words-cons l (a ∷ b ∷ rest) (h .0 .2)
+    (words-cons l (a ∷ b ∷ rest) (h .0 .3)
     (words-cons a (b ∷ rest) (omega (arith, linkTo-le (suc m) kids))
     (words-cons b rest (omega (arith, linkTo-le last next))
     (words-append (records (suc m) kids) (records last next)
@@ -160,6 +166,10 @@ module _ (K w l : ℕ) (kids : Chain) where
   unfolding encoded records linkTo
   encoded-alone = field-word (encoded K tree) 0 3 5 refl ∙ wordAt-bytesOf (size tree ∷ K ∷ records 0 tree) 5
 
+  encoded-fits : Encodable K tree → (v : ℕ) → 1 ≤ v → v ≤ nodeCount (encoded K tree)
+      → Fits K (weightAt (encoded K tree) v) (labelAt (encoded K tree) v)
+  encoded-fits h = each-numbered (Fits K) encoded-root (h .nodes)
+
   encoded-facts : Encodable K tree → AcceptedFacts (encoded K tree)
   encoded-facts h =
       record {
@@ -170,17 +180,17 @@ module _ (K w l : ℕ) (kids : Chain) where
               limit-low = omega (arith, encoded-limit K tree, h .limit-low);
               limit-high = omega (arith, encoded-limit K tree, h .limit-high);
               bytes = omega (arith, encoded-length K tree, encoded-count K tree);
-              weighs = λ v low high. fits v low high .0;
+              weighs = λ v low high. encoded-fits h v low high .0;
               root-alone = encoded-alone;
               walks = numbered-walk encoded-root;
             };
-        light = λ v low high. rw (encoded-limit K tree) (fits v low high .1);
+        light = λ v low high. rw (encoded-limit K tree) (encoded-fits h v low high .1);
       }
-    where
-      fits : (v : ℕ) → 1 ≤ v → v ≤ nodeCount (encoded K tree)
-          → Fits K (weightAt (encoded K tree) v) (labelAt (encoded K tree) v)
-      fits = each-numbered (Fits K) encoded-root (h .nodes)
 
   pub encoded-accepted : Encodable K tree
       → (acceptedTree (encoded K tree) ≡ true) × (treeOf (encoded K tree) ≡ tree) × Bytes (encoded K tree)
-  encoded-accepted h = (facts-accepted (encoded K tree) (encoded-facts h), encoded-tree, encoded-bytes K tree h)
+  encoded-accepted h = (
+    facts-accepted (encoded K tree) (encoded-facts h) (λ v low high. encoded-fits h v low high .2),
+    encoded-tree,
+    encoded-bytes K tree h,
+  )

@@ -1,7 +1,8 @@
--- What a table of sound form is, as plain facts, and what an accepted one is besides.
+-- What a table of sound form is but for its labels, as plain facts, and what an accepted one is besides. Labels are
+-- apart, since older film tells trees with labels 0.
 -- Defines SoundFacts, AcceptedFacts. Proves that they say what the parts of the list of checks say: head-facts,
--- sound-facts, facts-sound, light-passes; accepted-parts, sound-accepted, accepted-facts, facts-accepted. Assumes
--- nothing.
+-- sound-facts, filed-nowhere, unfiled-first, facts-sound, light-passes; accepted-parts, sound-accepted, unfiled-facts,
+-- accepted-facts, facts-accepted. Assumes nothing.
 use Prim.Native.Nat.{ℕ, _+_, _*_, _≤_}
 use native.Mathlib.Omega.{arith}
 use mathlib.Core.Bool.{Bool, true, false, not, _||_}
@@ -11,16 +12,18 @@ use mathlib.Core.List.{List, [], _∷_}
 use lib.ListN.{length}
 use lib.Dec.{eqb, ltb}
 use borrow.Author.Tests.{eqb-true, eqb-false, eq-eqb, ne-eqb, ltb-false, le-ltb, not-false}
-use Rattle.model.specs.Basics.{firstTo}
-use Rattle.model.specs.Table.{maxNodes, maxLimit, nodeCount, limitOf, weightAt, nextAt, tableBytes, walkFrom, walkPlace}
-use Rattle.model.specs.Refusals.{passes, headChecks, nodeChecks, weightChecks, formChecks, treeChecks, soundForm}
-use Rattle.model.specs.Refusals.{acceptedTree}
-use Rattle.model.specs.Refusals.{shortTable, badCount, badLimit, badLength, noWeight, badWalk, heavyNode}
+use Rattle.model.specs.Basics.{pick}
+use Rattle.model.specs.Table.{maxNodes, maxLimit, nodeCount, limitOf, weightAt, labelAt, nextAt, tableBytes, walkFrom}
+use Rattle.model.specs.Table.{walkPlace}
+use Rattle.model.specs.Refusals.{passes, without, headChecks, nodeChecks, weightChecks, formChecks, treeChecks}
+use Rattle.model.specs.Refusals.{soundForm, acceptedTree}
+use Rattle.model.specs.Refusals.{shortTable, badCount, badLimit, badLength, noWeight, noLabel, badWalk, heavyNode}
+use Rattle.model.specs.Demand.{Filed, FirstUnfiled}
 use Rattle.model.specs.declared.Place.the-variants.{At, Nowhere}
 use Rattle.theory.specs.Bools.{both-false}
 use Rattle.theory.specs.Ranges.{Upto, pick-true, pick-false, when-false, when-nowhere, at-nowhere, firstTo-none}
-use Rattle.theory.specs.Ranges.{firstTo-nowhere}
-use Rattle.theory.specs.Checks.{Pass, pass-all, passes-both, both-pass}
+use Rattle.theory.specs.Ranges.{firstTo-nowhere, firstTo-first}
+use Rattle.theory.specs.Checks.{Pass, pass-all, passes-both, both-pass, passes-without, with-form, with-tree}
 
 pub record SoundFacts (t : List ℕ) : Type 0 where
   pub count-low : 1 ≤ nodeCount t
@@ -77,12 +80,12 @@ head-facts t e =
           (not-false _ (when-nowhere _ (tableBytes (nodeCount t)) (p .1 .1 .1 .0))),
     )
 
-pub sound-facts : (t : List ℕ) → soundForm t ≡ true → SoundFacts t
-unfolding Pass soundForm formChecks nodeChecks noWeight badWalk
-sound-facts t e =
-    let parts = passes-both (headChecks t) (nodeChecks t) e in
+form-facts : (t : List ℕ) → passes (without 14 (formChecks t)) ≡ true → SoundFacts t
+unfolding Pass pick without nodeChecks noWeight noLabel badWalk
+form-facts t e =
+    let parts = passes-both (headChecks t) (without 14 (nodeChecks t)) (sym (ap passes (with-form false t)) ∙ e) in
     let h = head-facts t (parts .0) in
-    let p = pass-all (nodeChecks t) .0 (parts .1) in
+    let p = pass-all (without 14 (nodeChecks t)) .0 (parts .1) in
     let alone : nextAt t 1 ≡ 0 = walk-alone t (p .1 .0) in
     record {
       count-low = h .0 .0;
@@ -99,12 +102,34 @@ sound-facts t e =
       walks = sym (walk-is t alone) ∙ p .1 .0;
     }
 
--- facts that are all of the form; the form is more than these where a check looks at something that they leave out
-pub facts-sound : (t : List ℕ) → SoundFacts t → soundForm t ≡ true
-unfolding Pass soundForm formChecks headChecks nodeChecks shortTable badCount badLimit badLength noWeight badWalk
-facts-sound t s =
+pub sound-facts : (t : List ℕ) → soundForm t ≡ true → SoundFacts t
+unfolding soundForm
+sound-facts t e = form-facts t (passes-without 14 (formChecks t) e)
+
+-- 14: no label is 0, or node v is the first
+pub filed-nowhere : (t : List ℕ) → Filed t → noLabel t .place ≡ Nowhere
+unfolding noLabel
+filed-nowhere t f =
+    firstTo-none (nodeCount t) (λ v. eqb (labelAt t v) 0)
+    (λ v low high. ne-eqb (labelAt t v) 0 (λ z. omega (arith, f v low high)))
+
+pub unfiled-first : (t : List ℕ) (v : ℕ) → FirstUnfiled t v → noLabel t .place ≡ At v
+unfolding noLabel
+unfiled-first t v f =
+    firstTo-first (nodeCount t) v (λ u. eqb (labelAt t u) 0)
+    (record {
+      low = f .low;
+      high = f .high;
+      passed = eq-eqb (labelAt t v) 0 (f .label);
+      before = λ u low less. ne-eqb (labelAt t u) 0 (λ z. omega (arith, f .before u low less));
+    })
+
+pub facts-sound : (t : List ℕ) → SoundFacts t → Filed t → soundForm t ≡ true
+unfolding Pass soundForm formChecks headChecks nodeChecks shortTable badCount badLimit badLength noWeight noLabel
+    badWalk
+facts-sound t s f =
     both-pass (headChecks t) (nodeChecks t) (pass-all (headChecks t) .1 (short, (count, (limit, (long, tt)))))
-    (pass-all (nodeChecks t) .1 (weigh, (walk-is t (s .root-alone) ∙ s .walks, tt)))
+    (pass-all (nodeChecks t) .1 (weigh, (filed-nowhere t f, (walk-is t (s .root-alone) ∙ s .walks, tt))))
   where
     short : shortTable t .place ≡ Nowhere
     short = when-false (ltb (length t) 4) 0 (le-ltb (length t) 4 (omega (arith, s .bytes)))
@@ -148,10 +173,16 @@ pub sound-accepted : (t : List ℕ) → soundForm t ≡ true → Upto (nodeCount
 unfolding acceptedTree treeChecks soundForm
 sound-accepted t e h = both-pass (formChecks t) (weightChecks t) e (light-passes t .1 h)
 
-pub accepted-facts : (t : List ℕ) → acceptedTree t ≡ true → AcceptedFacts t
-accepted-facts t e =
-    let parts = accepted-parts t e in
-    record { sound = sound-facts t (parts .0); light = light-passes t .0 (parts .1) }
+-- accepted, or refused with nothing but 14
+pub unfiled-facts : (t : List ℕ) → passes (without 14 (treeChecks t)) ≡ true → AcceptedFacts t
+unfolding pick
+unfiled-facts t e =
+    let parts = passes-both (without 14 (formChecks t)) (weightChecks t) (sym (ap passes (with-tree false t)) ∙ e) in
+    record { sound = form-facts t (parts .0); light = light-passes t .0 (parts .1) }
 
-pub facts-accepted : (t : List ℕ) → AcceptedFacts t → acceptedTree t ≡ true
-facts-accepted t a = sound-accepted t (facts-sound t (a .sound)) (a .light)
+pub accepted-facts : (t : List ℕ) → acceptedTree t ≡ true → AcceptedFacts t
+unfolding acceptedTree
+accepted-facts t e = unfiled-facts t (passes-without 14 (treeChecks t) e)
+
+pub facts-accepted : (t : List ℕ) → AcceptedFacts t → Filed t → acceptedTree t ≡ true
+facts-accepted t a f = sound-accepted t (facts-sound t (a .sound) f) (a .light)
