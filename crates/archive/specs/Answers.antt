@@ -9,11 +9,11 @@ use mathlib.Core.Path.{_≡_, sym, _∙_, ap, ap₂}
 use mathlib.Core.List.{List}
 use lib.ListN.{length}
 use lib.Dec.{leb}
-use Rattle.model.specs.Basics.{sameList}
+use Rattle.model.specs.Basics.{pick, sameList}
 use Rattle.model.specs.Table.{Bytes}
 use Rattle.model.specs.Plan.{verdictOf}
 use Rattle.model.specs.Archive.{archiveOf, nodesIn, tableIn, marksIn}
-use Rattle.model.specs.Refusals.{feasiblePlan, refused, answerOf, Written, writeArchive, isArchive, Restored}
+use Rattle.model.specs.Refusals.{feasibleUnfiled, refused, answerOf, Written, writeArchive, isArchive, Restored}
 use Rattle.model.specs.Refusals.{readArchive}
 use Rattle.model.specs.Demand.{WritePromise, ReadPromise}
 use Rattle.model.specs.declared.Answer.{Answer}
@@ -22,7 +22,7 @@ use Rattle.theory.specs.Bools.{never-true, both-true, and-false-right}
 use Rattle.theory.specs.JudgeAnswers.{pageCount-le}
 use Rattle.theory.specs.ArchiveWords.{Described, length-archive, archive-nodes}
 use Rattle.theory.specs.ArchiveBack.{sameList-true, write-read, read-write}
-use Rattle.theory.specs.ArchiveAnswers.{WriteDone, writer-done, writer-refused}
+use Rattle.theory.specs.ArchiveAnswers.{writeWith, WriteDone, writer-done, writer-refused}
 use Rattle.theory.specs.PromiseArchive.{write-promise, read-promise}
 use Rattle.archive.specs.Size.{longestArchive, InRoom, fits-longest}
 
@@ -60,10 +60,10 @@ pub record CopyJudged (e : Edition) (a t m : List ℕ) (r : Answer) : Type 0 whe
   pub accepts : r .number ≡ 0
       → (isArchive e a ≡ true) × (tableIn e a ≡ t) × (marksIn e a ≡ m) × (r ≡ answerOf (verdictOf t m))
   pub refuses : (r .number ≡ 0 → ⊥)
-      → (r ≡ refused 13 0) × ((feasiblePlan t m && sameList (archiveOf e t m) a) ≡ false)
+      → (r ≡ refused 13 0) × ((feasibleUnfiled t m && sameList (archiveOf e t m) a) ≡ false)
 
 pub copy-refused : {e : Edition} {a t m : List ℕ} {r : Answer} → r ≡ refused 13 0
-    → (feasiblePlan t m && sameList (archiveOf e t m) a) ≡ false → CopyJudged e a t m r
+    → (feasibleUnfiled t m && sameList (archiveOf e t m) a) ≡ false → CopyJudged e a t m r
 copy-refused {r} is h =
     record {
       accepts = λ z. absurd (omega (arith, ap (λ (x : Answer). x .number) is));
@@ -73,12 +73,12 @@ copy-refused {r} is h =
 module _ {e : Edition} (room : InRoom e) (a t m : List ℕ) where
   -- an archive with no more nodes than its edition takes is not longer than the longest
   pub copy-long : nodesIn e a ≤ e .most → longestArchive < length a
-      → (feasiblePlan t m && sameList (archiveOf e t m) a) ≡ false
+      → (feasibleUnfiled t m && sameList (archiveOf e t m) a) ≡ false
   copy-long few long =
       never-true _
       (λ y.
       let same : archiveOf e t m ≡ a =
-      sameList-true (archiveOf e t m) a (both-true (feasiblePlan t m) (sameList (archiveOf e t m) a) y .1) in
+      sameList-true (archiveOf e t m) a (both-true (feasibleUnfiled t m) (sameList (archiveOf e t m) a) y .1) in
       omega (
         arith,
         ap length same,
@@ -87,28 +87,30 @@ module _ {e : Edition} (room : InRoom e) (a t m : List ℕ) where
             (omega (arith, ap (nodesIn e) same, archive-nodes (room .is) t m)),
       ))
 
-  -- the writer's answer and output, compared with the archive
-  module _ (start out : List ℕ) (r : Answer) (w : written r out ≡ writeArchive e t m start) where
-    number-is : r .number ≡ writeArchive e t m start .answer .number
+  -- the answer and the output of the writer without 14, compared with the archive
+  module _ (start out : List ℕ) (r : Answer) (w : written r out ≡ writeWith false e t m start) where
+    number-is : r .number ≡ writeWith false e t m start .answer .number
     number-is = ap (λ (x : Written). x .answer .number) w
 
     pub copy-stopped : (r .number ≡ 0 → ⊥) → length start ≡ length a
-        → (feasiblePlan t m && sameList (archiveOf e t m) a) ≡ false
-    copy-stopped h long = writer-refused e t m start (room .is) (λ z. h (number-is ∙ z)) a long
+        → (feasibleUnfiled t m && sameList (archiveOf e t m) a) ≡ false
+    unfolding feasibleUnfiled pick
+    copy-stopped h long = writer-refused false e t m start (room .is) (λ z. h (number-is ∙ z)) a long
 
     module _ (z : r .number ≡ 0) where
-      done : WriteDone e t m start
-      done = writer-done e t m start (room .is) (sym number-is ∙ z)
+      done : WriteDone false e t m start
+      done = writer-done false e t m start (room .is) (sym number-is ∙ z)
 
       out-is : out ≡ archiveOf e t m
       out-is = ap (λ (x : Written). x .archive) (w ∙ done .wrote)
 
-      pub copy-differs : sameList out a ≡ false → (feasiblePlan t m && sameList (archiveOf e t m) a) ≡ false
+      pub copy-differs : sameList out a ≡ false → (feasibleUnfiled t m && sameList (archiveOf e t m) a) ≡ false
       copy-differs n =
-          and-false-right (feasiblePlan t m) (sameList (archiveOf e t m) a)
+          and-false-right (feasibleUnfiled t m) (sameList (archiveOf e t m) a)
           (ap (λ o. sameList o a) (sym out-is) ∙ n)
 
       pub copy-same : Bytes t → sameList out a ≡ true → CopyJudged e a t m r
+      unfolding feasibleUnfiled pick
       copy-same b y =
           let same : archiveOf e t m ≡ a = sym out-is ∙ sameList-true out a y in
           let back = rw same at (write-read (room .is) b (done .feasible) (done .few)) in
@@ -122,7 +124,7 @@ module _ {e : Edition} (room : InRoom e) (a t m : List ℕ) where
 module _ (e : Edition) (a : List ℕ) where
   -- a refused candidate that is what the archive tells: no archive
   pub not-archive : (t m : List ℕ) → (isArchive e a ≡ true → (t ≡ tableIn e a) × (m ≡ marksIn e a))
-      → (feasiblePlan t m && sameList (archiveOf e t m) a) ≡ false → isArchive e a ≡ false
+      → (feasibleUnfiled t m && sameList (archiveOf e t m) a) ≡ false → isArchive e a ≡ false
   unfolding isArchive
   not-archive t m h n =
       never-true (isArchive e a)
@@ -130,7 +132,7 @@ module _ (e : Edition) (a : List ℕ) where
       let both = h y in
       true≢false
       (sym (both-true (leb (nodesIn e a) (e .most)) _ y .1)
-      ∙ ap₂ (λ x z. feasiblePlan x z && sameList (archiveOf e x z) a) (sym (both .0)) (sym (both .1))
+      ∙ ap₂ (λ x z. feasibleUnfiled x z && sameList (archiveOf e x z) a) (sym (both .0)) (sym (both .1))
       ∙ n))
 
   -- too many nodes: no archive

@@ -20,7 +20,7 @@ use Rattle.model.specs.declared.Edition.{Edition}
 use Rattle.theory.specs.Ranges.{Upto, pick-true, pick-false, listTo-cong}
 use Rattle.theory.specs.Lists.{getD-set}
 use Rattle.theory.specs.TableLinks.{parentAt-less}
-use Rattle.theory.specs.PlanFeasible.{Judged, feasible-judged}
+use Rattle.theory.specs.PlanFeasible.{Judged, unfiled-judged}
 use Rattle.theory.specs.PagesByNumber.{Page}
 use Rattle.theory.specs.Put.{length-recordsTo}
 use Rattle.theory.specs.ArchiveWords.{Described, archive-nodes, archive-pages, archive-parent}
@@ -35,7 +35,7 @@ pub record WrittenBy (e : Edition) (a t m : List ℕ) : Type 0 where
 pub written-by : (e : Edition) (a : List ℕ) → isArchive e a ≡ true → WrittenBy e a (tableIn e a) (marksIn e a)
 written-by e a y =
     let r = read-write e a y in
-    record { plan = feasible-judged (tableIn e a) (marksIn e a) (r .feasible); same = r .same }
+    record { plan = unfiled-judged (tableIn e a) (marksIn e a) (r .feasible); same = r .same }
 
 module _ {e : Edition} (d : Described e) {a t m : List ℕ} (w : WrittenBy e a t m) where
   pub by-nodes : nodesIn e a ≡ nodeCount t

@@ -1,5 +1,5 @@
-// The archive's reader. It decodes a tree and a plan, has the writer write them, and accepts where that gives the very
-// same bytes.
+// The archive's reader. It decodes a tree and a plan, has the writer write them, labels 0 and all, and accepts where
+// that gives the very same bytes.
 use crate::decode::decode;
 use crate::fields::nodes_in;
 use crate::size::MOST_BYTES;
@@ -9,7 +9,7 @@ use crate::size::first_edition;
 use crate::write::write_edition;
 use model::Answer;
 use model::Edition;
-use table::read_tree;
+use table::check_tree;
 use table::refuse;
 use table::table_bytes;
 ghost use mathlib.Core.Path.{_≡_};
@@ -51,8 +51,7 @@ fn copy_bytes(from: &[u8], to: &mut [u8])
     }
 }
 
-// The writer's answer where it writes this archive of the tree and the plan, and else 13. It goes on from the answer of
-// what judges the tree here.
+// The answer of the writer without 14, where it writes this archive of the tree and the plan, and else 13.
 fn judge_copy(e: Edition, archive: &[u8], tree: &[u8], plan: &[u8]) -> Answer
     requires { ⌜ InRoom e × (nodesIn e (now archive) ≤ e .most) ⌝ }
     ensures { λ r. ⌜ CopyJudged e (now (archive .entry)) (now (tree .entry)) (now (plan .entry)) r ⌝ }
@@ -62,7 +61,7 @@ fn judge_copy(e: Edition, archive: &[u8], tree: &[u8], plan: &[u8]) -> Answer
         return refuse(13, 0);
     }
     let mut copy = [0u8; MOST_BYTES];
-    let judged = read_tree(tree);
+    let judged = check_tree(tree, false);
     let answer = write_edition(e, judged, tree, plan, &mut copy[..size]);
     if answer.number != 0 {
         return refuse(13, 0);
@@ -104,7 +103,8 @@ fn read_edition(e: Edition, archive: &[u8], table: &mut [u8], marks: &mut [u8]) 
     answer
 }
 
-// Entry: the archive reader. What was written reads back, and what is read is what writing gives.
+// Entry: the archive reader. What was written reads back, and what is read is what writing gives, but that film may
+// have labels 0, which are not written again.
 pub fn read_archive(archive: &[u8], table: &mut [u8], marks: &mut [u8]) -> Answer
     ensures { λ r. ⌜ restored r (now (table .exit)) (now (marks .exit))
         ≡ readArchive firstEdition (now (archive .entry)) (now (table .entry)) (now (marks .entry)) ⌝ }

@@ -10,7 +10,7 @@ use judge::Layout;
 use judge::judge_pages;
 use model::Answer;
 use model::Edition;
-use table::read_tree;
+use table::check_tree;
 use table::refuse;
 use table::words::limit_of;
 use table::words::node_count;
@@ -68,6 +68,6 @@ pub fn write_archive(table: &[u8], marks: &[u8], out: &mut [u8]) -> Answer
     ensures { λ r. ⌜ WritePromise firstEdition (now (table .entry)) (now (marks .entry)) (now (out .entry))
         r (now (out .exit)) ⌝ }
 {
-    let tree = read_tree(table);
+    let tree = check_tree(table, true);
     write_edition(first_edition(), tree, table, marks, out)
 }

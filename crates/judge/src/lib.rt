@@ -1,5 +1,5 @@
-// The judge of plans: bad marks, page weights, and the verdict, with the layout that they come from. Refusals 1 to
-// 8, 10 and 11.
+// The judge of plans: bad marks, page weights, and the verdict, with the layout that they come from. The tree's
+// refusals, 8, 10 and 11.
 mod marks;
 mod pages;
 

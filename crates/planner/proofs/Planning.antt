@@ -1,4 +1,4 @@
--- What all planners share: the refusals 1 to 9, what holds where there is none, and the last step from marks that are
+-- What all planners share: the refusals, what holds where there is none, and the last step from marks that are
 -- laid to the whole outcome and its promises. Assumes nothing.
 use Prim.Native.Nat.{ℕ, _+_, _*_, _≤_}
 use native.Mathlib.Omega.{arith}

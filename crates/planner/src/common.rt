@@ -1,4 +1,4 @@
-// What all planners share: the refusals 1 to 9, the words that the scratch keeps of each node, and the clearing of the
+// What all planners share: the refusals, the words that the scratch keeps of each node, and the clearing of the
 // scratch.
 use model::Answer;
 use table::accept;
@@ -13,7 +13,7 @@ ghost use lib.ListN.{length, replicate};
 ghost use Rattle.model.specs.Refusals.{planChecks, firstOf, accepted};
 ghost use Rattle.planner.specs.Kept.{kept};
 
-// 1 to 9: the answer, or acceptance with no verdict yet.
+// The tree's refusals, 8 and 9: the answer, or acceptance with no verdict yet.
 pub fn check_plan(table: &[u8], marks: &[u8], scratch: &[u32]) -> Answer
     ensures { λ r. ⌜ r
         ≡ firstOf (planChecks (now (table .entry)) (now (marks .entry)) (now (scratch .entry))) accepted ⌝ }

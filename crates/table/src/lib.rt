@@ -1,5 +1,5 @@
-// The tree reader: words, the walk of the chains, and the refusals 1 to 7. Words are also put, for whoever writes a
-// table.
+// The tree reader: words, the walk of the chains, and the refusals 1 to 7 and 14. Words are also put, for whoever
+// writes a table.
 pub mod put;
 mod walk;
 pub mod words;
@@ -8,16 +8,19 @@ use model::Answer;
 use model::Beside;
 use model::Place;
 use walk::walk_place;
+use words::field_at;
 use words::limit_of;
 use words::node_count;
 use words::weight_at;
 ghost use mathlib.Core.Path.{_≡_};
 ghost use lib.Dec.{eqb, ltb};
 ghost use mathlib.Core.Bool.{_||_};
-ghost use Rattle.model.specs.Basics.{firstTo, when, atPlace};
-ghost use Rattle.model.specs.Table.{tableBytes, weightAt};
+ghost use Rattle.model.specs.Basics.{pick, firstTo, when, atPlace};
+ghost use Rattle.model.specs.Table.{tableBytes, fieldAt, weightAt, labelAt};
 ghost use Rattle.model.specs.Refusals.{refused, accepted, headChecks, firstOf, readTree};
 ghost use Rattle.model.specs.Demand.{WeightPromise};
+ghost use Rattle.model.specs.declared.Place.the-variants.{Nowhere};
+ghost use Rattle.theory.specs.JudgeAnswers.{treeAnswer};
 
 // The most nodes that a table has.
 pub const MAX_NODES: u16 = 1024;
@@ -39,18 +42,29 @@ pub fn refuse(number: u32, place: u32) -> Answer
     }
 }
 
-// The first node that weighs nothing.
-fn first_weightless(table: &[u8], nodes: u16) -> Place
-    ensures { λ r. ⌜ r ≡ firstTo nodes (λ v. eqb (weightAt (now (table .entry)) v) 0) ⌝ }
+// The first node whose record has 0 as word f.
+fn first_zero(table: &[u8], nodes: u16, f: u8) -> Place
+    ensures { λ r. ⌜ r ≡ firstTo nodes (λ v. eqb (fieldAt (now (table .entry)) v f) 0) ⌝ }
 {
-    let mut v: u16 = 0;
-    while v < nodes {
-        v += 1;
-        if weight_at(table, v) == 0 {
-            return Place::At(v as u32);
+    let mut node: u16 = 0;
+    while node < nodes {
+        node += 1;
+        if field_at(table, node, f) == 0 {
+            return Place::At(node as u32);
         }
     }
     Place::Nowhere
+}
+
+// The first node with label 0, where a tree is to be filed.
+fn first_unfiled(table: &[u8], nodes: u16, filed: bool) -> Place
+    ensures { λ r. ⌜ r ≡ pick filed (firstTo nodes (λ v. eqb (labelAt (now (table .entry)) v) 0)) Nowhere ⌝ }
+{
+    if filed {
+        first_zero(table, nodes, 1)
+    } else {
+        Place::Nowhere
+    }
 }
 
 // The first node that outweighs the limit.
@@ -130,10 +144,9 @@ fn read_head(table: &[u8]) -> Answer
     )
 }
 
-// Entry: the tree reader, with the refusals 1 to 7. 7 means that no sequence of sibling runs holds the tree.
-pub fn read_tree(table: &[u8]) -> Answer
-    ensures { λ r. ⌜ r ≡ readTree (now (table .entry)) ⌝ }
-    ensures { λ r. ⌜ WeightPromise (now (table .entry)) r ⌝ }
+// The refusals 1 to 7, with 14 or, for trees told by film that may be older, without.
+pub fn check_tree(table: &[u8], filed: bool) -> Answer
+    ensures { λ r. ⌜ r ≡ treeAnswer filed (now (table .entry)) ⌝ }
 {
     let head = read_head(table);
     if head.number != 0 {
@@ -142,6 +155,19 @@ pub fn read_tree(table: &[u8]) -> Answer
     let nodes = node_count(table);
     let heavy = first_heavier(table, nodes, limit_of(table));
     let walk = walk_place(table, nodes);
-    let weightless = first_weightless(table, nodes);
-    earlier(5, weightless, earlier(6, walk, earlier(7, heavy, accept())))
+    let unfiled = first_unfiled(table, nodes, filed);
+    let weightless = first_zero(table, nodes, 0);
+    earlier(
+        5,
+        weightless,
+        earlier(14, unfiled, earlier(6, walk, earlier(7, heavy, accept()))),
+    )
+}
+
+// Entry: the tree reader, with the refusals 1 to 7 and 14. 7 means that no sequence of sibling runs holds the tree.
+pub fn read_tree(table: &[u8]) -> Answer
+    ensures { λ r. ⌜ r ≡ readTree (now (table .entry)) ⌝ }
+    ensures { λ r. ⌜ WeightPromise (now (table .entry)) r ⌝ }
+{
+    check_tree(table, true)
 }

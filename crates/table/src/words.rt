@@ -37,7 +37,7 @@ pub fn limit_of(table: &[u8]) -> u16
 }
 
 // Word f of node v's record.
-fn field_at(table: &[u8], v: u16, f: u8) -> u16
+pub fn field_at(table: &[u8], v: u16, f: u8) -> u16
     ensures { λ r. ⌜ r ≡ fieldAt (now (table .entry)) v f ⌝ }
 {
     let before = if v == 0 { 0 } else { v - 1 };

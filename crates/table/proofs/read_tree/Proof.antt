@@ -1,17 +1,11 @@
 -- `table::read_tree` meets its contract. Assumes nothing.
-use mathlib.Core.Path.{_≡_, ap, ap₂, sym, _∙_}
+use mathlib.Core.Path.{_≡_, _∙_}
 use mathlib.Core.List.{List}
 use Prim.Native.Nat.{ℕ}
-use native.Mathlib.Omega.{arith}
-use lib.Dec.{eqb, ltb}
-use denote.Ref.{now}
-use Rattle.model.specs.Basics.{firstTo}
-use Rattle.model.specs.Table.{weightAt}
-use Rattle.model.specs.Refusals.{noWeight, badWalk, heavyNode, nodeChecks, weightChecks, readTree}
+use Rattle.model.specs.Refusals.{readTree}
 use Rattle.model.specs.Demand.{WeightPromise}
 use Rattle.model.specs.declared.Answer.{Answer}
-use Rattle.theory.specs.Checks.{firstOf-cons, firstOf-none}
-use Rattle.theory.specs.JudgeAnswers.{headAnswer, nodeAnswer, head-refuses, head-goes-on, head-count}
+use Rattle.theory.specs.JudgeAnswers.{with-labels}
 use Rattle.theory.specs.PromiseWeight.{read-weight}
 use borrow.Author.Needs.{needs}
 use Rattle.table.proofs.read_tree.Statement.{statement}
@@ -20,49 +14,8 @@ use Rattle.table.proofs.read_tree.Tie as tie
 both : (t : List ℕ) {r : Answer} → r ≡ readTree t → (r ≡ readTree t) × WeightPromise t r
 both t e = (e, rw e (read-weight t))
 
--- the head's answer, and the table, where the nodes are looked at
-head-is : (c : tie.After-read-head) → c .read-head .result .number
-    ≡ headAnswer (now (c .before .before .args .table)) .number
-unfolding headAnswer
-head-is c = ap (λ (a : Answer). a .number) (c .read-head .ensures)
-
 returns : tie.Need-returns
-unfolding headAnswer
-returns c =
-    let h = c .before .before in
-    both _ (h .read-head .ensures ∙ head-refuses (now (h .before .before .args .table))
-    (λ e. c .if1 .taken (head-is h ∙ e)))
-
-walk-place-requires : tie.Need-walk-place-requires
-walk-place-requires c κs =
-    let e = c .before .before .before in
-    let h = e .before .before in
-    let count = c .before .before .node-count .ensures in
-    (count, omega (arith, count, head-count (now (h .before .before .args .table)) (sym (head-is h) ∙ e .if1 .left)))
-
-returns-2 : tie.Need-returns-2
-unfolding nodeAnswer nodeChecks weightChecks noWeight badWalk heavyNode
-returns-2 c =
-    let l = c .before .before .before .before in
-    let heavy = l .before .before in
-    let n = heavy .before .before in
-    let h = n .before .before .before in
-    let t = now (h .before .before .args .table) in
-    let count = n .node-count .ensures in
-    both t
-    (firstOf-cons _ _ _ _ _ _ (c .earlier3 .ensures)
-    (l .first-weightless .ensures ∙ ap (λ (k : ℕ). firstTo k (λ v. eqb (weightAt t v) 0)) count)
-    (firstOf-cons _ _ _ _ _ _ (c .before .earlier2 .ensures) (l .before .walk-place .ensures)
-    (firstOf-none _ _
-    (firstOf-cons _ _ _ _ _ _ (c .before .before .earlier .ensures)
-    (heavy .first-heavier .ensures
-    ∙ ap₂ (λ (k m : ℕ). firstTo k (λ v. ltb m (weightAt t v))) count (heavy .before .limit-of .ensures))
-    (firstOf-none _ _ (c .before .before .before .accept .ensures)))))
-    ∙ head-goes-on t (sym (head-is h) ∙ n .before .if1 .left))
+returns c = both _ (c .check-tree .ensures ∙ with-labels _)
 
 pub read-tree-spec : {M : Type 1} → statement M
-read-tree-spec =
-    tie.close
-    (tie.spec (λ c κs. search needs) returns (λ c κs. search needs) (λ c κs. search needs) (λ c κs. search needs)
-    walk-place-requires (λ c κs. search needs) (λ c κs. search needs) (λ c κs. search needs) (λ c κs. search needs)
-    (λ c κs. search needs) returns-2)
+read-tree-spec = tie.close (tie.spec (λ c κs. search needs) returns)

@@ -1,15 +1,15 @@
 -- `archive::read::judge_copy` meets its contract. Assumes nothing.
+use mathlib.Core.Bool.{false}
 use mathlib.Core.Path.{_≡_, sym, ap, _∙_}
 use mathlib.Core.List.{List}
 use Prim.Native.Nat.{ℕ}
 use native.Mathlib.Omega.{arith}
 use lib.ListN.{length, take, replicate}
 use Rattle.model.specs.Basics.{sameList}
-use Rattle.model.specs.Refusals.{writeArchive}
 use Rattle.model.specs.declared.Answer.{Answer}
 use Rattle.model.specs.declared.Edition.{Edition}
-use Rattle.theory.specs.JudgeAnswers.{tree-facts}
-use Rattle.theory.specs.ArchiveAnswers.{write-entry}
+use Rattle.theory.specs.JudgeAnswers.{with-facts}
+use Rattle.theory.specs.ArchiveAnswers.{writeWith, write-entry}
 use Rattle.archive.specs.Size.{longestArchive, InRoom}
 use Rattle.archive.specs.Answers.{written, copy-refused, copy-long, copy-stopped, copy-differs, copy-same}
 use Rattle.archive.proofs.ReadAnswers.{fresh-part, part-within, part-long, part-back}
@@ -51,10 +51,10 @@ module _ (w : tie.After-write-edition) where
   room : InRoom edition
   room = w .before .before .before .before .before .before .before .pre .0
 
-  wrote : written (w .write-edition .result) copied ≡ writeArchive edition tree plan (lent (w .before))
+  wrote : written (w .write-edition .result) copied ≡ writeWith false edition tree plan (lent (w .before))
   wrote =
-      write-entry edition tree plan (lent (w .before)) _ (w .write-edition .ensures)
-      (w .before .before .read-tree .ensures .0)
+      write-entry false edition tree plan (lent (w .before)) _ (w .write-edition .ensures)
+      (w .before .before .check-tree .ensures)
 
 compared : (s : tie.After-same-bytes)
     → sameList (copied (s .before .before .before .before .before))
@@ -73,9 +73,9 @@ slice-aggregate-write-edition c = sym (fresh c)
 
 write-edition-requires : tie.Need-write-edition-requires
 write-edition-requires c κs =
-    let judged = c .before .read-tree .ensures .0 in (
+    let judged = c .before .check-tree .ensures in (
       c .before .before .before .before .before .before .pre .0,
-      λ z. tree-facts _
+      λ z. with-facts _ _
           (sym (ap (λ (x : Answer). x .number) judged) ∙ z),
     )
 

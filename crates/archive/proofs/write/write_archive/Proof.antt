@@ -1,9 +1,12 @@
 -- `archive::write::write_archive` meets its contract. Assumes nothing.
+use mathlib.Core.Bool.{true}
 use mathlib.Core.Path.{sym, ap, subst, _∙_}
+use Rattle.model.specs.Basics.{pick}
 use Rattle.model.specs.Archive.{firstEdition}
+use Rattle.model.specs.Refusals.{writeArchive}
 use Rattle.model.specs.declared.Answer.{Answer}
 use Rattle.model.specs.declared.Edition.{Edition}
-use Rattle.theory.specs.JudgeAnswers.{tree-facts}
+use Rattle.theory.specs.JudgeAnswers.{with-facts}
 use Rattle.theory.specs.ArchiveWords.{first-described}
 use Rattle.theory.specs.ArchiveAnswers.{writeFrom, write-entry}
 use Rattle.archive.specs.Size.{InRoom, first-room}
@@ -14,22 +17,23 @@ use Rattle.archive.proofs.write.write_archive.Tie as tie
 
 write-edition-requires : tie.Need-write-edition-requires
 write-edition-requires c κs =
-    let tree = c .before .before .read-tree .ensures .0 in (
+    let tree = c .before .before .check-tree .ensures in (
       subst (λ (x : Edition). InRoom x) (sym (c .before .first-edition .ensures)) first-room,
-      λ z. tree-facts _ (sym (ap (λ (x : Answer). x .number) tree) ∙ z),
+      λ z. with-facts _ _ (sym (ap (λ (x : Answer). x .number) tree) ∙ z),
     )
 
 returns : tie.Need-returns
+unfolding writeArchive pick
 returns c =
     let f = c .before .before .before in
     let a = f .before .before .before .before .before .before .args in
-    let tree = f .before .before .read-tree in
+    let tree = f .before .before .check-tree in
     write-both first-described
-    (write-entry firstEdition (a .table .now) (a .marks .now) (a .out .now) (tree .result)
+    (write-entry true firstEdition (a .table .now) (a .marks .now) (a .out .now) (tree .result)
     (c .before .before .write-edition .ensures
     ∙ ap (λ (x : Edition). writeFrom x (a .table .now) (a .marks .now) (a .out .now) (tree .result))
     (f .before .first-edition .ensures))
-    (tree .ensures .0))
+    (tree .ensures))
 
 pub write-archive-spec : {M : Type 1} → statement M
 write-archive-spec =
