@@ -16,7 +16,8 @@
  *   word 0         N, 1 to 1024
  *   word 1         K, 1 to 1024
  *   then for each node, from node 1 on, a record of four words:
- *                  weight (1 to 65535), label (any word), first child, next sibling
+ *                  weight (1 to 65535), label (1 to 65535; 0 is a lot that nobody has filed, which
+ *                  only older film has), first child, next sibling
  *
  * Nodes are numbered from 1, and 0 stands for no node. Node 1 is the root and has no sibling. The
  * children of a node are a chain: the first child, its next sibling, and so on until a 0. The order
@@ -68,9 +69,11 @@ extern "C" {
  *   10   a mark is not allowed                               first such node
  *   11   a page weighs over K                                first such page
  *   12   an output buffer has the wrong length               the right length
- *   13   no accepted tree and feasible plan write it         0
+ *   13   no tree and plan write it, also if labels may be 0  0
+ *   14   a label is 0: a lot that nobody has filed           first such node
  *
- * The lowest that applies is given, but balduqen_read_archive checks 13, then 12, then 8.
+ * The lowest that applies is given, with 14 between 5 and 6; balduqen_read_archive checks 13, then
+ * 12, then 8.
  */
 enum {
     BALDUQEN_ACCEPTED = 0,
@@ -86,7 +89,8 @@ enum {
     BALDUQEN_BAD_MARK = 10,
     BALDUQEN_HEAVY_PAGE = 11,
     BALDUQEN_BAD_OUTPUT = 12,
-    BALDUQEN_NO_ARCHIVE = 13
+    BALDUQEN_NO_ARCHIVE = 13,
+    BALDUQEN_NO_LABEL = 14
 };
 
 /* Pages and root are the plan's page count and the weight of its root page. They are 0 unless
@@ -96,17 +100,18 @@ typedef struct {
     uint32_t number, place, pages, root;
 } balduqen_answer;
 
-/* Whether the table holds a tree that can be planned. Refuses 1 to 7; 7 means that no plan at all
- * holds the tree. */
+/* Whether the table holds a tree that can be planned. Refuses 1 to 7 and 14; 7 means that no plan at
+ * all holds the tree. */
 balduqen_answer balduqen_read_tree(const uint8_t *table, size_t table_length);
 
-/* Whether the marks are a plan of the tree with no page over the limit. Refuses 1 to 8, 10 and 11. */
+/* Whether the marks are a plan of the tree with no page over the limit. Refuses 1 to 8, 10, 11
+ * and 14. */
 balduqen_answer balduqen_judge(const uint8_t *table, size_t table_length,
                                const uint8_t *marks, size_t marks_length);
 
 /* The planners fill the N marks with a plan that the judge accepts, and leave every scratch word 0.
  * What either holds before is of no matter. The scratch has at least 4 * N * (K + 3) words. They
- * refuse 1 to 9, and nothing else: a tree that can be planned gets its plan. */
+ * refuse 1 to 9 and 14, and nothing else: a tree that can be planned gets its plan. */
 
 /* The fewest pages of all plans and, with as many, the lightest root page. */
 balduqen_answer balduqen_plan_best(const uint8_t *table, size_t table_length,
@@ -129,7 +134,7 @@ balduqen_answer balduqen_plan_pair(const uint8_t *table, size_t table_length,
                                    uint32_t *scratch, size_t scratch_length);
 
 /* Writes the archive of a tree and a plan. The archive buffer has exactly 6 + 8 * P + 8 * N bytes,
- * where P is the page count that the planner or the judge gave. Refuses 1 to 8 and 10 to 12. With
+ * where P is the page count that the planner or the judge gave. Refuses 1 to 8, 10 to 12 and 14. With
  * the marks of balduqen_plan_best, page count and root weight on film are that planner's. */
 balduqen_answer balduqen_write_archive(const uint8_t *table, size_t table_length,
                                        const uint8_t *marks, size_t marks_length,
@@ -137,7 +142,8 @@ balduqen_answer balduqen_write_archive(const uint8_t *table, size_t table_length
 
 /* Reads the tree and the plan back from an archive: the very table and marks that it was written
  * from. The table buffer has exactly 4 + 8 * N bytes and the marks buffer N. Refuses 13, 12 for the
- * table buffer, then 8 for the marks buffer. */
+ * table buffer, then 8 for the marks buffer. Film from before 14 was refused may have labels 0, and
+ * is read like any other; what is read then can not be planned, judged or written again: 14. */
 balduqen_answer balduqen_read_archive(const uint8_t *archive, size_t archive_length,
                                       uint8_t *table, size_t table_length,
                                       uint8_t *marks, size_t marks_length);
