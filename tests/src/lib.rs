@@ -1,7 +1,7 @@
-//! What the outside tests share: a model of document 01 written from the document alone, exhaustive
-//! search over plans and over sets of sibling runs, generators of trees and tables, the document's
-//! own cases, helpers for checks, guarded buffers, the calls into the proved library, and the entries
-//! of both sides.
+//! What the outside tests share: a model of documents 01 and 02 written from them alone, exhaustive
+//! search over plans and over sets of sibling runs, generators of trees and tables, document 01's
+//! own cases, film kept from before, helpers for checks, guarded buffers, the calls into the proved
+//! library, and the entries of both sides.
 
 pub mod cases;
 pub mod check;
@@ -10,6 +10,7 @@ pub mod exhaustive;
 pub mod ffi;
 pub mod gen;
 pub mod guarded;
+pub mod kept;
 pub mod model;
 pub mod rule_sheet;
 pub mod stack;
