@@ -1,4 +1,4 @@
-//! Cases A to G of document 01 and its examples of refusals.
+//! Cases A to G of document 01, its examples of refusals, and one for refusal 14 of document 02.
 
 use crate::ffi;
 use crate::gen::Table;
@@ -167,10 +167,13 @@ pub fn made() -> Vec<Made> {
     list
 }
 
-/// Tables that the tree reader refuses in document 01's examples, with number and place.
+/// Tables that the tree reader refuses in document 01's examples, with number and place, and case E
+/// with a lot that nobody has filed.
 pub fn refused_tables() -> Vec<(Vec<u8>, u32, usize)> {
     let mut light = case_e();
     light.records[2].weight = 0;
+    let mut unfiled = case_e();
+    unfiled.records[2].label = 0;
     let bad_link = vec![0, 1, 0, 5, 0, 1, 0, 1, 0, 5, 0, 0];
     vec![
         (vec![0, 1], 1, 0),
@@ -178,6 +181,7 @@ pub fn refused_tables() -> Vec<(Vec<u8>, u32, usize)> {
         (vec![0, 1, 0, 0], 3, 0),
         (vec![0, 1, 0, 5, 0], 4, 12),
         (light.bytes(), 5, 3),
+        (unfiled.bytes(), 14, 3),
         (bad_link, 6, 1),
         (
             Table {
@@ -192,12 +196,27 @@ pub fn refused_tables() -> Vec<(Vec<u8>, u32, usize)> {
     ]
 }
 
-/// Case E with every selection of one fault for each of the numbers 1 to 7, and the answer that
-/// the order of the checks leaves: number and place, both 0 without a fault.
+/// What the tree reader refuses, in the order of its checks: number, and place in `faulty_tables`.
+const FAULTS: [(u32, usize); 8] = [
+    (1, 0),
+    (2, 1025),
+    (3, 1026),
+    (4, 52),
+    (5, 4),
+    (14, 3),
+    (6, 5),
+    (7, 2),
+];
+
+/// Case E with every selection of one fault for each of the numbers 1 to 7 and 14, and the answer
+/// that the order of the checks leaves: number and place, both 0 without a fault.
 pub fn faulty_tables() -> Vec<(Vec<u8>, u32, usize)> {
     let mut list = vec![];
-    for selection in 0..1 << 7 {
-        let has = |number: u32| selection & 1 << (number - 1) != 0;
+    for selection in 0..1 << FAULTS.len() {
+        let has = |number: u32| {
+            let place = FAULTS.iter().position(|fault| fault.0 == number);
+            selection & 1 << place.expect("a fault of this number") != 0
+        };
         let mut table = case_e();
         if has(2) {
             table.count = 1025;
@@ -207,6 +226,11 @@ pub fn faulty_tables() -> Vec<(Vec<u8>, u32, usize)> {
         }
         if has(5) {
             table.records[3].weight = 0;
+        }
+        if has(14) {
+            // At two nodes, of which the first is told.
+            table.records[2].label = 0;
+            table.records[4].label = 0;
         }
         if has(6) {
             table.records[4].next_sibling = 3;
@@ -221,8 +245,8 @@ pub fn faulty_tables() -> Vec<(Vec<u8>, u32, usize)> {
         if has(1) {
             bytes.truncate(3);
         }
-        let number = (1..=7).find(|&number| has(number)).unwrap_or(0);
-        let place = [0, 0, 1025, 1026, 52, 4, 5, 2][number as usize];
+        let told = FAULTS.into_iter().find(|fault| has(fault.0));
+        let (number, place) = told.unwrap_or((0, 0));
         list.push((bytes, number, place));
     }
     list

@@ -35,6 +35,22 @@ pub fn show(bytes: &[u8]) -> String {
     format!("{} bytes: {}", bytes.len(), shown.join(" "))
 }
 
+/// The first node of a table whose label is 0.
+pub fn first_unfiled(table: &[u8]) -> Option<usize> {
+    let mut records = table[4..].chunks(8);
+    let index = records.position(|record| record[2..4] == [0, 0])?;
+    Some(index + 1)
+}
+
+/// Sets each label 0 to 1, in the records of a table or in the node records of an archive.
+pub fn file_all(records: &mut [u8]) {
+    for record in records.chunks_exact_mut(8) {
+        if record[2..4] == [0, 0] {
+            record[3] = 1;
+        }
+    }
+}
+
 /// Makes a call with a copy of the input and looks at it afterwards. The black box keeps the
 /// compiler from taking it for granted that the copy is unchanged.
 pub fn with_copy<T>(input: &[u8], call: impl FnOnce(&[u8]) -> T) -> T {

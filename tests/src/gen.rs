@@ -27,10 +27,6 @@ impl Random {
         self.number() as u8
     }
 
-    pub fn word(&mut self) -> u16 {
-        self.number() as u16
-    }
-
     pub fn pick<T: Copy>(&mut self, choices: &[T]) -> T {
         choices[self.between(0, choices.len() - 1)]
     }
@@ -138,7 +134,7 @@ pub fn all_parents(count: usize) -> Vec<Parents> {
 }
 
 /// Every list of so many weights from the choices.
-pub fn all_weights(count: usize, choices: &[u16]) -> Vec<Vec<u16>> {
+fn all_weights(count: usize, choices: &[u16]) -> Vec<Vec<u16>> {
     let mut all = vec![vec![]];
     for _ in 0..count {
         all = all
@@ -211,9 +207,20 @@ impl Table {
         words.iter().flat_map(|word| word.to_be_bytes()).collect()
     }
 
+    /// Labels from 1 up, as accepted trees have them.
     pub fn with_random_labels(mut self, random: &mut Random) -> Table {
         for record in &mut self.records {
-            record.label = random.word();
+            record.label = random.between(1, 65535) as u16;
+        }
+        self
+    }
+
+    /// Label 0 at one node or several.
+    pub fn unfiled(mut self, random: &mut Random) -> Table {
+        let count = self.records.len();
+        let (first, step) = (random.between(0, count - 1), random.between(1, count));
+        for record in self.records[first..].iter_mut().step_by(step) {
+            record.label = 0;
         }
         self
     }
@@ -249,6 +256,17 @@ fn for_each_list(count: usize, most: u8, mut visit: impl FnMut(&[u8])) {
         list[..place].fill(0);
         list[place] += 1;
     }
+}
+
+/// Calls `visit` with the table under every list of labels 0 and 1.
+pub fn for_each_labelling(table: &[u8], mut visit: impl FnMut(&[u8])) {
+    let mut table = table.to_vec();
+    for_each_list(table.len() / 8, 1, |labels| {
+        for (record, &label) in table[4..].chunks_mut(8).zip(labels) {
+            record[2..4].copy_from_slice(&[0, label]);
+        }
+        visit(&table);
+    });
 }
 
 /// Calls `visit` with every list of so many marks from 0 to 3.
@@ -333,7 +351,7 @@ pub fn damaged(random: &mut Random, table: &Table) -> Vec<u8> {
     let count = table.records.len();
     let place = random.between(0, count - 1);
     let link = random.between(0, count + 2) as u16;
-    match random.between(1, 10) {
+    match random.between(1, 11) {
         1 => table.count = random.pick(&[0, table.count - 1, table.count + 1, 1024, 1025, 65535]),
         2 => table.limit = random.pick(&[0, 1, table.limit - 1, 1024, 1025, 65535]),
         3 => table.records[place].weight = 0,
@@ -341,8 +359,9 @@ pub fn damaged(random: &mut Random, table: &Table) -> Vec<u8> {
         5 => table.records[place].first_child = link,
         6 => table.records[place].next_sibling = link,
         7 => table.records[0].next_sibling = link,
-        8 => return truncated(random, table.bytes()),
-        9 => return extended(random, table.bytes()),
+        8 => table = table.unfiled(random),
+        9 => return truncated(random, table.bytes()),
+        10 => return extended(random, table.bytes()),
         _ => return flipped(random, table.bytes()),
     }
     table.bytes()

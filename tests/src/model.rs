@@ -1,6 +1,7 @@
-//! A model of document 01: every entry with its answers and the buffers it leaves behind.
+//! A model of document 01 with request One of document 02: every entry with its answers and the
+//! buffers it leaves behind.
 //!
-//! It follows the document's words closely and is not meant to be fast. The entries have the same
+//! It follows the documents' words closely and is not meant to be fast. The entries have the same
 //! shape as the library's, so that a test can run both on the same input.
 
 mod archive;
@@ -13,7 +14,7 @@ mod tree;
 pub use archive::{archive_bytes, archive_length, read_archive, write_archive};
 pub use plan::{judge, pages, verdict, Page};
 pub use planners::{plan_best, plan_level, plan_pair, plan_single, scratch_length};
-pub use tree::{read, read_sound, read_tree, word, Tree, MAX_LIMIT, MAX_NODES};
+pub use tree::{read, read_as_before, read_sound, read_tree, word, Tree, MAX_LIMIT, MAX_NODES};
 
 /// A number and a place, and the verdict beside them where a plan is given or made and accepted.
 /// The same four words, in the same order, are what the library gives back.

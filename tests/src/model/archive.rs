@@ -1,6 +1,6 @@
 //! The archive writer and reader: refusals 12 and 13.
 
-use super::{judge, pages, read, verdict, word, Answer, Tree};
+use super::{judge, pages, read, read_as_before, verdict, word, Answer, Tree};
 
 /// The bytes of an archive with so many pages and nodes.
 pub fn archive_length(pages: usize, nodes: usize) -> usize {
@@ -54,11 +54,12 @@ pub fn write_archive(table: &[u8], marks: &[u8], archive: &mut [u8]) -> Answer {
     answer
 }
 
+/// A label 0 is read like any other: 13 is what the writer without 14 could not write.
 pub fn read_archive(archive: &[u8], table: &mut [u8], marks: &mut [u8]) -> Answer {
     let Some((new_table, new_marks)) = rebuild(archive) else {
         return Answer::refused(13, 0);
     };
-    let Ok(tree) = read(&new_table) else {
+    let Ok(tree) = read_as_before(&new_table) else {
         return Answer::refused(13, 0);
     };
     let answer = verdict(&tree, &new_marks);

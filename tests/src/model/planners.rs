@@ -1,4 +1,4 @@
-//! The four planner entries: refusals 1 to 9, the marks and the scratch left behind.
+//! The four planner entries: refusals 1 to 9 and 14, the marks and the scratch left behind.
 
 use super::{best, greedy, read, verdict, Answer, Tree};
 

@@ -1,11 +1,12 @@
-//! The tree table and its reader: refusals 1 to 7.
+//! The tree table and its reader: refusals 1 to 7 and 14.
 
 use super::Answer;
 
 pub const MAX_NODES: usize = 1024;
 pub const MAX_LIMIT: usize = 1024;
 
-/// A tree of sound form. The lists are indexed by node number; index 0 is not a node.
+/// A tree of sound form, or one that would be if labels could be 0. The lists are indexed by node
+/// number; index 0 is not a node.
 #[derive(Clone, Debug, PartialEq, Eq)]
 pub struct Tree {
     pub limit: u32,
@@ -44,17 +45,28 @@ struct Record {
 
 /// The tree of an accepted table, or the refusal.
 pub fn read(table: &[u8]) -> Result<Tree, Answer> {
-    let tree = read_sound(table)?;
-    let heavy = tree.nodes().find(|&node| tree.weights[node] > tree.limit);
-    match heavy {
-        Some(node) => Err(Answer::refused(7, node)),
-        None => Ok(tree),
-    }
+    within_limit(read_sound(table)?)
+}
+
+/// The same without 14. The archive reader judges film by this, as it did before labels of 0 were
+/// refused, so that film that carries one can still be opened.
+pub fn read_as_before(table: &[u8]) -> Result<Tree, Answer> {
+    let (limit, records) = read_records(table)?;
+    within_limit(link(limit, &records)?)
 }
 
 /// The tree of a table of sound form, also where a node outweighs the limit, or the refusal: those
 /// that are checked before 7.
 pub fn read_sound(table: &[u8]) -> Result<Tree, Answer> {
+    let (limit, records) = read_records(table)?;
+    match records.iter().position(|record| record.label == 0) {
+        Some(index) => Err(Answer::refused(14, index + 1)),
+        None => link(limit, &records),
+    }
+}
+
+/// The limit and the records of a table, or refusals 1 to 5.
+fn read_records(table: &[u8]) -> Result<(usize, Vec<Record>), Answer> {
     if table.len() < 4 {
         return Err(Answer::refused(1, 0));
     }
@@ -81,10 +93,23 @@ pub fn read_sound(table: &[u8]) -> Result<Tree, Answer> {
     if let Some(index) = records.iter().position(|record| record.weight == 0) {
         return Err(Answer::refused(5, index + 1));
     }
-    if let Err(place) = walk(&records) {
-        return Err(Answer::refused(6, place));
+    Ok((limit, records))
+}
+
+/// The tree of records, or refusal 6.
+fn link(limit: usize, records: &[Record]) -> Result<Tree, Answer> {
+    match walk(records) {
+        Ok(()) => Ok(build(limit, records)),
+        Err(place) => Err(Answer::refused(6, place)),
     }
-    Ok(build(limit, &records))
+}
+
+/// The tree, or refusal 7.
+fn within_limit(tree: Tree) -> Result<Tree, Answer> {
+    match tree.nodes().find(|&node| tree.weights[node] > tree.limit) {
+        Some(node) => Err(Answer::refused(7, node)),
+        None => Ok(tree),
+    }
 }
 
 pub fn read_tree(table: &[u8]) -> Answer {

@@ -1,8 +1,9 @@
 //! The tree reader.
 
 use balduqen_tests::cases::{case_e, faulty_tables};
+use balduqen_tests::check::{file_all, first_unfiled, Seen};
 use balduqen_tests::gen::*;
-use balduqen_tests::model::{read, read_tree, Answer};
+use balduqen_tests::model::{read, read_as_before, read_tree, Answer};
 
 /// The walk accepts each shape once and nothing else.
 #[test]
@@ -120,11 +121,39 @@ fn places_of_a_failed_walk() {
 #[test]
 fn damage_reaches_every_refusal() {
     let random = &mut Random::new(202);
-    let mut seen = [0; 8];
+    let mut seen = Seen::default();
     for _ in 0..20000 {
         let table = any_table(random, 12, 12);
         assert_eq!(read_tree(&table.bytes()), Answer::ACCEPTED);
-        seen[read_tree(&damaged(random, &table)).number as usize] += 1;
+        seen.add(read_tree(&damaged(random, &table)));
     }
-    assert!(seen.iter().all(|&times| times > 50), "{seen:?}");
+    seen.expect(&[0, 1, 2, 3, 4, 5, 6, 7, 14], 50);
+}
+
+/// The reading without 14 takes a label 0 as it takes any other, and is the same in all else.
+#[test]
+fn reading_as_before() {
+    let random = &mut Random::new(203);
+    let mut taken = 0;
+    for _ in 0..20000 {
+        let table = any_table(random, 12, 12).unfiled(random);
+        let table = match random.once_in(2) {
+            true => table.bytes(),
+            false => damaged(random, &table),
+        };
+        let mut filed = table.clone();
+        file_all(filed.get_mut(4..).unwrap_or_default());
+        let mut as_before = read_as_before(&table);
+        if let Ok(tree) = &mut as_before {
+            let first = tree.nodes().find(|&node| tree.labels[node] == 0);
+            assert_eq!(first, first_unfiled(&table));
+            taken += usize::from(first.is_some());
+            // Index 0 is not a node.
+            for label in &mut tree.labels[1..] {
+                *label = 1.max(*label);
+            }
+        }
+        assert_eq!(as_before, read(&filed));
+    }
+    assert!(taken > 10000, "{taken}");
 }
