@@ -1,17 +1,19 @@
 //! What is asked of all entries alike, of the model's and of the library's: that they take trees of
-//! up to 1,024 nodes, and that a tree of sound form is refused with 7 exactly where no set of sibling
-//! runs holds it within the limit.
+//! up to 1,024 nodes, that a tree of sound form is refused with 7 exactly where no set of sibling
+//! runs holds it within the limit, and that a label 0 is refused with 14 by all but the archive
+//! reader, which opens film with it as before.
 
-use balduqen_tests::cases::{Kind, KINDS};
-use balduqen_tests::check::{show, with_copy, Lent, Seen};
+use balduqen_tests::cases::{case_e, Kind, KINDS};
+use balduqen_tests::check::{first_unfiled, show, with_copy, Lent, Seen};
 use balduqen_tests::entries::{Entries, LIBRARY, MODEL};
 use balduqen_tests::exhaustive::best_of_run_sets;
 use balduqen_tests::gen::*;
+use balduqen_tests::kept::kept;
 use balduqen_tests::model::{archive_length, read_sound, scratch_length, word, Answer, MAX_NODES};
 
-/// The answers of all entries that take a table. Each gets buffers that are right for the table's
-/// count and limit, and the plan with a page for each node where it asks for one. A refusal must
-/// leave every buffer as it was.
+const HEADER: &str = include_str!("../../include/balduqen.h");
+
+/// The answers of all entries that take a table. A refusal must leave every buffer as it was.
 struct Asked {
     read_tree: Answer,
     judge: Answer,
@@ -21,15 +23,25 @@ struct Asked {
 }
 
 impl Asked {
+    /// Each gets buffers that are right for the table's count and limit, and the plan with a page
+    /// for each node where it asks for one.
     fn of(entries: &Entries, table: &[u8]) -> Asked {
-        let ones = vec![1; word(table, 0)];
+        let (count, limit) = (word(table, 0), word(table, 1));
+        let (scratch, archive) = (scratch_length(count, limit), archive_length(count, count));
+        Asked::with(entries, table, &vec![1; count], scratch, archive)
+    }
+
+    /// Each gets this plan where it asks for one, as many marks to fill, a scratch of so many words
+    /// and an archive of so many bytes.
+    fn with(entries: &Entries, table: &[u8], plan: &[u8], scratch: usize, archive: usize) -> Asked {
+        let marks = plan.len();
         Asked {
             read_tree: with_copy(table, entries.read_tree),
             judge: with_copy(table, |table| {
-                with_copy(&ones, |ones| (entries.judge)(table, ones))
+                with_copy(plan, |plan| (entries.judge)(table, plan))
             }),
-            planners: KINDS.map(|kind| plan(entries, kind, table)),
-            write_archive: write_archive(entries, table, &ones),
+            planners: KINDS.map(|kind| make_plan(entries, kind, table, marks, scratch)),
+            write_archive: write_archive(entries, table, plan, archive),
         }
     }
 
@@ -55,10 +67,9 @@ impl Asked {
     }
 }
 
-fn plan(entries: &Entries, kind: Kind, table: &[u8]) -> Answer {
-    let (count, limit) = (word(table, 0), word(table, 1));
-    let mut marks = Lent::new(&vec![7; count], 0xa5);
-    let mut scratch = Lent::new(&vec![7; scratch_length(count, limit)], 0xa5a5_a5a5);
+fn make_plan(entries: &Entries, kind: Kind, table: &[u8], marks: usize, scratch: usize) -> Answer {
+    let mut marks = Lent::new(&vec![7; marks], 0xa5);
+    let mut scratch = Lent::new(&vec![7; scratch], 0xa5a5_a5a5);
     let planner = (entries.planner)(kind);
     let answer = with_copy(table, |table| {
         planner(table, marks.slice(), scratch.slice())
@@ -70,12 +81,12 @@ fn plan(entries: &Entries, kind: Kind, table: &[u8]) -> Answer {
     answer
 }
 
-fn write_archive(entries: &Entries, table: &[u8], ones: &[u8]) -> Answer {
-    let on_entry = vec![7; archive_length(ones.len(), ones.len())];
+fn write_archive(entries: &Entries, table: &[u8], plan: &[u8], archive: usize) -> Answer {
+    let on_entry = vec![7; archive];
     let mut archive = Lent::new(&on_entry, 0xa5);
     let answer = with_copy(table, |table| {
-        with_copy(ones, |ones| {
-            (entries.write_archive)(table, ones, archive.slice())
+        with_copy(plan, |plan| {
+            (entries.write_archive)(table, plan, archive.slice())
         })
     });
     assert_eq!(archive.content() == on_entry, !answer.is_accepted());
@@ -106,18 +117,17 @@ fn table_and_archive(random: &mut Random, form: Form, count: usize, limit: usize
     [table.bytes(), archive]
 }
 
-/// What the archive reader answers, with buffers that are right for the archive's count, and what it
-/// leaves in them: the table, and a 1 for each node, or the bytes of before.
-fn read_archive(entries: &Entries, archive: &[u8], table: &[u8]) -> Answer {
-    let count = word(archive, 0);
-    let mut lent_table = Lent::new(&vec![7; 4 + 8 * count], 0xa5);
-    let mut lent_marks = Lent::new(&vec![7; count], 0x5a);
+/// What the archive reader answers, with buffers of the lengths of this table and plan, and what it
+/// leaves in them: these, or the bytes of before.
+fn read_archive(entries: &Entries, archive: &[u8], table: &[u8], plan: &[u8]) -> Answer {
+    let mut lent_table = Lent::new(&vec![7; table.len()], 0xa5);
+    let mut lent_marks = Lent::new(&vec![7; plan.len()], 0x5a);
     let answer = with_copy(archive, |archive| {
         (entries.read_archive)(archive, lent_table.slice(), lent_marks.slice())
     });
     let (new_table, new_marks) = (lent_table.content(), lent_marks.content());
     if answer.is_accepted() {
-        assert!(new_table == table && *new_marks == vec![1; count]);
+        assert_eq!((new_table, new_marks), (table, plan));
     } else {
         assert!(new_table.iter().chain(new_marks).all(|&byte| byte == 7));
     }
@@ -131,7 +141,8 @@ fn as_many_nodes_as_may_be(entries: &Entries) {
             let [table, archive] = table_and_archive(random, form, MAX_NODES, limit);
             Asked::of(entries, &table).expect_accepted(&table);
             let verdict = Answer::accepted(MAX_NODES, word(&table, 2) as u32);
-            assert_eq!(read_archive(entries, &archive, &table), verdict);
+            let answer = read_archive(entries, &archive, &table, &[1; MAX_NODES]);
+            assert_eq!(answer, verdict);
         }
     }
 }
@@ -143,8 +154,8 @@ fn one_node_too_many(entries: &Entries) {
         for limit in [1, 9, 100, 1024] {
             let [table, archive] = table_and_archive(random, form, MAX_NODES + 1, limit);
             Asked::of(entries, &table).expect_refused(&table, 2, 1025);
-            let refusal = Answer::refused(13, 0);
-            assert_eq!(read_archive(entries, &archive, &table), refusal);
+            let answer = read_archive(entries, &archive, &table, &[1; MAX_NODES + 1]);
+            assert_eq!(answer, Answer::refused(13, 0));
         }
     }
 }
@@ -196,6 +207,170 @@ fn seven_in_random_small_trees(entries: &Entries) {
     seen.expect(&[0, 7], 1000);
 }
 
+/// The first refusal of a table that is well linked and has a good head.
+fn refusal_told(table: &[u8]) -> Option<(u32, usize)> {
+    let weights: Vec<usize> = table[4..].chunks(8).map(|record| word(record, 0)).collect();
+    let first = |test: &dyn Fn(usize) -> bool| {
+        let index = weights.iter().position(|&weight| test(weight))?;
+        Some(index + 1)
+    };
+    let light = first(&|weight| weight == 0).map(|node| (5, node));
+    let unfiled = first_unfiled(table).map(|node| (14, node));
+    let heavy = first(&|weight| weight > word(table, 1)).map(|node| (7, node));
+    light.or(unfiled).or(heavy)
+}
+
+/// All labels of 0 and 1 in all small trees, also where a weight is 0 or over the limit.
+fn fourteen_in_all_small_trees(entries: &Entries) {
+    let mut seen = Seen::default();
+    for_each_table(1..=4, &[0, 1, 2, 3], &[2], |table| {
+        for_each_labelling(table, |table| {
+            let asked = Asked::of(entries, table);
+            match refusal_told(table) {
+                Some((number, place)) => asked.expect_refused(table, number, place),
+                None => asked.expect_accepted(table),
+            }
+            seen.add(asked.read_tree);
+        });
+    });
+    seen.expect(&[0, 5, 7, 14], 100);
+}
+
+/// All labels of 0 and 1 with all links of small tables: where a label is 0, no walk is told of.
+fn fourteen_before_the_walk(entries: &Entries) {
+    for count in 1..=3 {
+        for_each_linking(count, |table| {
+            for_each_labelling(&table.bytes(), |table| {
+                if let Some(node) = first_unfiled(table) {
+                    Asked::of(entries, table).expect_refused(table, 14, node);
+                }
+            });
+        });
+    }
+}
+
+/// Case E with label 0 at nodes 3 and 5, and with a further change each.
+fn fourteen_in_its_order(entries: &Entries) {
+    let refused = |number: u32, place: usize, change: fn(&mut Table)| {
+        let mut table = case_e();
+        table.records[2].label = 0;
+        table.records[4].label = 0;
+        change(&mut table);
+        let table = table.bytes();
+        Asked::of(entries, &table).expect_refused(&table, number, place);
+    };
+    refused(14, 3, |_| {});
+    refused(14, 1, |table| table.records[0].label = 0);
+    refused(14, 5, |table| table.records[2].label = 256);
+    // What is checked before it.
+    refused(2, 0, |table| table.count = 0);
+    refused(2, 1025, |table| table.count = 1025);
+    refused(3, 0, |table| table.limit = 0);
+    refused(3, 1025, |table| table.limit = 1025);
+    refused(4, 44, |table| table.count = 5);
+    refused(4, 60, |table| table.count = 7);
+    refused(5, 3, |table| table.records[2].weight = 0);
+    refused(5, 6, |table| table.records[5].weight = 0);
+    // What is checked after it, at nodes before the label.
+    refused(14, 3, |table| table.records[0].next_sibling = 2);
+    refused(14, 3, |table| table.records[1].next_sibling = 0);
+    refused(14, 3, |table| table.records[1].first_child = 7);
+    refused(14, 3, |table| table.records[0].weight = 6);
+    refused(14, 3, |table| table.limit = 1);
+}
+
+/// Film from before 14 was refused is opened: its verdict, its table and its plan.
+fn kept_film_is_read(entries: &Entries) {
+    for film in kept() {
+        let answer = read_archive(entries, &film.archive, &film.table, &film.marks);
+        assert_eq!(answer, film.verdict, "{}", film.name);
+    }
+}
+
+/// What is read of it is taken by no other entry, whatever else is wrong with what is lent.
+fn kept_film_is_not_taken_again(entries: &Entries) {
+    for film in kept() {
+        let count = film.marks.len();
+        let scratch = scratch_length(count, word(&film.table, 1));
+        let archive = film.archive.len();
+        // The plan of the film, one page for all, which is mostly too heavy, marks that are not
+        // allowed, and other lengths.
+        let mut one_page = vec![0; count];
+        one_page[0] = 1;
+        let mut plans = vec![film.marks, one_page, vec![3; count]];
+        plans.extend([0, count - 1, count + 1].map(|length| vec![1; length]));
+        for plan in &plans {
+            for scratch in [0, scratch - 1, scratch] {
+                for archive in [0, archive - 1, archive, archive + 1] {
+                    let asked = Asked::with(entries, &film.table, plan, scratch, archive);
+                    asked.expect_refused(&film.table, 14, film.unfiled);
+                }
+            }
+        }
+    }
+}
+
+/// For such film, too, the reader checks 13, then 12, then 8.
+fn kept_film_in_the_order_of_the_reader(entries: &Entries) {
+    for film in kept() {
+        let (count, length) = (film.marks.len(), film.table.len());
+        // The next node of the last node.
+        let mut bad = film.archive.clone();
+        *bad.last_mut().expect("a byte") = 1;
+        for table in [0, length - 1, length, length + 1] {
+            for marks in [0, count - 1, count, count + 1] {
+                let expected = match (table == length, marks == count) {
+                    (true, true) => film.verdict,
+                    (true, false) => Answer::refused(8, count),
+                    (false, _) => Answer::refused(12, length),
+                };
+                let (mut new_table, mut new_marks) = (film.table.clone(), film.marks.clone());
+                new_table.resize(table, 9);
+                new_marks.resize(marks, 9);
+                let answer = read_archive(entries, &film.archive, &new_table, &new_marks);
+                assert_eq!(answer, expected, "{}", film.name);
+                let refusal = read_archive(entries, &bad, &new_table, &new_marks);
+                assert_eq!(refusal, Answer::refused(13, 0), "{}", film.name);
+            }
+        }
+    }
+}
+
+/// The largest film, with label 0 at the last node.
+fn label_0_of_the_last_of_many(entries: &Entries) {
+    let random = &mut Random::new(1104);
+    for form in FORMS {
+        let [mut table, mut archive] = table_and_archive(random, form, MAX_NODES, 9);
+        // Both end in the node's record, and its label is the second word of four.
+        for bytes in [&mut table, &mut archive] {
+            let label = bytes.len() - 6;
+            bytes[label..label + 2].fill(0);
+        }
+        Asked::of(entries, &table).expect_refused(&table, 14, MAX_NODES);
+        let verdict = Answer::accepted(MAX_NODES, word(&table, 2) as u32);
+        let answer = read_archive(entries, &archive, &table, &[1; MAX_NODES]);
+        assert_eq!(answer, verdict);
+    }
+}
+
+/// The header has a name for each number and a line for each but 0, in rising order.
+#[test]
+fn numbers_of_the_header() {
+    let named: Vec<(&str, &str)> = HEADER
+        .lines()
+        .filter_map(|line| line.trim().strip_prefix("BALDUQEN_")?.split_once(" = "))
+        .collect();
+    let numbers: Vec<String> = (0..=14).map(|number: u32| number.to_string()).collect();
+    let of_names = named.iter().map(|(_, number)| number.trim_end_matches(','));
+    assert!(of_names.eq(&numbers), "{named:?}");
+    assert_eq!(named.last(), Some(&("NO_LABEL", "14")));
+    let listed = HEADER.lines().filter_map(|line| {
+        let (number, _) = line.strip_prefix(" *")?.trim().split_once("   ")?;
+        numbers.contains(&number.to_string()).then_some(number)
+    });
+    assert!(listed.eq(&numbers[1..]));
+}
+
 macro_rules! tests_of_entries {
     ($name:ident, $entries:expr, $($test:ident)*) => {
         mod $name {
@@ -213,7 +388,9 @@ macro_rules! tests_of_entries {
         tests_of_entries!(
             $name, $entries,
             as_many_nodes_as_may_be one_node_too_many seven_in_all_small_trees
-            seven_in_random_small_trees
+            seven_in_random_small_trees fourteen_in_all_small_trees fourteen_before_the_walk
+            fourteen_in_its_order kept_film_is_read kept_film_is_not_taken_again
+            kept_film_in_the_order_of_the_reader label_0_of_the_last_of_many
         );
     };
 }
