@@ -41,7 +41,7 @@ fn cases() {
     }
 }
 
-/// Case E with a fault for any selection of the numbers 1 to 8, 10 and 11.
+/// Case E with a fault for any selection of the numbers 1 to 8, 10, 11 and 14.
 #[test]
 fn order_of_the_checks() {
     for (table, number, place) in faulty_tables() {
@@ -73,6 +73,18 @@ fn all_marks_of_small_trees() {
     for_each_table(1..=4, &[1, 2, 3], &[3, 4, 5, 6], &mut judge_all);
     for_each_table(5..=6, &[1, 2], &[2, 3, 4], &mut judge_all);
     seen.expect(&[0, 10, 11], 1000);
+}
+
+/// All labels of 0 and 1, with weights of 0 and over the limit.
+#[test]
+fn all_labels_of_small_trees() {
+    let mut seen = Seen::default();
+    for_each_table(1..=3, &[0, 1, 2, 4], &[3], |table| {
+        for_each_labelling(table, |table| {
+            for_each_marks(word(table, 0), |marks| seen.add(judge(table, marks)));
+        });
+    });
+    seen.expect(&[0, 5, 7, 10, 11, 14], 20);
 }
 
 /// Plans of all sizes, some with a few other bytes among the marks.
@@ -134,7 +146,7 @@ fn damaged_tables() {
         let mark = random.pick(&[0, 1, 2]);
         seen.add(judge(&damaged, &vec![mark; length]));
     }
-    seen.expect(&[0, 1, 2, 3, 4, 5, 6, 7, 8, 10], 50);
+    seen.expect(&[0, 1, 2, 3, 4, 5, 6, 7, 8, 10, 14], 50);
 }
 
 /// Pages of many numbers come as the first heavy one.

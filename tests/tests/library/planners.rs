@@ -58,7 +58,7 @@ fn cases(kind: Kind) {
     }
 }
 
-/// Case E with a fault for any selection of the numbers 1 to 9.
+/// Case E with a fault for any selection of the numbers 1 to 9 and 14.
 fn order_of_the_checks(kind: Kind) {
     for (table, number, place) in faulty_tables() {
         for marks in 5..=7 {
@@ -87,6 +87,18 @@ fn all_small_trees(kind: Kind) {
         seen.add(plan_with_good_buffers(kind, random, table).0);
     });
     seen.expect(&[0, 7], 1000);
+}
+
+/// All labels of 0 and 1, with weights of 0 and over the limit.
+fn all_labels_of_small_trees(kind: Kind) {
+    let random = &mut Random::new(811);
+    let mut seen = Seen::default();
+    for_each_table(1..=4, &[0, 1, 2, 3], &[2], |table| {
+        for_each_labelling(table, |table| {
+            seen.add(plan_with_good_buffers(kind, random, table).0);
+        });
+    });
+    seen.expect(&[0, 5, 7, 14], 100);
 }
 
 fn random_trees(kind: Kind) {
@@ -157,7 +169,7 @@ fn damaged_tables(kind: Kind) {
         let marks = random.bytes(count);
         seen.add(plan(kind, &damaged, &marks, &vec![0xdead_beef; scratch]).0);
     }
-    seen.expect(&[0, 1, 2, 3, 4, 5, 6, 7, 8, 9], 50);
+    seen.expect(&[0, 1, 2, 3, 4, 5, 6, 7, 8, 9, 14], 50);
 }
 
 macro_rules! planner_tests {
@@ -176,8 +188,8 @@ macro_rules! planner_tests {
     ($name:ident, $kind:expr) => {
         planner_tests!(
             $name, $kind,
-            cases order_of_the_checks all_small_trees random_trees comb_trees largest_trees
-            lengths_of_buffers damaged_tables
+            cases order_of_the_checks all_small_trees all_labels_of_small_trees random_trees
+            comb_trees largest_trees lengths_of_buffers damaged_tables
         );
     };
 }

@@ -1,11 +1,12 @@
 //! The archive reader of the library.
 
 use balduqen_tests::cases::*;
-use balduqen_tests::check::{show, with_copy, Lent, Seen};
+use balduqen_tests::check::{file_all, first_unfiled, show, with_copy, Lent, Seen};
 use balduqen_tests::exhaustive::for_each_plan;
 use balduqen_tests::ffi;
 use balduqen_tests::gen::*;
-use balduqen_tests::model::{self, archive_bytes, read, verdict, word, Answer};
+use balduqen_tests::kept::kept;
+use balduqen_tests::model::{self, archive_bytes, read, read_as_before, verdict, word, Answer};
 
 /// The library's answer, table and marks, checked against the model's. The buffers hold these bytes
 /// on entry.
@@ -29,12 +30,22 @@ fn read_into(archive: &[u8], table: &[u8], marks: &[u8]) -> (Answer, Vec<u8>, Ve
     (answer, new_table.to_vec(), new_marks.to_vec())
 }
 
-/// An archive that is read is the very one that writing what was read gives.
+/// An archive that is read is the very one that writing what was read gives. With a label 0 that is
+/// refused; it holds of the archive and the table with these lots filed.
 fn assert_rewritten(archive: &[u8], table: &[u8], marks: &[u8]) {
     let mut again = vec![7; archive.len()];
-    let answer = ffi::write_archive(table, marks, &mut again);
-    assert!(answer.is_accepted(), "{answer:?}: {}", show(archive));
-    assert!(again == archive, "{}; {}", show(&again), show(archive));
+    let (mut archive, mut table) = (archive.to_vec(), table.to_vec());
+    if let Some(node) = first_unfiled(&table) {
+        let refusal = ffi::write_archive(&table, marks, &mut again);
+        assert_eq!(refusal, Answer::refused(14, node), "{}", show(&archive));
+        assert!(again.iter().all(|&byte| byte == 7));
+        let node_records = 6 + 8 * word(&archive, 2);
+        file_all(&mut archive[node_records..]);
+        file_all(&mut table[4..]);
+    }
+    let answer = ffi::write_archive(&table, marks, &mut again);
+    assert!(answer.is_accepted(), "{answer:?}: {}", show(&archive));
+    assert!(again == archive, "{}; {}", show(&again), show(&archive));
 }
 
 /// Reads into buffers of the lengths that the archive's first word asks for.
@@ -47,19 +58,25 @@ fn read_archive(archive: &[u8]) -> Answer {
     read_into(archive, &vec![7; 4 + 8 * count], &vec![7; count]).0
 }
 
-/// An accepted tree's table and the archive of a feasible plan of it.
+/// The table of a tree that is accepted, but for labels 0 at times, and the archive of a feasible
+/// plan of it.
 fn random_archive(random: &mut Random, most: usize, limit: usize) -> (Vec<u8>, Vec<u8>) {
-    let table = any_table(random, most, limit).bytes();
-    let tree = read(&table).expect("an accepted table");
+    let mut table = any_table(random, most, limit);
+    if random.once_in(4) {
+        table = table.unfiled(random);
+    }
+    let table = table.bytes();
+    let tree = read_as_before(&table).expect("a table that is accepted but for labels");
     let marks = feasible_plan(random, &tree);
     let archive = archive_bytes(&tree, &marks);
     (table, archive)
 }
 
-/// Case E and some random ones, of up to seven nodes.
+/// Case E, film with labels 0, and some random ones, most of them of up to seven nodes.
 fn small_archives() -> Vec<Vec<u8>> {
     let random = &mut Random::new(1001);
     let mut archives = vec![archive_of_e()];
+    archives.extend(kept().map(|film| film.archive));
     for limit in [12, 100] {
         archives.extend((0..4).map(|_| random_archive(random, 7, limit).1));
     }
@@ -125,6 +142,54 @@ fn all_plans_of_small_trees() {
         }
     });
     seen.expect(&[0, 13], 1000);
+}
+
+/// Labels of 0 and 1 are all read alike.
+#[test]
+fn all_labels_of_small_trees() {
+    let mut seen = Seen::default();
+    for_each_table(1..=4, &[1, 2], &[3], |table| {
+        for_each_labelling(table, |table| {
+            let tree = read_as_before(table).expect("a table that is accepted but for labels");
+            for_each_plan(&tree, |marks| {
+                let on_entry = (vec![7; table.len()], vec![7; marks.len()]);
+                let read = read_into(&archive_bytes(&tree, marks), &on_entry.0, &on_entry.1);
+                let told = match verdict(&tree, marks) {
+                    verdict if verdict.is_accepted() => (verdict, table.to_vec(), marks.to_vec()),
+                    _ => (Answer::refused(13, 0), on_entry.0, on_entry.1),
+                };
+                assert_eq!(read, told);
+                seen.add(read.0);
+            });
+        });
+    });
+    seen.expect(&[0, 13], 1000);
+}
+
+/// A label 0 hides no other fault, and is none: of kept film with one word set anew, what is read
+/// has another label, limit or parent.
+#[test]
+fn changed_words_of_kept_film() {
+    for film in kept() {
+        let mut seen = Seen::default();
+        let node_records = 3 + 4 * word(&film.archive, 2);
+        for place in 0..film.archive.len() / 2 {
+            let is_label = place > node_records && (place - node_records) % 4 == 1;
+            let is_parent = place > node_records && (place - node_records) % 4 == 2;
+            for value in [0, 1, 2, 3, 5, 20, 40, 41, 1024, 1025, 65535] {
+                let mut changed = film.archive.clone();
+                changed[2 * place..2 * place + 2].copy_from_slice(&u16::to_be_bytes(value));
+                let answer = read_archive(&changed);
+                if is_label || changed == film.archive {
+                    assert_eq!(answer, film.verdict, "word {place}: {value}");
+                } else if !is_parent && place != 1 {
+                    assert_eq!(answer, Answer::refused(13, 0), "word {place}: {value}");
+                }
+                seen.add(answer);
+            }
+        }
+        seen.expect(&[0, 13], 10);
+    }
 }
 
 #[test]

@@ -54,13 +54,18 @@ fn heads() {
                 for fourth in values {
                     let head = [first, second, third, fourth];
                     for zeros in [0, 1, 7, 8, 9, 16] {
-                        seen.add(read_tree(&[&head[..], &vec![0; zeros]].concat()));
+                        let mut table = [&head[..], &vec![0; zeros]].concat();
+                        seen.add(read_tree(&table));
+                        // The same with weights of 1.
+                        let weights = table.iter_mut().skip(5).step_by(8);
+                        weights.for_each(|weight| *weight = 1);
+                        seen.add(read_tree(&table));
                     }
                 }
             }
         }
     }
-    seen.expect(&[1, 2, 3, 4, 5], 50);
+    seen.expect(&[1, 2, 3, 4, 5, 14], 50);
 }
 
 #[test]
@@ -73,6 +78,22 @@ fn every_count_and_limit() {
         table.limit = value;
         read_tree(&table.bytes());
         table.limit = 5;
+    }
+}
+
+/// Of all words, only 0 is no label.
+#[test]
+fn every_label() {
+    for node in [1, 3, 6] {
+        let mut table = case_e();
+        for label in 0..=u16::MAX {
+            table.records[node - 1].label = label;
+            let expected = match label {
+                0 => Answer::refused(14, node),
+                _ => Answer::ACCEPTED,
+            };
+            assert_eq!(read_tree(&table.bytes()), expected);
+        }
     }
 }
 
@@ -117,6 +138,20 @@ fn all_links_of_small_tables() {
     }
 }
 
+/// All labels of 0 and 1, with all links and with weights of 0 and over the limit.
+#[test]
+fn all_labels_of_small_tables() {
+    let mut seen = Seen::default();
+    let mut read_all = |table: &[u8]| {
+        for_each_labelling(table, |table| seen.add(read_tree(table)));
+    };
+    for count in 1..=3 {
+        for_each_linking(count, |table| read_all(&table.bytes()));
+    }
+    for_each_table(1..=5, &[0, 1, 3], &[2], &mut read_all);
+    seen.expect(&[0, 5, 6, 7, 14], 20);
+}
+
 #[test]
 fn valid_tables() {
     let random = &mut Random::new(602);
@@ -143,10 +178,11 @@ fn damaged_tables() {
         let table = any_table(random, most, 20);
         seen.add(read_tree(&damaged(random, &table)));
     }
-    seen.expect(&[0, 1, 2, 3, 4, 5, 6, 7], 50);
+    seen.expect(&[0, 1, 2, 3, 4, 5, 6, 7, 14], 50);
 }
 
-/// Several links at random, so that loops, lost branches and early ends come at any place.
+/// Several links at random, so that loops, lost branches and early ends come at any place, and at
+/// times labels of 0.
 #[test]
 fn random_links() {
     let random = &mut Random::new(604);
@@ -154,6 +190,9 @@ fn random_links() {
     for round in 0..40000 {
         let most = if round % 50 == 0 { 1024 } else { 12 };
         let mut table = any_table(random, most, 20);
+        if random.once_in(4) {
+            table = table.unfiled(random);
+        }
         let count = table.records.len();
         for _ in 0..random.between(1, 3) {
             let place = random.between(0, count - 1);
@@ -167,10 +206,10 @@ fn random_links() {
         }
         seen.add(read_tree(&table.bytes()));
     }
-    seen.expect(&[0, 6], 500);
+    seen.expect(&[0, 6, 14], 500);
 }
 
-/// Weights, links and limits at random all at once: the first check that fails answers.
+/// Weights, labels, links and limits at random all at once: the first check that fails answers.
 #[test]
 fn many_faults() {
     let random = &mut Random::new(605);
@@ -182,13 +221,14 @@ fn many_faults() {
             let link = random.between(0, count + 1) as u16;
             let place = random.between(0, count - 1);
             let record = &mut table.records[place];
-            match random.between(1, 8) {
+            match random.between(1, 9) {
                 1 => table.count = random.pick(&[0, 1025]),
                 2 => table.limit = random.pick(&[0, 1025]),
                 3 => record.weight = 0,
                 4 | 5 => record.weight = random.pick(&[21, 1024, 65535]),
                 6 => record.first_child = link,
                 7 => record.next_sibling = link,
+                8 => record.label = 0,
                 _ => table.limit = 1,
             }
         }
@@ -198,7 +238,7 @@ fn many_faults() {
         }
         seen.add(read_tree(&bytes));
     }
-    seen.expect(&[0, 2, 3, 4, 5, 6, 7], 50);
+    seen.expect(&[0, 2, 3, 4, 5, 6, 7, 14], 50);
 }
 
 /// The longest tables of each form, whole and with one fault.
@@ -220,6 +260,9 @@ fn longest_tables() {
         let mut longer = heavy.clone();
         longer.records[1023].next_sibling = 1025;
         assert_eq!(read_tree(&longer.bytes()), Answer::refused(6, 1024));
+        let mut unfiled = longer.clone();
+        unfiled.records[1023].label = 0;
+        assert_eq!(read_tree(&unfiled.bytes()), Answer::refused(14, 1024));
         longer.count = 1025;
         longer.records.push(table.records[1023]);
         assert_eq!(read_tree(&longer.bytes()), Answer::refused(2, 1025));

@@ -51,7 +51,7 @@ fn case_e_and_its_plan() {
     assert_eq!(refusal, Answer::refused(12, 78));
 }
 
-/// Case E with a fault for any selection of the numbers 1 to 8, 10, 11 and 12.
+/// Case E with a fault for any selection of the numbers 1 to 8, 10, 11, 12 and 14.
 #[test]
 fn order_of_the_checks() {
     for (table, number, place) in faulty_tables() {
@@ -90,6 +90,23 @@ fn all_marks_of_small_trees() {
         });
     });
     seen.expect(&[0, 7, 10, 11, 12], 500);
+}
+
+/// All labels of 0 and 1, with weights of 0 and over the limit.
+#[test]
+fn all_labels_of_small_trees() {
+    let mut seen = Seen::default();
+    for_each_table(1..=3, &[0, 1, 2, 4], &[3], |table| {
+        for_each_labelling(table, |table| {
+            for_each_marks(word(table, 0), |marks| {
+                let length = right_length(table, marks);
+                for length in [length, length - 1] {
+                    seen.add(write_archive(table, marks, &vec![7; length]).0);
+                }
+            });
+        });
+    });
+    seen.expect(&[0, 5, 7, 10, 11, 12, 14], 20);
 }
 
 #[test]
@@ -142,7 +159,7 @@ fn damaged_tables() {
         let archive = random.bytes(length);
         seen.add(write_archive(&damaged, &marks, &archive).0);
     }
-    seen.expect(&[0, 1, 2, 3, 4, 5, 6, 7, 8, 10], 50);
+    seen.expect(&[0, 1, 2, 3, 4, 5, 6, 7, 8, 10, 14], 50);
 }
 
 /// What is written can be read: the same table and marks come back.
