@@ -7,8 +7,9 @@ use balduqen_tests::check::{show, Seen};
 use balduqen_tests::ffi;
 use balduqen_tests::gen::*;
 use balduqen_tests::guarded::{Guarded, Side, SIDES};
+use balduqen_tests::kept::kept;
 use balduqen_tests::model::{
-    self, archive_bytes, archive_length, read, scratch_length, Answer, MAX_NODES,
+    self, archive_bytes, archive_length, read, scratch_length, word, Answer, MAX_NODES,
 };
 use std::env;
 use std::os::unix::process::ExitStatusExt;
@@ -324,7 +325,35 @@ fn damaged_tables() {
         let marks = random.bytes(count);
         seen.add(hand_to_all(&damaged, &marks, table.limit.into()));
     }
-    seen.expect(&[0, 1, 2, 3, 4, 5, 6, 7], 20);
+    seen.expect(&[0, 1, 2, 3, 4, 5, 6, 7, 14], 20);
+}
+
+/// Film with labels 0 is read; what is read of it is refused by all other entries, and each leaves
+/// its buffers alone.
+#[test]
+fn kept_film() {
+    for film in kept() {
+        let answer = hand_to_reader_in_all_lengths(&film.archive, film.marks.len());
+        assert_eq!(answer, film.verdict, "{}", film.name);
+        let refusal = Answer::refused(14, film.unfiled);
+        let limit = word(&film.table, 1);
+        let answer = hand_in_all_lengths(&film.table, &film.marks, limit);
+        assert_eq!(answer, refusal, "{}", film.name);
+        let answer = write_archive(&film.table, &film.marks, &film.archive);
+        assert_eq!(answer, refusal, "{}", film.name);
+    }
+}
+
+/// The longest tables with label 0 at the last node, whose record stands against the guard.
+#[test]
+fn largest_unfiled_tables() {
+    let random = &mut Random::new(1206);
+    for form in FORMS {
+        let mut table = random_table(random, form, MAX_NODES, 12);
+        table.records[MAX_NODES - 1].label = 0;
+        let answer = hand_in_all_lengths(&table.bytes(), &ones(MAX_NODES), 12);
+        assert_eq!(answer, Answer::refused(14, MAX_NODES));
+    }
 }
 
 /// Marks of all values at every place of case E.
