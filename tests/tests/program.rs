@@ -5,6 +5,7 @@
 use balduqen_tests::cases::*;
 use balduqen_tests::check::{show, Seen};
 use balduqen_tests::gen::*;
+use balduqen_tests::kept::kept;
 use balduqen_tests::model::{pages, read, scratch_length, word, Answer};
 use std::fs::{self, OpenOptions};
 use std::io::{self, ErrorKind, Read, Seek, Write};
@@ -119,12 +120,32 @@ fn cases() {
     }
 }
 
-/// Case E with every selection of faults 1 to 7.
+/// Case E with every selection of faults 1 to 7 and 14.
 #[test]
 fn order_of_the_checks() {
     for (table, number, _) in faulty_tables() {
         assert_eq!(check(&table).number, number);
     }
+}
+
+/// Lots that nobody has filed: at any node, and in trees that older film has.
+#[test]
+fn unfiled_lots() {
+    for node in 1..=6 {
+        let mut table = case_e();
+        table.records[node - 1].label = 0;
+        assert_eq!(run(&table.bytes()), format!("refused 14 at {node}\n"));
+    }
+    for film in kept() {
+        assert_eq!(
+            run(&film.table),
+            format!("refused 14 at {}\n", film.unfiled)
+        );
+    }
+    // Here the scratch that is lent would be too little.
+    let mut largest = random_table(&mut Random::new(907), Form::Mixed, 1024, 1);
+    largest.records[1023].label = 0;
+    assert_eq!(run(&largest.bytes()), "refused 14 at 1024\n");
 }
 
 #[test]
@@ -281,6 +302,16 @@ fn small_trees() {
     seen.expect(&[0, 7], 100);
 }
 
+/// All labels of 0 and 1, with weights of 0 and over the limit.
+#[test]
+fn all_labels_of_small_trees() {
+    let mut seen = Seen::default();
+    for_each_table(1..=3, &[0, 1, 2, 3], &[2], |table| {
+        for_each_labelling(table, |table| seen.add(check(table)));
+    });
+    seen.expect(&[0, 5, 7, 14], 20);
+}
+
 #[test]
 fn random_trees() {
     let random = &mut Random::new(904);
@@ -306,5 +337,5 @@ fn damaged_tables() {
         let table = any_table(random, 12, 12);
         seen.add(check(&damaged(random, &table)));
     }
-    seen.expect(&[0, 1, 2, 3, 4, 5, 6, 7, 9], 5);
+    seen.expect(&[0, 1, 2, 3, 4, 5, 6, 7, 9, 14], 5);
 }
