@@ -3,12 +3,13 @@
 
 use balduqen_tests::cases::{archive_of_e, case_e, MARKS_OF_E};
 use balduqen_tests::check::show;
-use balduqen_tests::exhaustive::for_each_plan;
+use balduqen_tests::exhaustive::{best_of_plans, for_each_plan, score_of_plan};
 use balduqen_tests::ffi;
 use balduqen_tests::gen::*;
+use balduqen_tests::kept::kept;
 use balduqen_tests::model::{
-    self, archive_bytes, archive_length, judge, plan_best, read, scratch_length, word, Answer,
-    MAX_NODES,
+    self, archive_bytes, archive_length, judge, plan_best, read, read_as_before, scratch_length,
+    word, Answer, MAX_NODES,
 };
 use balduqen_tests::rule_sheet::{list_nodes, rebuild, Failed, Page, Place, Rebuilt};
 use std::collections::BTreeSet;
@@ -141,14 +142,20 @@ fn archive_of_two_pages() -> Vec<u8> {
 }
 
 /// The printed bytes are the archive of this tree and its best plan, and the lines of the head, the
-/// pages and the nodes have its words.
+/// pages and the nodes have its words. With label 0 it is older film: neither planner nor writer
+/// takes the tree.
 #[test]
 fn bytes_of_the_example_of_two_pages() {
     let mut table = Table::new(14, &[0, 1, 2, 2, 1, 5, 1], &[3, 4, 1, 5, 2, 1, 2]);
     for (record, label) in table.records.iter_mut().zip([300, 20, 0, 7, 20, 9, 44]) {
         record.label = label;
     }
-    let archive = archive_of_best(&table, &[1, 1, 0, 0, 2, 0, 0], 2);
+    let marks = [1, 1, 0, 0, 2, 0, 0];
+    let table = table.bytes();
+    assert_eq!(judge(&table, &marks), Answer::refused(14, 3));
+    let tree = read_as_before(&table).expect("a table that is accepted but for labels");
+    assert_eq!(score_of_plan(&tree, &marks), best_of_plans(&tree));
+    let archive = archive_bytes(&tree, &marks);
     assert_eq!(archive_of_two_pages(), archive);
 
     let names = ["head", "page 1", "page 2"].map(str::to_string);
@@ -247,6 +254,26 @@ fn tables_of_the_example_of_two_pages() {
     for reader in [model::read_archive, ffi::read_archive] {
         assert!(agree(&archive_of_two_pages(), reader));
     }
+}
+
+/// What the sheet says of label 0, and that it and both readers read older film with it. The
+/// example of two pages is such film.
+#[test]
+fn label_0() {
+    assert!(section(2).contains("for 0, found on older film: a lot that nobody had filed."));
+    assert!(section(7).contains("There is no check of labels."));
+    assert!(section(16).contains("Label 0 of node 3 is a lot that nobody had filed."));
+    for film in kept() {
+        let told = rebuild(&film.archive).expect("a sound archive");
+        assert_told(&told, &film.table, &film.marks, &film.archive);
+        let first = told.nodes.iter().position(|node| node.label == 0);
+        assert_eq!(first, Some(film.unfiled - 1), "{}", film.name);
+        for reader in [model::read_archive, ffi::read_archive] {
+            assert!(agree(&film.archive, reader));
+        }
+    }
+    let archives = kept().map(|film| film.archive);
+    assert!(archives.contains(&archive_of_two_pages()));
 }
 
 /// The example of two pages with the word set anew that a section prints: first the line as it was,
@@ -651,7 +678,7 @@ fn table_of(told: &Rebuilt) -> Vec<u8> {
 fn assert_told(told: &Rebuilt, table: &[u8], marks: &[u8], context: &[u8]) {
     assert_eq!(table_of(told), table, "{}", show(context));
     assert_eq!(marks_of(told), marks, "{}", show(context));
-    let tree = read(table).expect("an accepted table");
+    let tree = read_as_before(table).expect("a table that is accepted but for labels");
     assert_eq!(told.limit, tree.limit as usize);
     assert_eq!(told.nodes.len(), tree.node_count());
     for (n, node) in (1..).zip(&told.nodes) {
@@ -725,9 +752,14 @@ fn random_table_and_plan(random: &mut Random, most: usize, limit: usize) -> (Vec
     (table, marks)
 }
 
+/// At times with label 0 at a node.
 fn random_archive(random: &mut Random, most: usize, limit: usize) -> Vec<u8> {
     let (table, marks) = random_table_and_plan(random, most, limit);
-    archive_bytes(&read(&table).expect("an accepted table"), &marks)
+    let mut tree = read(&table).expect("an accepted table");
+    if random.once_in(4) {
+        tree.labels[random.between(1, marks.len())] = 0;
+    }
+    archive_bytes(&tree, &marks)
 }
 
 /// Case E and some random ones, of up to seven nodes.
