@@ -28,7 +28,7 @@ impl Tree {
         })
     }
 
-    /// The tree of a table, or refusals 1 to 7 in their order.
+    /// The tree of a table, or refusals 1 to 7 in their order, with 14 between 5 and 6.
     pub fn read(table: &[u8]) -> Result<Tree, Answer> {
         let (count, limit) = read_head(table)?;
         let column = |offset| {
@@ -46,6 +46,10 @@ impl Tree {
         };
         if let Some(node) = tree.first_node(|weight| weight == 0) {
             return Err(Answer::refused(5, node));
+        }
+        let mut labels = column(1).enumerate().skip(1);
+        if let Some((node, _)) = labels.find(|&(_, label)| label == 0) {
+            return Err(Answer::refused(14, node));
         }
         tree.walk().map_err(|met| Answer::refused(6, met))?;
         if let Some(node) = tree.first_node(|weight| weight as usize > limit) {
