@@ -101,7 +101,7 @@ pub record WritePromise (e : Edition) (t m out : List ℕ) (r : Answer) (a : Lis
   pub kept : (r .number ≡ 0 → ⊥) → a ≡ out
   pub weight : WeightPromise t r
 
--- the writer, lent the table t, the marks m and some output, accepts and leaves the archive a
+-- a writer, lent the table t, the marks m and some output, accepts and leaves the archive a
 pub record WrittenFrom (write : List ℕ → List ℕ → List ℕ → Written) (t m a : List ℕ) : Type 0 where
   pub bytes : Bytes t
   pub out : List ℕ
