@@ -143,7 +143,7 @@ balduqen_answer balduqen_write_archive(const uint8_t *table, size_t table_length
 /* Reads the tree and the plan back from an archive: the very table and marks that it was written
  * from. The table buffer has exactly 4 + 8 * N bytes and the marks buffer N. Refuses 13, 12 for the
  * table buffer, then 8 for the marks buffer. Film from before 14 was refused may have labels 0, and
- * is read like any other; what is read then can not be planned, judged or written again: 14. */
+ * is read like any other; what is read then cannot be planned, judged or written again: 14. */
 balduqen_answer balduqen_read_archive(const uint8_t *archive, size_t archive_length,
                                       uint8_t *table, size_t table_length,
                                       uint8_t *marks, size_t marks_length);
