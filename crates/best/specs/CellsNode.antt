@@ -17,7 +17,7 @@ use borrow.Author.Tests.{eqb-true, eqb-false}
 use Rattle.model.specs.Basics.{pick}
 use Rattle.model.specs.Table.{nodeCount, limitOf, weightAt, firstAt, nextAt}
 use Rattle.model.specs.Plan.{prevAt, parentAt}
-use Rattle.model.specs.Steps.{Child, entryAt, secondStart, gainOf, childOf, childrenFrom, childrenOf}
+use Rattle.model.specs.Steps.{Child, entryAt, secondStart, gainOf, childOf, childrenFrom, childrenOf, siblingsBy}
 use Rattle.theory.specs.TableFacts.{SoundFacts, AcceptedFacts}
 use Rattle.theory.specs.TableLinks.{prevAt-less, parentAt-later, parentAt-less, first-le, next-le, first-prev}
 use Rattle.theory.specs.TableLinks.{next-prev, first-parent, next-parent}
@@ -171,7 +171,7 @@ module _ {t : List ℕ} (s : SoundFacts t) (v : ℕ) (low : 1 ≤ v) (high : v �
           })
 
   pub kids-step : (c before : ℕ) → NextChild t v c before → KidsFrom t v c before → KidsFrom t v (nextAt t c) c
-  unfolding childrenOf childrenFrom figureAt
+  unfolding childrenOf siblingsBy figureAt
   kids-step c before n k g =
       let a = node-at s c (n .low) (n .high) in
       let f : childrenUpTo t g c ≡ figureAt t g c ∷ childrenUpTo t g before =
@@ -180,7 +180,7 @@ module _ {t : List ℕ} (s : SoundFacts t) (v : ℕ) (low : 1 ≤ v) (high : v �
 
 pub kids-end : (t : List ℕ) (v before : ℕ) → KidsFrom t v 0 before
     → (g : Bool) → childrenOf g (limitOf t) (chainAt t (firstAt t v)) ≡ childrenUpTo t g before
-unfolding childrenFrom
+unfolding siblingsBy
 kids-end t v before k g = k g ∙ ap (λ x. childrenFrom g (limitOf t) x (childrenUpTo t g before)) (chain-none t)
 
 -- the link after the child u of node v, or to its first child where u is 0

@@ -15,7 +15,7 @@ use borrow.Author.Tests.{eqb-true, eqb-false, ne-eqb}
 use Rattle.model.specs.Basics.{pick}
 use Rattle.model.specs.Table.{nodeCount, limitOf, weightAt, labelAt, firstAt, nextAt, treeOf, Chain, node}
 use Rattle.model.specs.Plan.{prevAt, parentAt, begins}
-use Rattle.model.specs.Steps.{Choice, choicesOf, layMarks, rootChoice}
+use Rattle.model.specs.Steps.{Choice, choicesOf, layMarks, rootChoice, layDown}
 use Rattle.theory.specs.TableFacts.{SoundFacts}
 use Rattle.theory.specs.TableNumbered.{Numbered, none, some, numbered-le, sound-tree}
 use Rattle.theory.specs.TableLinks.{prevAt-less, prevAt-next, parentAt-less, parent-first}
@@ -130,7 +130,7 @@ module _ (t : List ℕ) (g : Bool) (ch : ℕ → Choice) (marks : List ℕ) (lon
     pub lay-numbered : {m v e : ℕ} {c : Chain} → Numbered t m v c e → e ≤ nodeCount t → (cs : List Choice)
         → Along t ch v cs
         → layMarks g (limitOf t) c cs ≡ part m e marks
-    unfolding layMarks
+    unfolding layDown
     lay-numbered {m} none h cs a = sym (part-empty m marks)
     lay-numbered (some {m = m} {e₁ = e₁} {e₂ = e₂} {kids = kids} {next = next} k s) h cs a =
         let n = along-node a (omega arith) in

@@ -65,9 +65,9 @@ unfolding Basics.pick Basics.when Basics.atPlace Basics.sumTo Basics.countTo Bas
     Runs.homeOf Runs.runWeight Runs.withinLimit Runs.runsOf Runs.pageRun
     Steps.restSum Steps.gainSum Steps.takenCount Steps.largestGain Steps.takeEarliest Steps.reduceFrom Steps.reduce
     Steps.better Steps.leastOf Steps.winner Steps.staying Steps.asMember Steps.runChoices Steps.running Steps.runOf
-    Steps.lightest Steps.stopsAt Steps.secondStart Steps.gainOf Steps.childOf Steps.childrenFrom Steps.childrenOf
-    Steps.choicesOf Steps.layMarks Steps.bestMarks Steps.levelMarks Steps.whole Steps.cutDown Steps.remainders
-    Steps.laySingle Steps.singleMarks Steps.sides Steps.remainder Steps.takenAt Steps.layPair Steps.pairMarks
+    Steps.lightest Steps.stopsAt Steps.secondStart Steps.gainOf Steps.childOf Steps.siblingsBy Steps.childrenOf
+    Steps.choicesOf Steps.layDown Steps.bestMarks Steps.levelMarks Steps.whole Steps.cutDown Steps.remainders
+    Steps.singleMarks Steps.sides Steps.remainder Steps.takenAt Steps.layPair Steps.pairMarks
     Steps.entryAt Steps.stretched
     Archive.headWords Archive.nextPage Archive.pageRecord Archive.nextOnPage Archive.nodeRecord Archive.archiveOf
     Archive.nodesIn Archive.limitIn Archive.pagesIn Archive.pageFieldIn Archive.nodeFieldIn Archive.parentIn

@@ -48,6 +48,22 @@ reduceFrom (suc f) room ms =
 unfoldable pub reduce : ℕ → List Member → List Member
 reduce room ms = reduceFrom (length ms) room ms
 
+-- ---- What planners share that weigh children before parents and lay marks from the root down
+
+-- What each of a chain of siblings comes to: f makes it of the node's weight and of what its children come to. They are
+-- put before what the siblings before the chain come to, so that the last comes first.
+unfoldable pub siblingsBy : {A : Type 0} → (ℕ → List A → A) → Chain → List A → List A
+siblingsBy f end before = before
+siblingsBy f (node w l kids next) before = siblingsBy f next (f w (siblingsBy f kids []) ∷ before)
+
+-- The marks of a chain of siblings, where cs is what becomes of these: it tells a node's mark, and with the node's
+-- weight and children what becomes of the children, the first of them first.
+unfoldable pub layDown : {A : Type 0} → (A → ℕ) → (ℕ → Chain → A → List A) → Chain → List A → List ℕ
+layDown mark below end cs = []
+layDown mark below (node w l kids next) [] = []
+layDown mark below (node w l kids next) (c ∷ cs) =
+    mark c ∷ layDown mark below kids (below w kids c) ++ layDown mark below next cs
+
 -- ---- Best (the report's DHW), and level (GHDW): the same with every gain 0
 
 -- a child as its parent sees it: its rest weight under its best plan, and its gain, what its second plan takes off
@@ -147,11 +163,9 @@ childOf gains K w ks =
     let W : ℕ = entryAt K ks w .rest in
     record { rest = W; gain = pick gains (gainOf K w W (entryAt K ks (secondStart K w W))) 0 }
 
--- the figures of a chain of siblings, put before those of the siblings before it: the last comes first
-unfoldable pub childrenFrom : Bool → ℕ → Chain → List Child → List Child
-childrenFrom gains K end before = before
-childrenFrom gains K (node w l kids next) before =
-    childrenFrom gains K next (childOf gains K w (childrenFrom gains K kids []) ∷ before)
+-- the figures of a chain of siblings, before those of the siblings before it
+abbrev pub childrenFrom : Bool → ℕ → Chain → List Child → List Child
+childrenFrom gains K = siblingsBy (childOf gains K)
 
 unfoldable pub childrenOf : Bool → ℕ → Chain → List Child
 childrenOf gains K c = childrenFrom gains K c []
@@ -163,11 +177,8 @@ choicesOf gains K w kids second =
     reverse (entryAt K ks (pick second (secondStart K w (entryAt K ks w .rest)) w) .choices)
 
 -- marks are laid from the root down: a child follows its second plan where a chosen run took it, else its best plan
-unfoldable pub layMarks : Bool → ℕ → Chain → List Choice → List ℕ
-layMarks gains K end cs = []
-layMarks gains K (node w l kids next) [] = []
-layMarks gains K (node w l kids next) (c ∷ cs) =
-    c .mark ∷ layMarks gains K kids (choicesOf gains K w kids (c .second)) ++ layMarks gains K next cs
+abbrev pub layMarks : Bool → ℕ → Chain → List Choice → List ℕ
+layMarks gains K = layDown (λ (c : Choice). c .mark) (λ w kids c. choicesOf gains K w kids (c .second))
 
 abbrev pub rootChoice : List Choice
 rootChoice = record { mark = begins; second = false } ∷ []
@@ -195,11 +206,8 @@ remainders K end = []
 remainders K (node w l kids next) = whole (w + restSum (cutDown K w (remainders K kids))) ∷ remainders K next
 
 -- a cut child is a run by itself
-unfoldable pub laySingle : ℕ → Chain → List Member → List ℕ
-laySingle K end ms = []
-laySingle K (node w l kids next) [] = []
-laySingle K (node w l kids next) (m ∷ ms) =
-    pick (m .taken) begins stays ∷ laySingle K kids (cutDown K w (remainders K kids)) ++ laySingle K next ms
+abbrev pub laySingle : ℕ → Chain → List Member → List ℕ
+laySingle K = layDown (λ (m : Member). pick (m .taken) begins stays) (λ w kids m. cutDown K w (remainders K kids))
 
 unfoldable pub singleMarks : ℕ → Chain → List ℕ
 singleMarks K c = laySingle K c (record { rest = 0; gain = 0; taken = true } ∷ [])

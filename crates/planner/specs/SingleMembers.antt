@@ -12,7 +12,7 @@ use lib.Dec.{eqb}
 use borrow.Author.Tests.{eq-eqb, ne-eqb}
 use Rattle.model.specs.Basics.{pick}
 use Rattle.model.specs.Table.{firstAt, nextAt, weightAt, Chain, end, node}
-use Rattle.model.specs.Steps.{Member, restSum, largestGain, takeEarliest, cutDown, remainders, laySingle}
+use Rattle.model.specs.Steps.{Member, restSum, largestGain, takeEarliest, cutDown, remainders, laySingle, layDown}
 use Rattle.theory.specs.TableNumbered.{Numbered, none, some, numbered-le}
 use Rattle.planner.specs.Kept.{kept, kept-suc, kept-here, kept-other, Same, same-less, same-store}
 
@@ -213,7 +213,7 @@ module _ {t : List ℕ} where
 
   pub laid-marks : (K : ℕ) {m v e : ℕ} {c : Chain} (a : List ℕ) (ms : List Member) → Numbered t m v c e → e ≤ length a
       → LaidAt K t a v c ms → drop m a ≡ laySingle K c ms ++ drop e a
-  unfolding LaidAt laySingle
+  unfolding LaidAt layDown
   laid-marks K a ms none h laid = refl
   laid-marks K a [] (some k n) h laid = absurd laid
   laid-marks K a (x ∷ ms) (some {m = m} {e₁ = e₁} {e₂ = e₂} {kids = kids} {next = next} k n) h laid =

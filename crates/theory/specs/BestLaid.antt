@@ -10,7 +10,7 @@ use lib.ListN.{length}
 use Rattle.model.specs.Basics.{pick}
 use Rattle.model.specs.Table.{Chain, end, node}
 use Rattle.model.specs.Plan.{stays, begins, continues}
-use Rattle.model.specs.Steps.{Child, Choice, entryAt, childOf, childrenFrom, childrenOf, choicesOf, layMarks}
+use Rattle.model.specs.Steps.{Child, Choice, entryAt, childOf, childrenFrom, childrenOf, choicesOf, layMarks, layDown, siblingsBy}
 use Rattle.model.specs.Steps.{rootChoice}
 use Rattle.theory.specs.PlanShape.{weighed, EachWithin}
 use Rattle.theory.specs.PlanLaid.{FeasibleShape, feasible-tree}
@@ -70,7 +70,7 @@ data ChainLaid (gains : Bool) (K : ℕ) (c : Chain) (before : List Child) (ds : 
 
 chain-laid-end : {gains : Bool} {K n x : ℕ} {before : List Child} {ds : List Choice} {o : RunSoFar}
     → Level K before ds n x o → ChainLaid gains K end before ds n x
-unfolding layMarks pagesBelow
+unfolding layDown pagesBelow
 chain-laid-end {K = K} {o = o} l =
     chainLaid [] refl l (weighs-end K (inRunSoFar o)) (room-zero o l) (omega arith) (omega arith)
 
@@ -84,7 +84,7 @@ chain-laid-node : {gains : Bool} {K w l n x : ℕ} {kids next : Chain} {before :
     → Offering gains K w kids
     → ChainLaid gains K next (childOf gains K w (childrenOf gains K kids) ∷ before) ds n x
     → ChainLaid gains K (node w l kids next) before ds n x
-unfolding layMarks pagesBelow
+unfolding layDown pagesBelow
 chain-laid-node {w = w} {l} {kids = kids} {next} kid (chainLaid own s (stay {o = o} e v) q h t u) =
     let p : NodeLaid _ _ w kids false 0 _ = kid false 0 _ (best refl refl) in
     chainLaid (record { mark = stays; second = false } ∷ own) s v
@@ -127,7 +127,7 @@ offering gains K w kids f h lay b e r (second p g q) =
 
 lay-chain : (gains : Bool) {K n x : ℕ} (c : Chain) (before : List Child) {ds : List Choice} {o : RunSoFar}
     → EachWithin K c → Level K (childrenFrom gains K c before) ds n x o → ChainLaid gains K c before ds n x
-unfolding childrenFrom childrenOf EachWithin
+unfolding siblingsBy childrenOf EachWithin
 lay-chain gains end before e l = chain-laid-end l
 lay-chain gains {K} (node w z kids next) before e l =
     chain-laid-node
@@ -149,7 +149,7 @@ pagesOf gains K c = suc (pagesBelow gains K c)
 pub laid-feasible : (gains : Bool) (K w l : ℕ) (kids : Chain) → EachWithin K (node w l kids end)
     → Figured K (node w l kids end) (layMarks gains K (node w l kids end) rootChoice)
     (pagesOf gains K (node w l kids end)) (entryAt K (childrenOf gains K kids) w .rest)
-unfolding layMarks childrenOf EachWithin pagesBelow
+unfolding layDown childrenOf EachWithin pagesBelow
 laid-feasible gains K w l kids e =
     let ks : List Child = childrenOf gains K kids in
     let f : Fair K ks = children-fair gains K kids [] (e .1) tt in

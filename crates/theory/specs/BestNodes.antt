@@ -11,7 +11,7 @@ use lib.Dec.{leb}
 use borrow.Author.Tests.{leb-true, leb-false}
 use Rattle.model.specs.Basics.{pick}
 use Rattle.model.specs.Table.{Chain, end, node}
-use Rattle.model.specs.Steps.{Child, Choice, Entry, entryAt, secondStart, gainOf, childOf, childrenFrom}
+use Rattle.model.specs.Steps.{Child, Choice, Entry, entryAt, secondStart, gainOf, childOf, childrenFrom, siblingsBy}
 use Rattle.theory.specs.PlanShape.{EachWithin}
 use Rattle.theory.specs.BestLevel.{Fair, RunSoFar, Level, lighter-plan}
 use Rattle.theory.specs.BestEntries.{Usable, entry-sound, entry-least}
@@ -134,7 +134,7 @@ module _ (K w : ℕ) (ks : List Child) (f : Fair K ks) (h : w ≤ K) where
 
 pub children-fair : (gains : Bool) (K : ℕ) (c : Chain) (before : List Child) → EachWithin K c → Fair K before
     → Fair K (childrenFrom gains K c before)
-unfolding childrenFrom EachWithin
+unfolding siblingsBy EachWithin
 children-fair gains K end before e f = f
 children-fair gains K (node w l kids next) before e f =
     let ks : List Child = childrenFrom gains K kids [] in

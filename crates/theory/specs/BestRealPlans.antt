@@ -9,7 +9,7 @@ use mathlib.Core.List.{List, [], _∷_, _++_}
 use native.Mathlib.Omega.{arith}
 use lib.ListN.{length, drop, length-append}
 use Rattle.model.specs.Table.{Chain, end, node}
-use Rattle.model.specs.Steps.{Child, Choice, Entry, childOf, childrenFrom, childrenOf}
+use Rattle.model.specs.Steps.{Child, Choice, Entry, childOf, childrenFrom, childrenOf, siblingsBy}
 use Rattle.theory.specs.PlanShape.{size, runs, allowedMark, allowed, Weights, joined, weighed, AllWithin}
 use Rattle.theory.specs.PlanShape.{EachWithin}
 use Rattle.theory.specs.PlanWeighs.{all-within-left, all-within-right}
@@ -197,7 +197,7 @@ match-chain : {K n x y : ℕ} (after : Bool) (c : Chain) (before : List Child) (
     → weighed c ms .stay ≤ K
     → ChainMatched K (childrenFrom true K c before) (pagesBelow true K c) (n + length (weighed c ms .pages))
     (x + weighed c ms .stay)
-unfolding childrenFrom EachWithin Reaching allowed weighed pagesBelow childrenOf
+unfolding siblingsBy EachWithin Reaching allowed weighed pagesBelow childrenOf
 match-chain after end before ms e f g m a h r s = chain-matched-more (chain-matched-end m) (omega arith) (omega arith)
 match-chain after (node w l kids next) before [] e f g m a h r s = absurd (false≢true a)
 match-chain {K} {y = y} after (node w l kids next) before (k ∷ ms) e f g m a h r s =

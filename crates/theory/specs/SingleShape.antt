@@ -11,7 +11,7 @@ use native.Mathlib.Omega.{arith}
 use native.Mathlib.Nat.{zero-add}
 use Rattle.model.specs.Basics.{pick}
 use Rattle.model.specs.Table.{Chain, end, node}
-use Rattle.model.specs.Steps.{Member, restSum, whole, cutDown, remainders, laySingle, singleMarks}
+use Rattle.model.specs.Steps.{Member, restSum, whole, cutDown, remainders, laySingle, singleMarks, layDown}
 use Rattle.theory.specs.PlanShape.{EachWithin}
 use Rattle.theory.specs.Reduce.{EachMember, Whole, cutOff, Cuts, cutsNone, cutsOne, Reduced, reduce-whole}
 use Rattle.theory.specs.PlanLaid.{MarksLaid, laid-end, laid-stays, laid-begins, FeasibleShape, feasible-tree}
@@ -36,14 +36,14 @@ module _ (K w l : ℕ) (kids next : Chain) (ms : List Member) where
       → ((after : Bool) → MarksLaid K after next (laySingle K next ms) (restSum ms) 0)
       → (m ≡ whole (w + held)) ⊎ (m ≡ cutOff)
       → MarksLaid K run (node w l kids next) (laySingle K (node w l kids next) (m ∷ ms)) (restSum (m ∷ ms)) 0
-  unfolding laySingle restSum pick whole
+  unfolding layDown restSum pick whole
   single-node run m h a b (inl e) = rw e (laid-stays K w l a run (b false))
   single-node run m h a b (inr e) = rw (e, zero-add (restSum ms))
       (laid-begins K w l a run (b true) (omega (arith, cutDown-reduced K w kids .fits)))
 
 single-laid : (K : ℕ) (c : Chain) (ms : List Member) → EachWithin K c → Cuts (remainders K c) ms
     → (run : Bool) → MarksLaid K run c (laySingle K c ms) (restSum ms) 0
-unfolding EachWithin remainders laySingle restSum
+unfolding EachWithin remainders layDown restSum
 single-laid K end ms h cutsNone run = laid-end K run
 single-laid K (node w l kids next) ms h (cutsOne {x = x} {xs = xs} c r) run =
     single-node K w l kids next xs run x (h .0)
@@ -54,7 +54,7 @@ single-laid K (node w l kids next) ms h (cutsOne {x = x} {xs = xs} c r) run =
 pub single-feasible : (K w l : ℕ) (kids : Chain) → EachWithin K (node w l kids end)
     → FeasibleShape K (node w l kids end) (singleMarks K (node w l kids end))
     (w + restSum (cutDown K w (remainders K kids)))
-unfolding EachWithin singleMarks laySingle pick
+unfolding EachWithin singleMarks layDown pick
 single-feasible K w l kids h =
     let cut = cutDown-reduced K w kids in
     let in-kids = single-laid K kids (cutDown K w (remainders K kids)) (h .1) (cut .cuts) false in
