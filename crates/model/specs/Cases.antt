@@ -1,5 +1,6 @@
 -- Document 01, 'Trees on both sides' and the examples of 'What is refused', computed from the definitions: one result
--- for the starred cases and one for the refusals; and one for trees with unfiled lots. Assumes nothing.
+-- for the starred cases and one for the refusals; one for the quick planners and one for trees with unfiled lots.
+-- Assumes nothing.
 use mathlib.Core.Path.{_≡_, refl}
 use Prim.Native.Nat.{ℕ}
 use mathlib.Core.Bool.{Bool, true, not, _&&_}
@@ -19,7 +20,7 @@ use Rattle.model.specs.Runs.{Run, holds, withinLimit, runsOf, runCount, 
 use Rattle.model.specs.Archive.{firstEdition, archiveOf}
 use Rattle.model.specs.Refusals.{refusedForWeight, readTree, judgePlan, planBest, planLevel, planSingle}
 use Rattle.model.specs.Refusals.{planPair, writeArchive, writeUnfiled, Written, readArchive, scratchWords}
-use Rattle.model.specs.Refusals.{Planned}
+use Rattle.model.specs.Refusals.{Planned, planRightmost, planDepthFirst}
 use Rattle.model.specs.declared.Beside.{Beside}
 use Rattle.model.specs.declared.Beside.the-variants.{Given, Nothing}
 use Rattle.model.specs.declared.Verdict.the-variants.{Feasible, Failed}
@@ -69,6 +70,9 @@ unfolding Basics.pick Basics.when Basics.atPlace Basics.sumTo Basics.countTo Bas
     Steps.choicesOf Steps.layDown Steps.bestMarks Steps.levelMarks Steps.whole Steps.cutDown Steps.remainders
     Steps.singleMarks Steps.sides Steps.remainder Steps.takenAt Steps.layPair Steps.pairMarks
     Steps.entryAt Steps.stretched
+    Steps.total Steps.whileOver Steps.cutRuns Steps.runLeft Steps.stayed Steps.rightRest Steps.rightRests
+    Steps.rightmostMarks Steps.joins Steps.pageMark Steps.pageWith Steps.pageAfter Steps.layDepthFirst
+    Steps.depthFirstMarks
     Archive.headWords Archive.nextPage Archive.pageRecord Archive.nextOnPage Archive.nodeRecord Archive.archiveOf
     Archive.nodesIn Archive.limitIn Archive.pagesIn Archive.pageFieldIn Archive.nodeFieldIn Archive.parentIn
     Archive.firstIn Archive.nextIn Archive.tableIn Archive.beginsIn Archive.continuesIn Archive.markIn Archive.marksIn
@@ -123,6 +127,28 @@ starred =
 pub starred-hold : every computed starred ≡ true
 unfolding computed starred plans
 starred-hold = refl
+
+-- ---- The quick planners, on the same trees
+
+pub quick : List Bool
+quick =
+    plans planRightmost treeA (1 ∷ []) 1 1
+    ∷ plans planDepthFirst treeA (1 ∷ []) 1 1
+    ∷ plans planRightmost (treeCD 5) (1 ∷ 0 ∷ 0 ∷ 0 ∷ []) 1 5
+    ∷ plans planDepthFirst (treeCD 5) (1 ∷ 0 ∷ 0 ∷ 0 ∷ []) 1 5
+    ∷ plans planRightmost (treeCD 4) (1 ∷ 1 ∷ 2 ∷ 2 ∷ []) 2 2
+    ∷ plans planDepthFirst (treeCD 4) (1 ∷ 0 ∷ 0 ∷ 1 ∷ []) 2 4
+    ∷ plans planRightmost (treeE 5 1) (1 ∷ 1 ∷ 1 ∷ 0 ∷ 0 ∷ 1 ∷ []) 4 5
+    ∷ plans planDepthFirst (treeE 5 1) (1 ∷ 1 ∷ 2 ∷ 0 ∷ 1 ∷ 1 ∷ []) 4 5
+    ∷ plans planRightmost treeF (1 ∷ 0 ∷ 1 ∷ []) 2 4
+    ∷ plans planDepthFirst treeF (1 ∷ 0 ∷ 1 ∷ []) 2 4
+    ∷ plans planRightmost treeG (1 ∷ 1 ∷ 0 ∷ 1 ∷ 2 ∷ []) 3 1
+    ∷ plans planDepthFirst treeG (1 ∷ 0 ∷ 1 ∷ 1 ∷ 2 ∷ []) 3 3
+    ∷ []
+
+pub quick-hold : every computed quick ≡ true
+unfolding computed quick plans
+quick-hold = refl
 
 -- ---- The examples of the list of refusals, in its order
 

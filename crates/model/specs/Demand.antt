@@ -64,6 +64,14 @@ pub record PlanPromise (t m s : List ℕ) (r : Answer) (marks scratch : List ℕ
 pub record BestPromise (t m s : List ℕ) (r : Answer) (marks : List ℕ) : Type 0 where
   pub lowest : PlanLent t m s → (P : ℕ) × (W : ℕ) × (r ≡ answerOf (Feasible P W)) × Lowest t P W (runsOf t marks)
 
+-- What a quick planner says besides, with its answer r to the table t: where it accepts, and the best planner does, lent
+-- this table and whatever else, the best plan's page count is not above its own and, where both are equal, the best
+-- plan's root page is not heavier.
+pub record QuickPromise (t : List ℕ) (r : Answer) : Type 0 where
+  pub not-below : (m s : List ℕ) (P W bestP bestW : ℕ)
+      → r ≡ answerOf (Feasible P W) → planBest t m s .answer ≡ answerOf (Feasible bestP bestW)
+      → (bestP ≤ P) × (bestP ≡ P → bestW ≤ W)
+
 -- ---- The archive, of an edition e
 
 -- the run in page q's record

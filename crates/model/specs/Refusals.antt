@@ -9,7 +9,7 @@ use Rattle.model.specs.Basics.{pick, when, atPlace, firstTo, sameList}
 use Rattle.model.specs.Table.{maxNodes, maxLimit, nodeCount, limitOf, weightAt, labelAt, tableBytes, walkPlace}
 use Rattle.model.specs.Table.{Chain, treeOf}
 use Rattle.model.specs.Plan.{badMark, heavyPage, pageCount, verdictOf}
-use Rattle.model.specs.Steps.{bestMarks, levelMarks, singleMarks, pairMarks}
+use Rattle.model.specs.Steps.{bestMarks, levelMarks, singleMarks, pairMarks, rightmostMarks, depthFirstMarks}
 use Rattle.model.specs.Archive.{archiveOf, archiveBytes, nodesIn, tableIn, marksIn}
 use Rattle.model.specs.declared.Place.{Place}
 use Rattle.model.specs.declared.Cause.the-variants.{BadMark, HeavyPage}
@@ -229,6 +229,12 @@ planSingle = planned singleMarks
 
 abbrev pub planPair : List ℕ → List ℕ → List ℕ → Planned
 planPair = planned pairMarks
+
+abbrev pub planRightmost : List ℕ → List ℕ → List ℕ → Planned
+planRightmost = planned rightmostMarks
+
+abbrev pub planDepthFirst : List ℕ → List ℕ → List ℕ → Planned
+planDepthFirst = planned depthFirstMarks
 
 -- the archive writer: its answer and the output that it leaves
 pub record Written : Type 0 where

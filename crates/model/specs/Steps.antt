@@ -1,6 +1,7 @@
--- Document 01, 'Planner steps': the four planners on a tree by shape. Marks are laid in node order.
+-- Document 01, 'Planner steps', and the two quick planners of document 02: all six on a tree by shape. Marks are laid
+-- in node order.
 use Prim.Native.Nat.{ℕ, zero, suc, _+_, _-_, max}
-use mathlib.Core.Bool.{Bool, true, false, _&&_, _||_}
+use mathlib.Core.Bool.{Bool, true, false, not, _&&_, _||_}
 use mathlib.Core.List.{List, [], _∷_, _++_, map, reverse}
 use lib.ListN.{length}
 use lib.Dec.{eqb, ltb, leb}
@@ -237,3 +238,86 @@ layPair K (node w l kids next) cut uncut =
 
 unfoldable pub pairMarks : ℕ → Chain → List ℕ
 pairMarks K c = layPair K c true stays
+
+-- ---- Rightmost (the report's RS): the children of a node by their remainders, the last child first
+
+unfoldable pub total : List ℕ → ℕ
+total [] = 0
+total (r ∷ rs) = r + total rs
+
+-- what becomes of the uncut children rs of a node of weight w: while node and remainders exceed K, they are cut
+unfoldable pub whileOver : ℕ → ℕ → List ℕ → List ℕ → List ℕ → List ℕ
+whileOver K w rs cut kept = pick (leb (w + total rs) K) kept cut
+
+-- The marks of the uncut children: a run starts at the last of them. A run of weight `sum` takes left neighbours while
+-- the sum of their remainders stays within K; the leftmost of the run gets 1, the others 2.
+unfoldable mutual
+  pub cutRuns : ℕ → ℕ → List ℕ → List ℕ
+  cutRuns K w [] = []
+  cutRuns K w (r ∷ rs) = whileOver K w (r ∷ rs) (runLeft K w r rs) (stays ∷ cutRuns K w rs)
+
+  pub runLeft : ℕ → ℕ → ℕ → List ℕ → List ℕ
+  runLeft K w sum [] = begins ∷ []
+  runLeft K w sum (r ∷ rs) =
+      pick (leb (sum + r) K) (continues ∷ runLeft K w (sum + r) rs)
+      (begins ∷ whileOver K w (r ∷ rs) (runLeft K w r rs) (stays ∷ cutRuns K w rs))
+
+-- the remainders that stay, by their marks
+unfoldable pub stayed : List ℕ → List ℕ → ℕ
+stayed [] ms = 0
+stayed (r ∷ rs) [] = 0
+stayed (r ∷ rs) (m ∷ ms) = pick (eqb m stays) r 0 + stayed rs ms
+
+-- a node's remainder: its weight, and what stays of its children
+unfoldable pub rightRest : ℕ → ℕ → List ℕ → ℕ
+rightRest K w rs = w + stayed rs (cutRuns K w rs)
+
+-- the remainders of a chain of siblings
+unfoldable pub rightRests : ℕ → Chain → List ℕ
+rightRests K c = siblingsBy (rightRest K) c []
+
+abbrev pub layRightmost : ℕ → Chain → List ℕ → List ℕ
+layRightmost K = layDown (λ (m : ℕ). m) (λ w kids m. reverse (cutRuns K w (rightRests K kids)))
+
+unfoldable pub rightmostMarks : ℕ → Chain → List ℕ
+rightmostMarks K c = layRightmost K c (begins ∷ [])
+
+-- ---- Depth-first (the report's DFS)
+
+-- the current page, which is the one begun last: its number, 0 where there is none yet, and its weight so far
+pub record Page : Type 0 where
+  pub number : ℕ
+  pub weight : ℕ
+
+-- A node of weight w joins the current page if the page's weight and its own are at most K, and its parent or its
+-- previous sibling is in that page; `up` and `back` are the pages of these two, 0 where there is none.
+unfoldable pub joins : ℕ → ℕ → ℕ → ℕ → Page → Bool
+joins K w up back p =
+    not (eqb (p .number) 0) && leb (p .weight + w) K && (eqb up (p .number) || eqb back (p .number))
+
+-- it has mark 0 if the parent is there, else 2; otherwise it begins a page
+unfoldable pub pageMark : ℕ → ℕ → ℕ → ℕ → Page → ℕ
+pageMark K w up back p = pick (joins K w up back p) (pick (eqb up (p .number)) stays continues) begins
+
+-- the current page with the node
+unfoldable pub pageWith : ℕ → ℕ → ℕ → ℕ → Page → Page
+pageWith K w up back p =
+    pick (joins K w up back p) (record { number = p .number; weight = p .weight + w })
+    (record { number = suc (p .number); weight = w })
+
+-- the current page after a chain of siblings and all below them
+unfoldable pub pageAfter : ℕ → Chain → ℕ → ℕ → Page → Page
+pageAfter K end up back p = p
+pageAfter K (node w l kids next) up back p =
+    let q : Page = pageWith K w up back p in
+    pageAfter K next up (q .number) (pageAfter K kids (q .number) 0 q)
+
+unfoldable pub layDepthFirst : ℕ → Chain → ℕ → ℕ → Page → List ℕ
+layDepthFirst K end up back p = []
+layDepthFirst K (node w l kids next) up back p =
+    let q : Page = pageWith K w up back p in
+    pageMark K w up back p ∷ layDepthFirst K kids (q .number) 0 q
+    ++ layDepthFirst K next up (q .number) (pageAfter K kids (q .number) 0 q)
+
+unfoldable pub depthFirstMarks : ℕ → Chain → List ℕ
+depthFirstMarks K c = layDepthFirst K c 0 0 (record { number = 0; weight = 0 })
