@@ -3,7 +3,7 @@
 use Prim.Native.Nat.{ℕ, _+_, _≤_, _<_}
 use mathlib.Core.Path.{_≡_, refl, sym, _∙_, ap, ap₂}
 use mathlib.Core.Bool.{Bool, true, false}
-use mathlib.Core.List.{List, reverse}
+use mathlib.Core.List.{List, [], _∷_, reverse}
 use native.Mathlib.Omega.{arith}
 use lib.ListN.{length, getD, set, replicate, length-set, length-replicate}
 use lib.Seq.{getD-set-same}
@@ -12,15 +12,17 @@ use borrow.Author.Tests.{eqb-true, eqb-false, leb-true}
 use Rattle.model.specs.Basics.{pick}
 use Rattle.model.specs.Table.{slots, nodeCount, limitOf, weightAt, firstAt, treeOf}
 use Rattle.model.specs.Plan.{begins}
-use Rattle.model.specs.Steps.{Child, entryAt, secondStart, gainOf, childOf, childrenOf, choicesOf, layMarks, rootChoice}
+use Rattle.model.specs.Steps.{Child, Choice, entryAt, secondStart, gainOf, childOf, childrenOf, choicesOf, layMarks, rootChoice}
 use Rattle.theory.specs.TableLinks.{parentAt-less}
 use Rattle.theory.specs.TableChain.{chainAt}
+use Rattle.theory.specs.Lists.{zeros}
+use Rattle.theory.specs.SiblingsBack.{ChildOrNone}
+use Rattle.theory.specs.LaidByNumber.{siblingsBack, siblings-back-same, back-along, ChildrenLaid, marks-laid}
 use Rattle.best.specs.Cells.{cellAt}
 use Rattle.best.specs.CellsArrays.{childrenIn, childIn}
-use Rattle.best.specs.CellsRun.{zeros, nthPrev}
-use Rattle.best.specs.CellsNode.{figureAt, childrenUpTo, children-same, ChildOrNone, child-nthPrev}
+use Rattle.best.specs.CellsRun.{nthPrev}
+use Rattle.best.specs.CellsNode.{figureAt, childrenUpTo, children-same, child-nthPrev}
 use Rattle.best.specs.CellsPlan.{NodesPlanned}
-use Rattle.best.specs.LayMarks.{choicesBack, choices-back-same, back-along, ChildrenLaid, marks-laid}
 use Rattle.best.specs.LayChosen.{chosenIn}
 use Rattle.best.specs.LayContracts.{SecondsGain, startOf, NodeReady, NodeDone}
 
@@ -55,7 +57,7 @@ pub record Laying (t rests gains prevs lasts marks seconds : List ℕ) (v : ℕ)
   pub high : v ≤ nodeCount t
   pub root : chosenIn marks seconds 1 ≡ record { mark = begins; second = false }
   pub seconds-gain : SecondsGain gains seconds
-  pub done : (w : ℕ) → 1 ≤ w → w ≤ v → choicesBack t (chosenIn marks seconds) (getD lasts w 0)
+  pub done : (w : ℕ) → 1 ≤ w → w ≤ v → siblingsBack t (chosenIn marks seconds) (getD lasts w 0)
       ≡ entryAt (limitOf t) (childrenIn rests gains prevs (getD lasts w 0))
       (startOf (limitOf t) (weightAt t w) (getD rests w 0) (chosenIn marks seconds w .second)) .choices
 
@@ -104,7 +106,8 @@ module _ {t rests gains prevs lasts xs marks seconds : List ℕ} {v : ℕ}
           seconds-gain = l .seconds-gain;
         }
 
-    children-laid : nodeCount t ≤ v → (u : ℕ) → 1 ≤ u → u ≤ nodeCount t → ChildrenLaid t g (chosenIn marks seconds) u
+    children-laid : nodeCount t ≤ v → (u : ℕ) → 1 ≤ u → u ≤ nodeCount t
+        → ChildrenLaid t (λ w kids c. choicesOf g (limitOf t) w kids (c .second)) (chosenIn marks seconds) u
     unfolding choicesOf
     children-laid full u low high =
         let K : ℕ = limitOf t in
@@ -116,7 +119,7 @@ module _ {t rests gains prevs lasts xs marks seconds : List ℕ} {v : ℕ}
         let rest : entryAt K ks w .rest ≡ getD rests u 0 =
         sym (ap (λ k. k .rest) (p .figures u (omega arith) high) ∙ figure-rest t g u) in
         record {
-          chosen = reverse (choicesBack t (chosenIn marks seconds) (getD lasts u 0));
+          chosen = reverse (siblingsBack t (chosenIn marks seconds) (getD lasts u 0));
           along = back-along (p .ready .accepted .sound) (chosenIn marks seconds) u low (getD lasts u 0) last-child
               (p .link u (omega arith) high);
           same =
@@ -129,11 +132,10 @@ module _ {t rests gains prevs lasts xs marks seconds : List ℕ} {v : ℕ}
     pub laying-end : nodeCount t ≤ v → marks ≡ layMarks g (limitOf t) (treeOf t) rootChoice
     laying-end full =
         sym
-        (marks-laid t g (chosenIn marks seconds) marks (l .long) (λ u h. ap (λ i. getD marks i 0) (omega arith))
-        (children-laid full)
-        (p .ready .accepted .sound)
-        (l .root)
-        (p .ready .accepted .sound .root-alone))
+        (ap (λ c. layMarks g (limitOf t) (treeOf t) (c ∷ [])) (sym (l .root))
+        ∙ marks-laid t (λ (c : Choice). c .mark) (λ w kids c. choicesOf g (limitOf t) w kids (c .second))
+        (chosenIn marks seconds) marks (l .long) (λ u h. ap (λ i. getD marks i 0) (omega arith)) (children-laid full)
+        (p .ready .accepted .sound))
 
   module _ {marks′ seconds′ : List ℕ} (node : NodeReady t (v + 1) rests gains prevs lasts xs marks seconds)
       (last-children : (w : ℕ) → 1 ≤ w → w ≤ nodeCount t → ChildOrNone t w (getD lasts w 0))
@@ -161,7 +163,7 @@ module _ {t rests gains prevs lasts xs marks seconds : List ℕ} {v : ℕ}
           }
         where
           go : (w : ℕ) → 1 ≤ w → w ≤ v + 1 → (b : Bool) → eqb w (v + 1) ≡ b
-              → choicesBack t (chosenIn marks′ seconds′) (getD lasts w 0)
+              → siblingsBack t (chosenIn marks′ seconds′) (getD lasts w 0)
               ≡ entryAt (limitOf t) (childrenIn rests gains prevs (getD lasts w 0))
               (startOf (limitOf t) (weightAt t w) (getD rests w 0) (chosenIn marks′ seconds′ w .second)) .choices
           go w low h true e =
@@ -169,7 +171,7 @@ module _ {t rests gains prevs lasts xs marks seconds : List ℕ} {v : ℕ}
               rw (start-same w low h, q) (d .chosen)
           go w low h false e =
               let n : w ≡ v + 1 → ⊥ = eqb-false w (v + 1) e in
-              choices-back-same t (chosenIn marks′ seconds′) (chosenIn marks seconds) w
+              siblings-back-same t (chosenIn marks′ seconds′) (chosenIn marks seconds) w
               (λ x one f. d .others x one (λ y. n (sym f ∙ y)))
               (getD lasts w 0) (last-children w low (omega (arith, node .high)))
               ∙ l .done w low (omega arith)

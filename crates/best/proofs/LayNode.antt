@@ -14,12 +14,13 @@ use Rattle.model.specs.Basics.{pick}
 use Rattle.model.specs.Table.{maxNodes, maxLimit, slots, nodeCount, limitOf, weightAt}
 use Rattle.model.specs.Plan.{parentAt}
 use Rattle.model.specs.Steps.{Child, Choice, entryAt, secondStart}
+use Rattle.theory.specs.SiblingsBack.{ChildOrNone, child-high, SiblingsBefore}
+use Rattle.theory.specs.LaidByNumber.{siblingsBack, siblings-back-none, siblings-back-cons}
 use Rattle.best.specs.Cells.{lastChildren, rebuilt, LengthFits, Agrees, stayChoice, cellAt, cell-entry}
 use Rattle.best.specs.CellsArrays.{childIn, childrenIn, children-none, children-cons, children-length}
 use Rattle.best.specs.CellsArrays.{children-good}
 use Rattle.best.specs.CellsRun.{nthPrev, nthPrev-shift, nthPrev-le, blockAt, block-apart}
-use Rattle.best.specs.CellsNode.{ChildOrNone, child-high, child-nthPrev, SiblingsBefore}
-use Rattle.best.specs.LayMarks.{choicesBack, choices-back-none, choices-back-cons}
+use Rattle.best.specs.CellsNode.{child-nthPrev}
 use Rattle.best.specs.LayChosen.{chosenIn, choicesFor, LaidRun}
 use Rattle.best.specs.LayContracts.{runChoicesBack, SecondsGain, RunReady, RunDone, startOf, NodeReady, NodeDone}
 use Rattle.best.proofs.LayRuns.{children-nthPrev, children-nodes, nthPrev-add, AllNodes, laid-none, laid-one}
@@ -57,9 +58,9 @@ no-choices K s = refl
 
 choices-all : (t prevs : List ℕ) (ch : ℕ → Choice) (v : ℕ) → SiblingsBefore t prevs → getD prevs 0 0 ≡ 0 → (n u : ℕ)
     → ChildOrNone t v u → nthPrev prevs n u ≡ 0
-    → AllNodes prevs n u → choicesFor prevs ch n u ≡ choicesBack t ch u
+    → AllNodes prevs n u → choicesFor prevs ch n u ≡ siblingsBack t ch u
 unfolding choicesFor nthPrev
-choices-all t prevs ch v before none zero u k e are-nodes = sym (ap (choicesBack t ch) e ∙ choices-back-none t ch)
+choices-all t prevs ch v before none zero u k e are-nodes = sym (ap (siblingsBack t ch) e ∙ siblings-back-none t ch)
 choices-all t prevs ch v before none (suc n) u (inl z) e are-nodes = absurd (omega (arith, are-nodes 0 (omega arith)))
 choices-all t prevs ch v before none (suc n) u (inr q) e are-nodes =
     ap (λ cs. ch u ∷ cs)
@@ -67,8 +68,8 @@ choices-all t prevs ch v before none (suc n) u (inr q) e are-nodes =
     (child-nthPrev t prevs before none v 1 u (inr q))
     (sym (nthPrev-shift prevs n u) ∙ e)
     (λ j l. rw (nthPrev-shift prevs j u) at (are-nodes (suc j) (omega arith))))
-    ∙ ap (λ w. ch u ∷ choicesBack t ch w) (before u (q .0) (q .1))
-    ∙ sym (choices-back-cons t ch u (q .0))
+    ∙ ap (λ w. ch u ∷ siblingsBack t ch w) (before u (q .0) (q .1))
+    ∙ sym (siblings-back-cons t ch u (q .0))
 
 -- ---- One child or one run a turn
 
@@ -318,7 +319,7 @@ module _ {t : List ℕ} {v : ℕ} {rests gains prevs lasts xs marks seconds : Li
         (ap children z ∙ children-none rests gains prevs (node .ready .earlier))
         ∙ no-choices limit start in
         let all : choicesFor prevs (chosenIn marks′ seconds′) (w .walked) last
-        ≡ choicesBack t (chosenIn marks′ seconds′) last =
+        ≡ siblingsBack t (chosenIn marks′ seconds′) last =
         choices-all t prevs (chosenIn marks′ seconds′) v (node .ready .before) (node .ready .none) (w .walked) last
         (node .last-child) (sym (w .at) ∙ z)
         (λ j l. children-nodes rests gains prevs (node .ready .earlier) j last (omega (arith, w .within))) in

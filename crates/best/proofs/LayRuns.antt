@@ -11,7 +11,8 @@ use lib.Seq.{getD-set-same, getD-set-other}
 use lib.Dec.{eqb}
 use borrow.Author.Tests.{eqb-true, eqb-false}
 use Rattle.model.specs.Steps.{Choice}
-use Rattle.best.specs.CellsArrays.{childrenIn, Earlier, children-none, children-cons}
+use Rattle.theory.specs.SiblingsBack.{Earlier}
+use Rattle.best.specs.CellsArrays.{childrenIn, children-none, children-cons}
 use Rattle.best.specs.CellsRun.{nthPrev, nthPrev-shift}
 use Rattle.best.specs.LayChosen.{chosenIn, choicesFor, choices-for-same, choices-for-more, LaidRun}
 use Rattle.best.specs.LayContracts.{SecondsGain}

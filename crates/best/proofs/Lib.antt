@@ -2,7 +2,6 @@
 pub mod ColumnSweeps
 pub mod ColumnRuns
 -- The columns and figures of nodes
-pub mod NodeLinks
 pub mod NodeColumns
 pub mod NodeGains
 pub mod NodeStart

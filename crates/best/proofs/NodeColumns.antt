@@ -14,11 +14,12 @@ use Rattle.model.specs.Table.{nodeCount, limitOf, weightAt, firstAt, nextAt}
 use Rattle.model.specs.Plan.{parentAt}
 use Rattle.theory.specs.Ranges.{pick-false}
 use Rattle.theory.specs.TableLinks.{prevAt-less}
+use Rattle.theory.specs.SiblingsBack.{ChildOrNone, afterAt}
 use Rattle.best.specs.Cells.{Cell, cellAt}
 use Rattle.best.specs.CellsArrays.{childrenIn, children-none, cellIn, Swept, Sweeping, sweep-turn}
 use Rattle.best.specs.CellsRun.{nthPrev, nthPrev-shift, nthPrev-le, blockAt, block-apart, Fillable}
-use Rattle.best.specs.CellsNode.{ChildOrNone, NextChild, KidsFrom, kids-first, first-child, next-child}
-use Rattle.best.specs.CellsNode.{kids-step, kids-end, afterAt, ColumnsBack, ColumnsReady}
+use Rattle.best.specs.CellsNode.{NextChild, KidsFrom, kids-first, first-child, next-child}
+use Rattle.best.specs.CellsNode.{kids-step, kids-end, ColumnsBack, ColumnsReady}
 use Rattle.best.specs.CellsNode.{ColumnsFilled}
 
 -- one start more of the column of no child, whose block is the first

@@ -11,9 +11,10 @@ use borrow.Author.Tests.{ltb-true, ltb-false, le-leb, lt-leb}
 use Rattle.model.specs.Basics.{pick}
 use Rattle.model.specs.Table.{slots, nodeCount, limitOf, weightAt}
 use Rattle.model.specs.Steps.{secondStart}
+use Rattle.theory.specs.SiblingsBack.{child-high}
 use Rattle.best.specs.Cells.{pageWord, GoodChild}
 use Rattle.best.specs.CellsRun.{blockAt, block-apart}
-use Rattle.best.specs.CellsNode.{child-high, ColumnsFilled, figureAt, figure-good}
+use Rattle.best.specs.CellsNode.{ColumnsFilled, figureAt, figure-good}
 use Rattle.best.specs.CellsPlan.{NodesPlanned, gainFrom, node-figures, planned-step}
 
 -- there is no second plan

@@ -1,10 +1,10 @@
 -- A node's children as they stand in arrays of rests, gains and siblings before, and the cells of a child as they
 -- stand in a block of words: K + 1 words of cells, then K + 1 lengths of runs.
--- Defines backFrom, listBack (a list from the last back); childIn, childrenIn, Earlier, EachGood; cellIn, Swept,
--- Sweeping. Proves list-cons, list-length, list-same; children-cons, children-length, children-good; and sweep-none,
--- sweep-turn, sweep-end: a sweep over the starts of a block, one store of a cell a turn. Assumes nothing.
+-- Defines childIn, childrenIn, EachGood; cellIn, Swept, Sweeping. Proves children-cons, children-length,
+-- children-good; and sweep-none, sweep-turn, sweep-end: a sweep over the starts of a block, one store of a cell a turn.
+-- Assumes nothing.
 use Prim.Native.Nat.{ℕ, zero, suc, _+_, _*_, _≤_, _<_}
-use mathlib.Core.Path.{_≡_, refl, _∙_, ap, ap₂}
+use mathlib.Core.Path.{_≡_, refl, _∙_, ap₂}
 use mathlib.Core.Bool.{Bool, true, false}
 use mathlib.Core.List.{List, [], _∷_}
 use native.Mathlib.Omega.{arith}
@@ -13,68 +13,8 @@ use lib.Seq.{getD-set-same, getD-set-other}
 use lib.Dec.{eqb}
 use borrow.Author.Tests.{eqb-true, eqb-false}
 use Rattle.model.specs.Steps.{Child}
+use Rattle.theory.specs.SiblingsBack.{backFrom, listBack, list-none, list-cons, list-length, Earlier}
 use Rattle.best.specs.Cells.{Cell, GoodChild, GoodChildren}
-
--- ---- A list from the last back
-
--- what x gives for place u and for those before it by p, the last first; f bounds them, and 0 is none
-unfoldable pub backFrom : {A : Type 0} → ℕ → (ℕ → A) → (ℕ → ℕ) → ℕ → List A
-backFrom zero x p u = []
-backFrom (suc f) x p zero = []
-backFrom (suc f) x p (suc u) = x (suc u) ∷ backFrom f x p (p (suc u))
-
-unfoldable pub listBack : {A : Type 0} → (ℕ → A) → (ℕ → ℕ) → ℕ → List A
-listBack x p u = backFrom u x p u
-
-pub list-none : {A : Type 0} (x : ℕ → A) (p : ℕ → ℕ) → listBack x p 0 ≡ []
-unfolding listBack backFrom
-list-none x p = refl
-
-module _ {A : Type 0} (x : ℕ → A) (p : ℕ → ℕ) (less : (u : ℕ) → 1 ≤ u → p u < u) where
-  back-enough : (f g u : ℕ) → u ≤ f → u ≤ g → backFrom f x p u ≡ backFrom g x p u
-  unfolding backFrom
-  back-enough zero zero u a b = refl
-  back-enough zero (suc g) zero a b = refl
-  back-enough zero (suc g) (suc u) a b = absurd (omega arith)
-  back-enough (suc f) zero zero a b = refl
-  back-enough (suc f) zero (suc u) a b = absurd (omega arith)
-  back-enough (suc f) (suc g) zero a b = refl
-  back-enough (suc f) (suc g) (suc u) a b =
-      let l : p (suc u) < suc u = less (suc u) (omega arith) in
-      ap (λ xs. x (suc u) ∷ xs) (back-enough f g (p (suc u)) (omega arith) (omega arith))
-
-  pub list-cons : (u : ℕ) → 1 ≤ u → listBack x p u ≡ x u ∷ listBack x p (p u)
-  unfolding listBack backFrom
-  list-cons zero a = absurd (omega arith)
-  list-cons (suc u) a =
-      let l : p (suc u) < suc u = less (suc u) (omega arith) in
-      ap (λ xs. x (suc u) ∷ xs) (back-enough u (p (suc u)) (p (suc u)) (omega arith) (omega arith))
-
-  back-length : (f u : ℕ) → length (backFrom f x p u) ≤ u
-  unfolding backFrom
-  back-length zero u = omega arith
-  back-length (suc f) zero = omega arith
-  back-length (suc f) (suc u) = omega (arith, back-length f (p (suc u)), less (suc u) (omega arith))
-
-  pub list-length : (u : ℕ) → length (listBack x p u) ≤ u
-  unfolding listBack
-  list-length u = back-length u u
-
--- it is the same where it is the same at each place
-module _ {A : Type 0} {x y : ℕ → A} {p q : ℕ → ℕ} (In : ℕ → Type 0)
-    (step : (u : ℕ) → 1 ≤ u → In u → (x u ≡ y u) × (p u ≡ q u) × In (q u))
-  where
-    back-same : (f u : ℕ) → In u → backFrom f x p u ≡ backFrom f y q u
-    unfolding backFrom
-    back-same zero u i = refl
-    back-same (suc f) zero i = refl
-    back-same (suc f) (suc u) i =
-        let s = step (suc u) (omega arith) i in
-        ap₂ _∷_ (s .0) (ap (backFrom f x p) (s .1) ∙ back-same f (q (suc u)) (s .2))
-
-    pub list-same : (u : ℕ) → In u → listBack x p u ≡ listBack y q u
-    unfolding listBack
-    list-same u i = back-same u u i
 
 -- ---- Children in arrays
 
@@ -85,10 +25,6 @@ childIn rests gains u = record { rest = getD rests u 0; gain = getD gains u 0 }
 -- the children up to u, the last first
 unfoldable pub childrenIn : List ℕ → List ℕ → List ℕ → ℕ → List Child
 childrenIn rests gains prevs u = listBack (childIn rests gains) (λ v. getD prevs v 0) u
-
--- the sibling before a node comes before it
-abbrev pub Earlier : List ℕ → Type 0
-Earlier prevs = (u : ℕ) → 1 ≤ u → getD prevs u 0 < u
 
 -- each child weighs at most K, and gains no more than it weighs
 abbrev pub EachGood : ℕ → List ℕ → List ℕ → Type 0

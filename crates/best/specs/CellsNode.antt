@@ -1,12 +1,11 @@
 -- The children of a node by number: the figures of each, the children up to one of them, and what is kept of the
 -- columns of a node's children.
--- Defines figureAt, childrenUpTo; ChildOrNone, SiblingsBefore; NextChild, KidsFrom, afterAt; SiblingsLinked,
--- ColumnsReady, ColumnsBack, ColumnsFilled.
+-- Defines figureAt, childrenUpTo; NextChild, KidsFrom; ColumnsReady, ColumnsBack, ColumnsFilled.
 -- Proves childrenUpTo-cons, figure-good, child-nthPrev, children-same (arrays that hold the figures give the
 -- children of the table), first-child, next-child, kids-first, kids-step and kids-end (a walk over the children).
 -- Assumes nothing.
 use Prim.Native.Nat.{ℕ, zero, suc, _+_, _-_, _≤_, _<_}
-use mathlib.Core.Path.{_≡_, refl, sym, _∙_, ap}
+use mathlib.Core.Path.{_≡_, refl, _∙_, ap}
 use mathlib.Core.Bool.{Bool, true, false}
 use mathlib.Core.List.{List, [], _∷_}
 use mathlib.Core.Logic.{_⊎_, inl, inr}
@@ -19,11 +18,12 @@ use Rattle.model.specs.Table.{nodeCount, limitOf, weightAt, firstAt, nextAt}
 use Rattle.model.specs.Plan.{prevAt, parentAt}
 use Rattle.model.specs.Steps.{Child, entryAt, secondStart, gainOf, childOf, childrenFrom, childrenOf, siblingsBy}
 use Rattle.theory.specs.TableFacts.{SoundFacts, AcceptedFacts}
-use Rattle.theory.specs.TableLinks.{prevAt-less, parentAt-later, parentAt-less, first-le, next-le, first-prev}
+use Rattle.theory.specs.TableLinks.{prevAt-less, parentAt-less, first-le, next-le, first-prev}
 use Rattle.theory.specs.TableLinks.{next-prev, first-parent, next-parent}
 use Rattle.theory.specs.TableChain.{chainAt, chain-none, node-at}
+use Rattle.theory.specs.SiblingsBack.{listBack, list-none, list-cons, list-same, Earlier, ChildOrNone, prev-child, SiblingsBefore, afterAt}
 use Rattle.best.specs.Cells.{cellAt, GoodChild, entry-within}
-use Rattle.best.specs.CellsArrays.{listBack, list-none, list-cons, list-same, childIn, childrenIn, Earlier}
+use Rattle.best.specs.CellsArrays.{childIn, childrenIn}
 use Rattle.best.specs.CellsArrays.{EachGood, cellIn}
 use Rattle.best.specs.CellsRun.{nthPrev, blockAt}
 
@@ -68,28 +68,6 @@ figure-good t gains v h =
     }
 
 -- ---- Siblings
-
--- 0, or a child of node v
-abbrev pub ChildOrNone : List ℕ → ℕ → ℕ → Type 0
-ChildOrNone t v u = (u ≡ 0) ⊎ ((1 ≤ u) × (u ≤ nodeCount t) × (parentAt t u ≡ v))
-
-pub prev-child : (t : List ℕ) (v u : ℕ) → 1 ≤ u → u ≤ nodeCount t → parentAt t u ≡ v → ChildOrNone t v (prevAt t u)
-prev-child t v u low high e = go (eqb (prevAt t u) 0) refl
-  where
-    go : (b : Bool) → eqb (prevAt t u) 0 ≡ b → ChildOrNone t v (prevAt t u)
-    go true q = inl (eqb-true (prevAt t u) 0 q)
-    go false q =
-        let d : prevAt t u ≡ 0 → ⊥ = eqb-false (prevAt t u) 0 q in
-        let one : 1 ≤ prevAt t u = omega arith in
-        inr (one, omega (arith, prevAt-less t u low), sym (parentAt-later t u low one) ∙ e)
-
-pub child-high : (t : List ℕ) (v u : ℕ) → ChildOrNone t v u → u ≤ nodeCount t
-child-high t v u (inl e) = omega arith
-child-high t v u (inr q) = q .1
-
--- the sibling before is kept
-abbrev pub SiblingsBefore : List ℕ → List ℕ → Type 0
-SiblingsBefore t prevs = (u : ℕ) → 1 ≤ u → u ≤ nodeCount t → getD prevs u 0 ≡ prevAt t u
 
 pub child-nthPrev : (t prevs : List ℕ) → SiblingsBefore t prevs → getD prevs 0 0 ≡ 0 → (v n u : ℕ) → ChildOrNone t v u
     → ChildOrNone t v (nthPrev prevs n u)
@@ -183,17 +161,7 @@ pub kids-end : (t : List ℕ) (v before : ℕ) → KidsFrom t v 0 before
 unfolding siblingsBy
 kids-end t v before k g = k g ∙ ap (λ x. childrenFrom g (limitOf t) x (childrenUpTo t g before)) (chain-none t)
 
--- the link after the child u of node v, or to its first child where u is 0
-abbrev pub afterAt : List ℕ → ℕ → ℕ → ℕ
-afterAt t v u = pick (eqb u 0) (firstAt t v) (nextAt t u)
-
 -- ---- What is kept
-
--- the sibling before each node is kept, and 0 before none
-pub record SiblingsLinked (t prevs : List ℕ) : Type 0 where
-  pub before : SiblingsBefore t prevs
-  pub earlier : Earlier prevs
-  pub none : getD prevs 0 0 ≡ 0
 
 -- the siblings before each node, children that may be weighed, and the column of no child
 pub record ColumnsReady (t rests gains prevs xs : List ℕ) : Type 0 where

@@ -18,11 +18,12 @@ use Rattle.model.specs.Plan.{parentAt}
 use Rattle.model.specs.Steps.{Child, entryAt, secondStart, gainOf, childOf, childrenOf}
 use Rattle.theory.specs.TableLinks.{parentAt-none}
 use Rattle.theory.specs.TableChain.{chainAt}
+use Rattle.theory.specs.SiblingsBack.{ChildOrNone, child-high, afterAt}
 use Rattle.best.specs.Cells.{pageWord, wordOf, cellAt, GoodChild, GoodChildren, cell-entry}
 use Rattle.best.specs.CellsArrays.{childIn, childrenIn, children-good, children-length, EachGood, cellIn}
 use Rattle.best.specs.CellsRun.{nthPrev, blockAt}
-use Rattle.best.specs.CellsNode.{figureAt, childrenUpTo, figure-good, ChildOrNone, child-high, child-nthPrev}
-use Rattle.best.specs.CellsNode.{children-same, afterAt, ColumnsReady, ColumnsFilled}
+use Rattle.best.specs.CellsNode.{figureAt, childrenUpTo, figure-good, child-nthPrev}
+use Rattle.best.specs.CellsNode.{children-same, ColumnsReady, ColumnsFilled}
 
 -- the figures, last children and columns of the nodes after v
 pub record NodesPlanned (t : List ℕ) (g : Bool) (v : ℕ) (rests gains prevs lasts xs : List ℕ) : Type 0 where

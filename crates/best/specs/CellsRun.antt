@@ -1,7 +1,7 @@
 -- A run as it is stretched to the left, child by child: what is kept of its members, which second plans it takes by
 -- how many members have each gain, and what it makes of a cell.
 -- Defines asMembers, RunSums; choosing, countsOf; joins; nthPrev, blockAt, ColumnWords, wordEnd, Fillable.
--- Proves zeros; sums-none, sums-joins, sums-more; choosing-start, choosing-take, choosing-down, choosing-room (one
+-- Proves sums-none, sums-joins, sums-more; choosing-start, choosing-take, choosing-down, choosing-room (one
 -- choice a turn); run-figures, run-fits, run-over, run-stops; nthPrev-shift, nthPrev-le, block-apart,
 -- cell-word-small.
 -- Assumes nothing.
@@ -24,9 +24,11 @@ use Rattle.theory.specs.Ranges.{pick-true, pick-false}
 use Rattle.theory.specs.Reduce.{EachMember, GainFits, sumOf, leastSum, reduce-least, least-gain}
 use Rattle.theory.specs.ReduceCount.{Sound, asMember-sound, hasGain, countGain, countGain-cons, Counted, Totals}
 use Rattle.theory.specs.ReduceCount.{totalsOf, takeUpTo, takeUpTo-room, byCount, byCount-room, reduce-by-count}
+use Rattle.theory.specs.Lists.{zeros}
+use Rattle.theory.specs.SiblingsBack.{Earlier}
 use Rattle.best.specs.Cells.{Cell, pageWord, lower, tryRun, cellAt, longerRuns, GoodChild, GoodChildren}
 use Rattle.best.specs.Cells.{run-taken, entry-within, cell-entry}
-use Rattle.best.specs.CellsArrays.{Earlier, EachGood, childrenIn}
+use Rattle.best.specs.CellsArrays.{EachGood, childrenIn}
 
 -- ---- What is kept of a run
 
@@ -43,12 +45,6 @@ pub record RunSums (K : ℕ) (run : List Child) (len total gained top : ℕ) (co
   pub largest : largestGain (asMembers run) ≤ top
   pub top-high : top ≤ K
   pub good : GoodChildren K run
-
--- an array of zeros has 0 everywhere
-pub zeros : (n h : ℕ) → getD {A = ℕ} (replicate n 0) h 0 ≡ 0
-zeros zero h = refl
-zeros (suc n) zero = refl
-zeros (suc n) (suc h) = zeros n h
 
 pub sums-none : (K n : ℕ) → RunSums K [] 0 0 0 0 (replicate n 0)
 unfolding restSum gainSum largestGain countGain sumOf GoodChildren

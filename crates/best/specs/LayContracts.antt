@@ -10,11 +10,12 @@ use Rattle.model.specs.Basics.{pick}
 use Rattle.model.specs.Table.{maxNodes, maxLimit, slots, nodeCount, limitOf, weightAt}
 use Rattle.model.specs.Plan.{begins, parentAt}
 use Rattle.model.specs.Steps.{Child, Choice, runOf, runChoices, entryAt, secondStart}
+use Rattle.theory.specs.SiblingsBack.{Earlier, ChildOrNone}
+use Rattle.theory.specs.LaidByNumber.{siblingsBack}
 use Rattle.best.specs.Cells.{lastChildren}
-use Rattle.best.specs.CellsArrays.{childrenIn, Earlier, EachGood}
+use Rattle.best.specs.CellsArrays.{childrenIn, EachGood}
 use Rattle.best.specs.CellsRun.{nthPrev}
-use Rattle.best.specs.CellsNode.{ChildOrNone, ColumnsReady, ColumnsBack}
-use Rattle.best.specs.LayMarks.{choicesBack}
+use Rattle.best.specs.CellsNode.{ColumnsReady, ColumnsBack}
 use Rattle.best.specs.LayChosen.{chosenIn, LaidRun}
 
 -- ---- A run
@@ -76,7 +77,7 @@ pub record NodeDone (t : List ℕ) (v : ℕ) (rests gains prevs lasts marks seco
   pub long : length marks′ ≡ length marks
   pub wide : length seconds′ ≡ slots
   pub seconds-gain : SecondsGain gains seconds′
-  pub chosen : choicesBack t (chosenIn marks′ seconds′) (getD lasts v 0)
+  pub chosen : siblingsBack t (chosenIn marks′ seconds′) (getD lasts v 0)
       ≡ entryAt (limitOf t) (childrenIn rests gains prevs (getD lasts v 0))
       (startOf (limitOf t) (weightAt t v) (getD rests v 0) (eqb (getD seconds v 0) 1)) .choices
   pub others : (u : ℕ) → 1 ≤ u → (parentAt t u ≡ v → ⊥) → chosenIn marks′ seconds′ u ≡ chosenIn marks seconds u

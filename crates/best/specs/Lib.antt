@@ -11,5 +11,4 @@ pub mod CellsPlan
 -- Marks laid from the cells: of a run, of a node's children, of all nodes; and what the contracts of lay cite
 pub mod LayChoices
 pub mod LayChosen
-pub mod LayMarks
 pub mod LayContracts

@@ -6,10 +6,10 @@ mod node;
 mod run;
 
 use lay::lay_nodes;
-use node::link_before;
 use node::open_block;
 use node::plan_nodes;
 use table::SLOTS;
+use table::links::link_before;
 use table::words::limit_of;
 ghost use mathlib.Core.Path.{_≡_};
 ghost use Prim.Native.Nat.{_≤_};

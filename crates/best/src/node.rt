@@ -14,28 +14,10 @@ ghost use Prim.Native.Nat.{_+_, _-_, _*_, _%_, _≤_};
 ghost use lib.ListN.{length, getD};
 ghost use Rattle.model.specs.Table.{maxLimit, slots, nodeCount};
 ghost use Rattle.model.specs.Steps.{secondStart};
-ghost use Rattle.theory.specs.TableFacts.{AcceptedFacts};
 ghost use Rattle.best.specs.Cells.{pageWord, cellAt};
 ghost use Rattle.best.specs.CellsArrays.{Swept};
-ghost use Rattle.best.specs.CellsNode.{SiblingsLinked, ColumnsReady, ColumnsFilled};
+ghost use Rattle.best.specs.CellsNode.{ColumnsReady, ColumnsFilled};
 ghost use Rattle.best.specs.CellsPlan.{NodesPlanned, gainFrom};
-
-// The sibling before each node, or 0.
-pub fn link_before(table: &[u8]) -> [u16; SLOTS]
-    requires { ⌜ AcceptedFacts (now table) ⌝ }
-    ensures { λ r. ⌜ SiblingsLinked (now (table .entry)) r ⌝ }
-{
-    let nodes = node_count(table);
-    let mut prevs = [0u16; SLOTS];
-    let mut v: u16 = 0;
-    while v < nodes {
-        v += 1;
-        prevs[next_at(table, v) as usize] = v;
-    }
-    // the last of each chain has no sibling after it
-    prevs[0] = 0;
-    prevs
-}
 
 // The column of no child: nothing is counted, and the rest is the start.
 pub fn open_block(words: &mut [u32], limit: usize)

@@ -1,5 +1,6 @@
 // The tree reader: words, the walk of the chains, and the refusals 1 to 7 and 14. Words are also put, for whoever
-// writes a table.
+// writes a table, and siblings linked back, for whoever goes through them from the last.
+pub mod links;
 pub mod put;
 mod walk;
 pub mod words;

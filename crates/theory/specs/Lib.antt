@@ -17,6 +17,8 @@ pub mod TableLinks
 pub mod TableChain
 pub mod SiblingChains
 pub mod SiblingsByParent
+pub mod SiblingsBack
+pub mod LaidByNumber
 pub mod TableEncoded
 pub mod Put
 -- Plans: pages by number, the judge's answer, plans by shape, and that both say the same

@@ -1,6 +1,6 @@
 -- Tests and counts over lists, and over the list of what is made of each of 1 to n that passes a test: which elements
 -- it has, and what is counted in it; and what stands in a list of numbers after a store. Defines Mem, From. Proves
--- every-all, all-every, countOf-one, chosen-from, chosen-mem, countOf-chosen; getD-set. Assumes nothing.
+-- every-all, all-every, countOf-one, chosen-from, chosen-mem, countOf-chosen; getD-set, zeros. Assumes nothing.
 use Prim.Native.Nat.{ℕ, zero, suc, _+_, _≤_, _<_}
 use native.Mathlib.Omega.{arith}
 use mathlib.Core.Bool.{Bool, true, false, _&&_, true≢false}
@@ -8,7 +8,7 @@ use mathlib.Core.Path.{_≡_, refl, sym, _∙_, ap}
 use mathlib.Core.Logic.{_⊎_, inl, inr, ⊎-elim}
 use mathlib.Core.List.{List, [], _∷_, _++_, List·Memᴰ, List·Memᴰ·head, List·Memᴰ·tail, List·Memᴰ·not-nil}
 use mathlib.Core.List.{List·Memᴰ·append-cases, List·Memᴰ·eq-of-singleton, Memᴰ·append-left, Memᴰ·append-right}
-use lib.ListN.{length, getD, set}
+use lib.ListN.{length, getD, set, replicate}
 use lib.Seq.{getD-set-same, getD-set-other}
 use lib.Dec.{eqb}
 use borrow.Author.Tests.{eqb-true, eqb-false}
@@ -179,3 +179,9 @@ getD-set l q x w y here there = go (eqb w q) refl
         let same : w ≡ q = eqb-true w q e in
         ap (λ (k : ℕ). getD (set l q x) k 0) same ∙ getD-set-same l q x 0 (here same .0) ∙ here same .1
     go false e = let other = eqb-false w q e in getD-set-other l q w x 0 other ∙ there other
+
+-- an array of zeros has 0 everywhere
+pub zeros : (n h : ℕ) → getD {A = ℕ} (replicate n 0) h 0 ≡ 0
+zeros zero h = refl
+zeros (suc n) zero = refl
+zeros (suc n) (suc h) = zeros n h

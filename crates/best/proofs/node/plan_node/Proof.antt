@@ -1,9 +1,9 @@
 -- `best::node::plan_node` meets its contract. Assumes nothing.
+use Rattle.theory.specs.SiblingsBack.{child-high}
 use Prim.Native.Nat.{_+_, _*_, _≤_}
 use mathlib.Core.Path.{refl}
 use native.Mathlib.Omega.{arith}
 use lib.ListN.{length, length-set}
-use Rattle.best.specs.CellsNode.{child-high}
 use Rattle.best.proofs.NodeGains.{block-fits, rest-fits, gain-fits, node-planned}
 use borrow.Author.Needs.{needs}
 use Rattle.best.proofs.node.plan_node.Statement.{statement}

@@ -1,10 +1,10 @@
--- `best::node::link_before` meets its contract. Assumes nothing.
+-- `table::links::link_before` meets its contract. Assumes nothing.
 use Prim.Native.Nat.{_+_, _-_, _≤_}
 use native.Mathlib.Omega.{arith}
-use Rattle.best.proofs.NodeLinks.{Linking, linking-start, link-fits, linking-turn, linking-end}
+use Rattle.table.proofs.Linking.{Linking, linking-start, link-fits, linking-turn, linking-end}
 use borrow.Author.Needs.{needs}
-use Rattle.best.proofs.node.link_before.Statement.{statement}
-use Rattle.best.proofs.node.link_before.Tie as tie
+use Rattle.table.proofs.links.link_before.Statement.{statement}
+use Rattle.table.proofs.links.link_before.Tie as tie
 
 abbrev Inv-loop : tie.InvT-loop
 Inv-loop table nodes prevs₀ v₀ prevs v = (v ≤ nodes) × Linking table v prevs

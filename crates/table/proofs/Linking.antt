@@ -13,9 +13,8 @@ use Rattle.model.specs.Table.{slots, nodeCount, nextAt}
 use Rattle.model.specs.Plan.{prevAt}
 use Rattle.theory.specs.TableFacts.{AcceptedFacts}
 use Rattle.theory.specs.TableLinks.{prevAt-less, prevAt-next, next-prev, next-later, next-le}
-use Rattle.best.specs.CellsArrays.{Earlier}
-use Rattle.best.specs.CellsNode.{SiblingsLinked}
-use Rattle.best.specs.CellsRun.{zeros}
+use Rattle.theory.specs.Lists.{zeros}
+use Rattle.theory.specs.SiblingsBack.{Earlier, SiblingsLinked}
 
 -- the links from the nodes 1 to v are kept
 pub record Linking (t : List ℕ) (v : ℕ) (prevs : List ℕ) : Type 0 where
