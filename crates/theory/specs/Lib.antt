@@ -48,6 +48,8 @@ pub mod Reduce
 pub mod ReduceCount
 pub mod SingleShape
 pub mod PairShape
+-- Rightmost
+pub mod RightmostShape
 -- Best and level: the optimality of best
 pub mod BestGreedy
 pub mod BestLevel
