@@ -1,6 +1,6 @@
 -- Demand 3: the best plan is the lowest there is.
--- Proves best-judged, level-judged, single-judged, pair-judged (each planner's plan of an accepted tree is feasible)
--- and best-lowest. Assumes nothing.
+-- Proves best-judged, level-judged, single-judged, pair-judged, rightmost-judged (the plan of each of these planners is
+-- feasible for an accepted tree), best-least-plan and best-lowest. Assumes nothing.
 use Prim.Native.Nat.{ℕ, _≤_}
 use mathlib.Core.Path.{_≡_, _∙_}
 use mathlib.Core.Bool.{true, false}
@@ -10,7 +10,7 @@ use lib.ListN.{length, getD}
 use Rattle.model.specs.Table.{Chain, end, node, limitOf, treeOf, weightAt, labelAt}
 use Rattle.model.specs.Plan.{markAt, pageCount, pageWeight}
 use Rattle.model.specs.Runs.{runsOf}
-use Rattle.model.specs.Steps.{bestMarks, levelMarks, singleMarks, pairMarks}
+use Rattle.model.specs.Steps.{bestMarks, levelMarks, singleMarks, pairMarks, rightmostMarks}
 use Rattle.model.specs.Demand.{Lowest}
 use Rattle.theory.specs.TableFacts.{AcceptedFacts}
 use Rattle.theory.specs.TableNumbered.{Rooted, sound-root, tree-within, tree-positive}
@@ -20,6 +20,7 @@ use Rattle.theory.specs.PlanFeasible.{Judged, ShapePlan, judged-bridge, 
 use Rattle.theory.specs.PlanBridge.{count-bridge, weight-bridge}
 use Rattle.theory.specs.SingleShape.{single-feasible}
 use Rattle.theory.specs.PairShape.{pair-feasible}
+use Rattle.theory.specs.RightmostShape.{rightmost-feasible}
 use Rattle.theory.specs.BestShape.{NoBetterThanBest, best-feasible, level-feasible, best-least}
 use Rattle.theory.specs.RunsHeld.{PlanRuns, plan-runs, RunsPlan, runs-plan}
 
@@ -61,6 +62,9 @@ module _ {t : List ℕ} (a : AcceptedFacts t) where
   pub pair-judged : Judged t (pairMarks K (treeOf t))
   pair-judged = plan-judged pairMarks (λ w l kids e. (_, pair-feasible K w l kids e))
 
+  pub rightmost-judged : Judged t (rightmostMarks K (treeOf t))
+  rightmost-judged = plan-judged rightmostMarks (λ w l kids e. (_, rightmost-feasible K w l kids e))
+
   -- the figures of a feasible plan are those of its pages by shape
   page-count-is : (m : List ℕ) → Judged t m → pageCount t m ≡ length (weighed (treeOf t) m .pages)
   page-count-is m j = count-bridge (a .sound) m (j .long) (judged-bridge a m (j .long) .0 j .allows)
@@ -79,7 +83,7 @@ module _ {t : List ℕ} (a : AcceptedFacts t) where
   bestPlan = bestMarks K (treeOf t)
 
   -- no feasible plan has fewer pages than best's, nor as many and a lighter root page
-  best-least-plan : (m : List ℕ) → Judged t m
+  pub best-least-plan : (m : List ℕ) → Judged t m
       → (pageCount t bestPlan ≤ pageCount t m)
       × (pageCount t m ≡ pageCount t bestPlan → pageWeight t bestPlan 1 ≤ pageWeight t m 1)
   best-least-plan m j =

@@ -1,8 +1,9 @@
 -- What the planners' entries promise beside their equations, from the answer and what is left: each accepts, with a
--- feasible plan (plan-promise, best-plan), and the best planner's plan is the lowest there is (best-promise).
+-- feasible plan (plan-promise, best-plan), the best planner's plan is the lowest there is (best-promise), and so not
+-- above any feasible plan (best-not-above), a quick planner's among them (quick-promise).
 -- Proves lent-passes, passes-lent (right buffers are checks that pass), planned-done, planned-refused (what a planner
 -- leaves), plan-passes (a planner that answers 0 was lent an accepted tree and right buffers). Assumes nothing.
-use Prim.Native.Nat.{ℕ}
+use Prim.Native.Nat.{ℕ, _≤_}
 use mathlib.Core.Path.{_≡_, sym, ap, _∙_}
 use mathlib.Core.Bool.{true, false, not}
 use mathlib.Core.List.{List, [], _∷_}
@@ -19,17 +20,18 @@ use Rattle.model.specs.Refusals.{badMarks, shortScratch, scratchWords, treeChec
 use Rattle.model.specs.Refusals.{acceptedTree}
 use Rattle.model.specs.Refusals.{feasiblePlan, answerOf, accepted, firstOf, readTree, judgePlan, Planned, planned}
 use Rattle.model.specs.Refusals.{planBest}
-use Rattle.model.specs.Demand.{Lowest, PlanLent, PlanPromise, BestPromise}
+use Rattle.model.specs.Demand.{Lowest, PlanLent, PlanPromise, BestPromise, QuickPromise}
 use Rattle.model.specs.declared.Answer.{Answer}
+use Rattle.model.specs.declared.Beside.the-variants.{Given}
 use Rattle.model.specs.declared.Verdict.the-variants.{Feasible}
 use Rattle.theory.specs.Ranges.{pick-true, pick-false, when-false, when-nowhere}
 use Rattle.theory.specs.Bools.{bool-cases}
 use Rattle.theory.specs.Checks.{Pass, pass-all, passes-both, both-pass, firstOf-all, accepted-pass, plan-never}
 use Rattle.theory.specs.Checks.{lent-plain}
 use Rattle.theory.specs.TableFacts.{AcceptedFacts, accepted-facts}
-use Rattle.theory.specs.PlanFeasible.{Judged, judged-feasible, feasible-judge}
+use Rattle.theory.specs.PlanFeasible.{Judged, feasible-judged, judged-feasible, feasible-judge}
 use Rattle.theory.specs.PromiseWeight.{weight-promise, seven-tree}
-use Rattle.theory.specs.BestLowest.{best-judged, best-lowest}
+use Rattle.theory.specs.BestLowest.{best-judged, best-least-plan, best-lowest}
 
 -- ---- What is lent
 
@@ -168,3 +170,38 @@ module _ (t m s : List ℕ) where
   -- where it answers 0 it was lent what it is to be lent
   pub best-lent : planBest t m s .answer .number ≡ 0 → PlanLent t m s
   best-lent z = passes-lent t m s (plan-passes bestMarks t m s z)
+
+-- ---- No feasible plan is below best's
+
+-- the figures of a planner that accepts are those of its plan
+plan-figures : (steps : ℕ → Chain → List ℕ) (t m s : List ℕ)
+    (good : AcceptedFacts t → Judged t (steps (limitOf t) (treeOf t))) (P W : ℕ)
+    → planned steps t m s .answer ≡ answerOf (Feasible P W)
+    → (P ≡ pageCount t (steps (limitOf t) (treeOf t))) × (W ≡ pageWeight t (steps (limitOf t) (treeOf t)) 1)
+    × (feasiblePlan t (steps (limitOf t) (treeOf t)) ≡ true)
+plan-figures steps t m s good P W e =
+    let passed = plan-passes steps t m s (ap (λ (a : Answer). a .number) e) in
+    let made : List ℕ = steps (limitOf t) (treeOf t) in
+    let same : Given (Feasible P W) ≡ Given (Feasible (pageCount t made) (pageWeight t made 1)) =
+    ap (λ (a : Answer). a .beside) (sym e ∙ done-answer steps t m s good passed) in
+    (cc, cc, made-feasible steps t m s good passed)
+
+-- one law for whichever feasible plan
+best-not-above : (t n m s : List ℕ) (bestP bestW : ℕ) → feasiblePlan t n ≡ true
+    → planBest t m s .answer ≡ answerOf (Feasible bestP bestW)
+    → (bestP ≤ pageCount t n) × (bestP ≡ pageCount t n → bestW ≤ pageWeight t n 1)
+best-not-above t n m s bestP bestW f e =
+    let j : Judged t n = feasible-judged t n f in
+    let best = plan-figures bestMarks t m s best-judged bestP bestW e in
+    let least = best-least-plan (j .tree) n j in
+    (omega (arith, best .0, least .0), λ q. omega (arith, best .1, least .1 (sym q ∙ best .0)))
+
+pub quick-promise : (steps : ℕ → Chain → List ℕ) (t m s : List ℕ)
+    → (AcceptedFacts t → Judged t (steps (limitOf t) (treeOf t))) → QuickPromise t (planned steps t m s .answer)
+quick-promise steps t m s good =
+    record {
+      not-below = λ m′ s′ P W bestP bestW e b.
+          let own = plan-figures steps t m s good P W e in
+          let least = best-not-above t (steps (limitOf t) (treeOf t)) m′ s′ bestP bestW (own .2) b in
+          (omega (arith, own .0, least .0), λ q. omega (arith, own .1, least .1 (q ∙ own .0)));
+    }
