@@ -1,0 +1,2 @@
+-- Rightmost: the children of a node, one a turn; the nodes, one a turn
+pub mod RightmostRuns

@@ -1,0 +1,2 @@
+-- What the contracts of the quick planners cite
+pub mod Rightmost

@@ -1,0 +1,2 @@
+// The plans of the two quick planners.
+pub mod rightmost;

@@ -1,0 +1,73 @@
+// The rightmost planner: nodes from the last to the first, each with its children cut in runs, from the last child back,
+// until the node and what stays of them are within the limit.
+use table::SLOTS;
+use table::links::link_before;
+use table::words::first_at;
+use table::words::limit_of;
+use table::words::next_at;
+use table::words::node_count;
+use table::words::weight_at;
+ghost use mathlib.Core.Path.{_≡_};
+ghost use Prim.Native.Nat.{_-_, _≤_};
+ghost use lib.ListN.{length};
+ghost use Rattle.model.specs.Basics.{pick};
+ghost use Rattle.model.specs.Table.{nodeCount, limitOf, treeOf};
+ghost use Rattle.model.specs.Steps.{rightmostMarks};
+ghost use Rattle.theory.specs.SiblingsBack.{SiblingsLinked};
+ghost use Rattle.theory.specs.TableFacts.{AcceptedFacts};
+ghost use Rattle.quick.specs.Rightmost.{runMark, CutReady, CutDone, Settled};
+
+fn choose(test: bool, yes: u32, no: u32) -> u32
+    ensures { λ r. ⌜ r ≡ pick test yes no ⌝ }
+{
+    if test { yes } else { no }
+}
+
+// The mark of a child that is cut or not, and of its run, whether it goes on to the left.
+fn mark_of(cut: bool, goes: bool) -> u8
+    ensures { λ r. ⌜ r ≡ runMark cut goes ⌝ }
+{
+    if !cut {
+        return 0;
+    }
+    if goes { 2 } else { 1 }
+}
+
+// Cuts the children of node v, the last of which is `last` and whose remainders add up to `sum`: the node's own
+// remainder. While the node and the children up to one of them exceed the limit, a run starts there; it takes the child
+// before it while its weight stays within the limit.
+fn cut_runs(
+    table: &[u8],
+    prevs: &[u16; SLOTS],
+    rests: &[u16; SLOTS],
+    marks: &mut [u8],
+    v: u16,
+    last: u16,
+    sum: u32,
+) -> u16
+    requires { ⌜ CutReady (now table) (now prevs) (now rests) (now marks) v last sum ⌝ }
+    ensures { λ r. ⌜ CutDone (now (table .entry)) (now (rests .entry)) v last
+        (now (marks .entry)) (now (marks .exit)) r ⌝ }
+{
+    let limit = limit_of(table) as u32;
+    let weight = weight_at(table, v) as u32;
+    let mut kept = weight;
+    let mut left = weight + sum;
+    let mut run: u32 = 0;
+    let mut taken = false;
+    let mut child = last as usize;
+    while child != 0 {
+        let before = prevs[child] as usize;
+        let rest = rests[child] as u32;
+        let cut = taken | (limit < left);
+        let weighs = choose(taken, run, rest) + (rests[before] as u32);
+        let goes = cut & (before != 0) & (weighs <= limit);
+        marks[child - 1] = mark_of(cut, goes);
+        kept += choose(cut, 0, rest);
+        left -= rest;
+        run = weighs;
+        taken = goes;
+        child = before;
+    }
+    kept as u16
+}
