@@ -172,7 +172,7 @@ module _ {t rests gains prevs lasts xs marks seconds : List ℕ} {v : ℕ}
           go w low h false e =
               let n : w ≡ v + 1 → ⊥ = eqb-false w (v + 1) e in
               siblings-back-same t (chosenIn marks′ seconds′) (chosenIn marks seconds) w
-              (λ x one f. d .others x one (λ y. n (sym f ∙ y)))
+              (λ x one high f. d .others x one (λ y. n (sym f ∙ y)))
               (getD lasts w 0) (last-children w low (omega (arith, node .high)))
               ∙ l .done w low (omega arith)
               ∙ ap (λ s. entryAt (limitOf t) (childrenIn rests gains prevs (getD lasts w 0)) s .choices)

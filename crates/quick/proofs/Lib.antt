@@ -1,2 +1,3 @@
 -- Rightmost: the children of a node, one a turn; the nodes, one a turn
 pub mod RightmostRuns
+pub mod RightmostNodes

@@ -99,11 +99,11 @@ stayed-turn false goes r rs ms = refl
 -- ---- One child a turn
 
 -- a mark stored for node v
-mark-same : (m : List ℕ) (v x : ℕ) → 1 ≤ v → v ≤ length m → markAt (set m (v - 1) x) v ≡ x
+pub mark-same : (m : List ℕ) (v x : ℕ) → 1 ≤ v → v ≤ length m → markAt (set m (v - 1) x) v ≡ x
 unfolding markAt
 mark-same m v x low high = getD-set-same m (v - 1) x 0 (omega arith)
 
-mark-other : (m : List ℕ) (v u x : ℕ) → 1 ≤ v → 1 ≤ u → (u ≡ v → ⊥) → markAt (set m (v - 1) x) u ≡ markAt m u
+pub mark-other : (m : List ℕ) (v u x : ℕ) → 1 ≤ v → 1 ≤ u → (u ≡ v → ⊥) → markAt (set m (v - 1) x) u ≡ markAt m u
 unfolding markAt
 mark-other m v u x low one other = getD-set-other m (v - 1) (u - 1) x 0 (λ e. other (omega arith))
 

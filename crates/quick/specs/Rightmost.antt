@@ -7,7 +7,7 @@ use mathlib.Core.Bool.{Bool}
 use mathlib.Core.List.{List}
 use lib.ListN.{length, getD}
 use Rattle.model.specs.Basics.{pick}
-use Rattle.model.specs.Table.{maxNodes, maxLimit, nodeCount, limitOf, weightAt, firstAt, nextAt}
+use Rattle.model.specs.Table.{maxNodes, maxLimit, slots, nodeCount, limitOf, weightAt, firstAt, nextAt}
 use Rattle.model.specs.Plan.{prevAt, parentAt, stays, begins, continues, markAt}
 use Rattle.model.specs.Steps.{siblingsBy, total, cutRuns, rightRest, rightRests}
 use Rattle.theory.specs.TableFacts.{AcceptedFacts}
@@ -80,7 +80,10 @@ abbrev pub lastKid : List ℕ → List ℕ → ℕ → ℕ
 lastKid t lasts v = getD lasts (firstAt t v) 0
 
 -- the nodes after v have their remainders and tails, and their children's marks
-pub record Settled (t rests sums lasts marks : List ℕ) (v : ℕ) : Type 0 where
+pub record Settled (t prevs rests sums lasts marks : List ℕ) (v : ℕ) : Type 0 where
+  pub tree : AcceptedFacts t
+  pub linked : SiblingsLinked t prevs
+  pub wide : (length rests ≡ slots) × (length sums ≡ slots) × (length lasts ≡ slots)
   pub long : length marks ≡ nodeCount t
   pub light : (u : ℕ) → restIn rests u ≤ limitOf t
   pub no-sum : getD sums 0 0 ≡ 0

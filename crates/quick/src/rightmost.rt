@@ -9,11 +9,11 @@ use table::words::node_count;
 use table::words::weight_at;
 ghost use mathlib.Core.Path.{_≡_};
 ghost use Prim.Native.Nat.{_-_, _≤_};
+ghost use lib.Dec.{eqb};
 ghost use lib.ListN.{length};
 ghost use Rattle.model.specs.Basics.{pick};
 ghost use Rattle.model.specs.Table.{nodeCount, limitOf, treeOf};
 ghost use Rattle.model.specs.Steps.{rightmostMarks};
-ghost use Rattle.theory.specs.SiblingsBack.{SiblingsLinked};
 ghost use Rattle.theory.specs.TableFacts.{AcceptedFacts};
 ghost use Rattle.quick.specs.Rightmost.{runMark, CutReady, CutDone, Settled};
 
@@ -70,4 +70,54 @@ fn cut_runs(
         child = before;
     }
     kept as u16
+}
+
+// The last of node v and the siblings after it: v, or where it has a next sibling the last from there on.
+fn last_of(v: u16, next: u16, after: u16) -> u16
+    ensures { λ r. ⌜ r ≡ pick (eqb next 0) v after ⌝ }
+{
+    if next == 0 { v } else { after }
+}
+
+// Node v has its children cut and keeps its remainder; with the siblings after it, their sum and the last of them.
+fn settle_node(
+    table: &[u8],
+    prevs: &[u16; SLOTS],
+    rests: &mut [u16; SLOTS],
+    sums: &mut [u32; SLOTS],
+    lasts: &mut [u16; SLOTS],
+    marks: &mut [u8],
+    v: u16,
+)
+    requires { ⌜ Settled (now table) (now prevs) (now rests) (now sums) (now lasts) (now marks) v
+        × (1 ≤ v) × (v ≤ nodeCount (now table)) ⌝ }
+    ensures { λ r. ⌜ Settled (now (table .entry)) (now (prevs .entry)) (now (rests .exit)) (now (sums .exit))
+        (now (lasts .exit)) (now (marks .exit)) (v - 1) ⌝ }
+{
+    let first = first_at(table, v) as usize;
+    let next = next_at(table, v);
+    let after = next as usize;
+    let i = v as usize;
+    let rest = cut_runs(table, prevs, rests, marks, v, lasts[first], sums[first]);
+    rests[i] = rest;
+    sums[i] = (rest as u32) + sums[after];
+    lasts[i] = last_of(v, next, lasts[after]);
+}
+
+// The plan of an accepted tree.
+pub fn lay_rightmost(table: &[u8], marks: &mut [u8])
+    requires { ⌜ AcceptedFacts (now table) × (length (now marks) ≡ nodeCount (now table)) ⌝ }
+    ensures { λ r. ⌜ now (marks .exit)
+        ≡ rightmostMarks (limitOf (now (table .entry))) (treeOf (now (table .entry))) ⌝ }
+{
+    let prevs = link_before(table);
+    let mut rests = [0u16; SLOTS];
+    let mut sums = [0u32; SLOTS];
+    let mut lasts = [0u16; SLOTS];
+    let mut v = node_count(table);
+    while v != 0 {
+        settle_node(table, &prevs, &mut rests, &mut sums, &mut lasts, marks, v);
+        v -= 1;
+    }
+    marks[0] = 1;
 }

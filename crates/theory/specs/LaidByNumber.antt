@@ -38,7 +38,8 @@ module _ {A : Type 0} where
   siblings-back-cons t ch = list-cons ch (prevAt t) (prevAt-less t)
 
   -- it is the same where it is the same for each child of node v
-  pub siblings-back-same : (t : List ℕ) (ch ch′ : ℕ → A) (v : ℕ) → ((u : ℕ) → 1 ≤ u → parentAt t u ≡ v → ch u ≡ ch′ u)
+  pub siblings-back-same : (t : List ℕ) (ch ch′ : ℕ → A) (v : ℕ)
+      → ((u : ℕ) → 1 ≤ u → u ≤ nodeCount t → parentAt t u ≡ v → ch u ≡ ch′ u)
       → (u : ℕ) → ChildOrNone t v u → siblingsBack t ch u ≡ siblingsBack t ch′ u
   unfolding siblingsBack
   siblings-back-same t ch ch′ v same = list-same (ChildOrNone t v) step
@@ -46,7 +47,7 @@ module _ {A : Type 0} where
       step : (u : ℕ) → 1 ≤ u → ChildOrNone t v u
           → (ch u ≡ ch′ u) × (prevAt t u ≡ prevAt t u) × ChildOrNone t v (prevAt t u)
       step u low (inl e) = absurd (omega arith)
-      step u low (inr q) = (same u low (q .2), refl, prev-child t v u low (q .1) (q .2))
+      step u low (inr q) = (same u low (q .1) (q .2), refl, prev-child t v u low (q .1) (q .2))
 
 -- what becomes of the nodes from a link on
 pub data Along {A : Type 0} (t : List ℕ) (ch : ℕ → A) : ℕ → List A → Type 0 where
