@@ -19,8 +19,9 @@ pub mod SiblingChains
 pub mod SiblingsByParent
 pub mod TableEncoded
 pub mod Put
--- Plans: pages by number, the judge's answer, plans by shape, and that both say the same
+-- Plans: pages by number, arrays with a slot a node, the judge's answer, plans by shape, and that both say the same
 pub mod PlanPass
+pub mod Slots
 pub mod PlanPages
 pub mod JudgeAnswers
 pub mod PlanMarks
