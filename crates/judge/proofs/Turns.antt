@@ -9,20 +9,20 @@ use native.Mathlib.Omega.{arith}
 use native.Mathlib.Numerals.{add-one}
 use lib.ListN.{length, getD, set, replicate, getD-replicate, length-set}
 use lib.Seq.{getD-set-other}
-use borrow.Author.Tests.{eq-eqb, ne-eqb}
+use borrow.Author.Tests.{ne-eqb}
 use Rattle.model.specs.Basics.{pick, when, atPlace, countTo, firstTo}
 use Rattle.model.specs.Table.{maxNodes, maxLimit, slots, nodeCount, limitOf, weightAt, nextAt}
 use Rattle.model.specs.Plan.{prevAt, parentAt, markAt, hasMark, begins, inRun, goodMark, pageOf}
 use Rattle.model.specs.Plan.{pageCount, pageWeight, badMark, heavyPage}
 use Rattle.model.specs.declared.Place.{Place}
 use Rattle.model.specs.declared.Place.the-variants.{At}
-use Rattle.theory.specs.Ranges.{pick-true, pick-false, countTo-zero, countTo-suc, countTo-le}
+use Rattle.theory.specs.Ranges.{countTo-zero, countTo-suc, countTo-le}
 use Rattle.theory.specs.Ranges.{firstTo-zero, firstTo-suc, firstTo-cong, lastTo-zero}
 use Rattle.theory.specs.Sums.{sumTo-most}
 use Rattle.theory.specs.TableFacts.{AcceptedFacts}
 use Rattle.theory.specs.TableLinks.{next-le, prevAt-less}
 use Rattle.theory.specs.PlanPass.{stepBack, back-less, pageOf-le, pageOf-step}
-use Rattle.theory.specs.PlanPass.{weightTo, weightTo-zero, weightTo-suc}
+use Rattle.theory.specs.PlanPass.{weightTo, weightTo-zero, weightTo-on, weightTo-off}
 use Rattle.theory.specs.Slots.{Row, SlotsHold, slots-start, slots-store, row-add, prevTo, prevs-turn, prior-is}
 use Rattle.theory.specs.Slots.{parent-is, home-is}
 use Rattle.theory.specs.PagesByNumber.{lastOnPage, lastOnPage-zero, lastOnPage-on, lastOnPage-off}
@@ -92,23 +92,10 @@ weights-turn t m l v q w h e fits g =
     here = ap (pageOf t m) (sym (add-one v)) ∙ sym e
 
     on : getD l q 0 + w ≡ weightTo (suc v) t m q
-    on =
-        omega (
-          arith,
-          h .at q fits,
-          g ∙ ap (weightAt t) (add-one v),
-          weightTo-suc v t m q,
-          pick-true (eqb (pageOf t m (suc v)) q) (weightAt t (suc v)) 0 (eq-eqb (pageOf t m (suc v)) q here),
-        )
+    on = omega (arith, h .at q fits, g ∙ ap (weightAt t) (add-one v), weightTo-on v t m q here)
 
     off : (p : ℕ) → (p ≡ q → ⊥) → weightTo v t m p ≡ weightTo (suc v) t m p
-    off p other =
-        omega (
-          arith,
-          weightTo-suc v t m p,
-          pick-false (eqb (pageOf t m (suc v)) p) (weightAt t (suc v)) 0
-              (ne-eqb (pageOf t m (suc v)) p (λ z. other (sym z ∙ here))),
-        )
+    off p other = sym (weightTo-off v t m p (λ z. other (sym z ∙ here)))
 
 module _ {t : List ℕ} (a : AcceptedFacts t) where
   pick-most : (b : Bool) (x k : ℕ) → x ≤ k → pick b x 0 ≤ k

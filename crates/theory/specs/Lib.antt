@@ -47,6 +47,8 @@ pub mod Reduce
 pub mod ReduceCount
 pub mod SingleShape
 pub mod PairShape
+-- Depth-first
+pub mod DepthFirst
 -- Best and level: the optimality of best
 pub mod BestGreedy
 pub mod BestLevel
