@@ -1,7 +1,7 @@
 -- The depth-first planner by node number: one pass over the nodes in their order, which keeps the current page.
 -- Defines pageTo (the current page after the nodes 1 to v). Proves, of the plan of an accepted tree: depth-long (a mark
--- a node), depth-mark (each node's mark by the current page before it), depth-current and depth-home (the current page
--- with the node, and that the node is on it), depth-within (no page outgrows the limit on the way) and
+-- a node), depth-mark (each node's mark by the current page before it), depth-begins, depth-joins and depth-home (the
+-- current page with the node, and that the node is on it), depth-within (no page outgrows the limit on the way) and
 -- depth-first-judged (the plan is feasible). Assumes nothing.
 use Prim.Native.Nat.{ℕ, zero, suc, _+_, _-_, _≤_, _<_}
 use native.Mathlib.Omega.{arith}
@@ -87,6 +87,19 @@ joined-within : {K w up back k : ℕ} {p q : Page} → Joining K w up back p k q
 joined-within (byParent same low fits) light = fits
 joined-within (bySibling other same low fits) light = fits
 joined-within alone light = light
+
+-- where the node begins a page, that is the current page, and else it has the node's weight besides
+joined-begins : {K w up back k : ℕ} {p q : Page} → Joining K w up back p k q → k ≡ 1
+    → q ≡ record { number = suc (p .number); weight = w }
+joined-begins (byParent same low fits) e = absurd (omega arith)
+joined-begins (bySibling other same low fits) e = absurd (omega arith)
+joined-begins alone e = refl
+
+joined-stays : {K w up back k : ℕ} {p q : Page} → Joining K w up back p k q → (k ≡ 1 → ⊥)
+    → q ≡ record { number = p .number; weight = p .weight + w }
+joined-stays (byParent same low fits) other = refl
+joined-stays (bySibling apart same low fits) other = refl
+joined-stays alone other = absurd (other refl)
 
 -- ---- The current page after the nodes 1 to v
 
@@ -331,17 +344,26 @@ module _ {t : List ℕ} (a : AcceptedFacts t) where
     step : PageStep t plan v (pageWith (limitOf t) w up back (pageTo t plan v))
     step = page-step t plan v joining refl
 
-    pub depth-current : pageTo t plan (suc v) ≡ pageWith (limitOf t) w up back (pageTo t plan v)
-    depth-current = step .current
+    current-is : pageTo t plan (suc v) ≡ pageWith (limitOf t) w up back (pageTo t plan v)
+    current-is = step .current
+
+    pub depth-begins : markAt plan (suc v) ≡ 1
+        → pageTo t plan (suc v) ≡ record { number = suc (pageTo t plan v .number); weight = w }
+    depth-begins e = current-is ∙ joined-begins joining e
+
+    pub depth-joins : (markAt plan (suc v) ≡ 1 → ⊥)
+        → pageTo t plan (suc v)
+        ≡ record { number = pageTo t plan v .number; weight = pageTo t plan v .weight + w }
+    depth-joins other = current-is ∙ joined-stays joining other
 
     pub depth-home : pageOf t plan (suc v) ≡ pageTo t plan (suc v) .number
-    depth-home = step .home ∙ sym (ap (λ (p : Page). p .number) depth-current)
+    depth-home = step .home ∙ sym (ap (λ (p : Page). p .number) current-is)
 
     current-within : pageTo t plan (suc v) .weight ≤ limitOf t
     current-within =
         omega (
           arith,
-          ap (λ (p : Page). p .weight) depth-current,
+          ap (λ (p : Page). p .weight) current-is,
           joined-within joining (a .light (suc v) (omega arith) (omega arith)),
         )
 

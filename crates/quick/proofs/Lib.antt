@@ -1,0 +1,2 @@
+-- Depth-first: the turn of a node
+pub mod DepthTurns
