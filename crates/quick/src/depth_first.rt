@@ -43,7 +43,7 @@ fn page_mark(limit: u16, weight: u16, up: u16, back: u16, number: u16, sum: u16)
     if up == number { 0 } else { 2 }
 }
 
-// The marks of an accepted tree.
+// The marks of an accepted tree. There is no page at first, and no parent and sibling of the root: these are 0.
 pub fn lay_depth_first(table: &[u8], marks: &mut [u8])
     requires { ⌜ AcceptedFacts (now table) × (length (now marks) ≡ nodeCount (now table)) ⌝ }
     ensures { λ r. ⌜ now (marks .exit)
@@ -51,9 +51,11 @@ pub fn lay_depth_first(table: &[u8], marks: &mut [u8])
 {
     let nodes = node_count(table);
     let limit = limit_of(table);
+    // by node: the sibling before it, its parent, its page
     let mut before = [0u16; SLOTS];
     let mut parents = [0u16; SLOTS];
     let mut pages = [0u16; SLOTS];
+    // the current page, and its weight
     let mut number: u16 = 0;
     let mut sum: u16 = 0;
     let mut v: u16 = 0;

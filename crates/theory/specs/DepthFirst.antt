@@ -95,11 +95,11 @@ joined-begins (byParent same low fits) e = absurd (omega arith)
 joined-begins (bySibling other same low fits) e = absurd (omega arith)
 joined-begins alone e = refl
 
-joined-stays : {K w up back k : ℕ} {p q : Page} → Joining K w up back p k q → (k ≡ 1 → ⊥)
+joined-on : {K w up back k : ℕ} {p q : Page} → Joining K w up back p k q → (k ≡ 1 → ⊥)
     → q ≡ record { number = p .number; weight = p .weight + w }
-joined-stays (byParent same low fits) other = refl
-joined-stays (bySibling apart same low fits) other = refl
-joined-stays alone other = absurd (other refl)
+joined-on (byParent same low fits) other = refl
+joined-on (bySibling apart same low fits) other = refl
+joined-on alone other = absurd (other refl)
 
 -- ---- The current page after the nodes 1 to v
 
@@ -354,7 +354,7 @@ module _ {t : List ℕ} (a : AcceptedFacts t) where
     pub depth-joins : (markAt plan (suc v) ≡ 1 → ⊥)
         → pageTo t plan (suc v)
         ≡ record { number = pageTo t plan v .number; weight = pageTo t plan v .weight + w }
-    depth-joins other = current-is ∙ joined-stays joining other
+    depth-joins other = current-is ∙ joined-on joining other
 
     pub depth-home : pageOf t plan (suc v) ≡ pageTo t plan (suc v) .number
     depth-home = step .home ∙ sym (ap (λ (p : Page). p .number) current-is)
