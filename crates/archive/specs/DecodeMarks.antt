@@ -21,13 +21,13 @@ use Rattle.theory.specs.Ranges.{Upto, pick-true, pick-false, order-cases}
 use Rattle.theory.specs.Lists.{getD-set}
 use Rattle.theory.specs.TableFacts.{SoundFacts}
 use Rattle.theory.specs.TableLinks.{prevAt-less, prevAt-next, next-prev}
+use Rattle.theory.specs.Slots.{Row}
 use Rattle.theory.specs.Chosen.{ranked-one, countTo-mono, countTo-pass}
 use Rattle.theory.specs.RunsByMarks.{good-marks, runLast-on, runLast-stop, runLast-low}
 use Rattle.theory.specs.PlanFeasible.{Judged}
 use Rattle.theory.specs.PagesByNumber.{Page, page-first}
 use Rattle.theory.specs.ArchiveWords.{Described}
 use Rattle.theory.specs.JudgeAnswers.{pageCount-le}
-use Rattle.judge.specs.Rows.{Row}
 use Rattle.archive.specs.DecodeTable.{WrittenBy, by-pages, by-begin, by-end, fitted, fitted-same, fitted-le}
 
 -- the last of the run that node u is in, or 0 where it is in none

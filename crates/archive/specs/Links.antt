@@ -15,8 +15,8 @@ use Rattle.theory.specs.Ranges.{Upto, atPlace-at, atPlace-nowhere, firstTo-none
 use Rattle.theory.specs.Ranges.{firstTo-cong, order-cases}
 use Rattle.model.specs.Table.{slots}
 use Rattle.theory.specs.Lists.{getD-set}
+use Rattle.theory.specs.Slots.{Row}
 use Rattle.theory.specs.ArchiveBack.{found-small}
-use Rattle.judge.specs.Rows.{Row}
 use Rattle.model.specs.declared.Place.{Place}
 
 -- the next of v + 1 to n that f gives the key k, or 0

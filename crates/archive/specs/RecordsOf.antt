@@ -16,10 +16,10 @@ use Rattle.model.specs.declared.Edition.{Edition}
 use Rattle.theory.specs.Ranges.{listTo-cong}
 use Rattle.theory.specs.TableFacts.{AcceptedFacts}
 use Rattle.theory.specs.PlanPass.{pageOf-le}
+use Rattle.theory.specs.Slots.{Row}
 use Rattle.theory.specs.Put.{putWord, length-putWord, Starts, starts-none, starts-word, starts-all, RecordsPut}
 use Rattle.theory.specs.Put.{length-recordsTo}
 use Rattle.theory.specs.ArchiveWords.{Described, length-nodeRecord}
-use Rattle.judge.specs.Rows.{Row}
 use Rattle.archive.specs.Links.{nextWith, Linked, Fit, nextWith-cong}
 
 -- ---- The head

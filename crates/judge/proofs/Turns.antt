@@ -1,5 +1,5 @@
 -- One turn of the judge's pass, for node v + 1 after the nodes 1 to v, and what the pass has at its end.
--- Defines SlotsHold, LayoutTo. Assumes nothing.
+-- Defines LayoutTo. Assumes nothing.
 use mathlib.Core.Path.{_≡_, refl, sym, ap, ap₂, _∙_}
 use mathlib.Core.Bool.{Bool, true, false, not, _&&_, _||_}
 use mathlib.Core.List.{List}
@@ -9,92 +9,27 @@ use native.Mathlib.Omega.{arith}
 use native.Mathlib.Numerals.{add-one}
 use lib.ListN.{length, getD, set, replicate, getD-replicate, length-set}
 use lib.Seq.{getD-set-other}
-use borrow.Author.Tests.{eqb-false, eq-eqb, ne-eqb}
-use Rattle.model.specs.Basics.{pick, when, atPlace, countTo, firstTo, lastTo}
+use borrow.Author.Tests.{ne-eqb}
+use Rattle.model.specs.Basics.{pick, when, atPlace, countTo, firstTo}
 use Rattle.model.specs.Table.{maxNodes, maxLimit, slots, nodeCount, limitOf, weightAt, nextAt}
 use Rattle.model.specs.Plan.{prevAt, parentAt, markAt, hasMark, begins, inRun, goodMark, pageOf}
 use Rattle.model.specs.Plan.{pageCount, pageWeight, badMark, heavyPage}
 use Rattle.model.specs.declared.Place.{Place}
 use Rattle.model.specs.declared.Place.the-variants.{At}
-use Rattle.theory.specs.Ranges.{pick-true, pick-false, countTo-zero, countTo-suc, countTo-le}
-use Rattle.theory.specs.Ranges.{firstTo-zero, firstTo-suc, firstTo-cong, lastTo-zero, lastTo-yes, lastTo-no}
+use Rattle.theory.specs.Ranges.{countTo-zero, countTo-suc, countTo-le}
+use Rattle.theory.specs.Ranges.{firstTo-zero, firstTo-suc, firstTo-cong, lastTo-zero}
 use Rattle.theory.specs.Sums.{sumTo-most}
-use Rattle.theory.specs.Lists.{getD-set}
 use Rattle.theory.specs.TableFacts.{AcceptedFacts}
 use Rattle.theory.specs.TableLinks.{next-le, prevAt-less}
-use Rattle.theory.specs.PlanPass.{stepBack, back-less, pageOf-none, pageOf-le, pageOf-step, parentAt-step}
-use Rattle.theory.specs.PlanPass.{weightTo, weightTo-zero, weightTo-suc}
+use Rattle.theory.specs.PlanPass.{stepBack, back-less, pageOf-le, pageOf-step}
+use Rattle.theory.specs.PlanPass.{weightTo, weightTo-zero, weightTo-on, weightTo-off}
+use Rattle.theory.specs.Slots.{Row, SlotsHold, slots-start, slots-store, row-add, prevTo, prevs-turn, prior-is}
+use Rattle.theory.specs.Slots.{parent-is, home-is}
 use Rattle.theory.specs.PagesByNumber.{lastOnPage, lastOnPage-zero, lastOnPage-on, lastOnPage-off}
 use Rattle.theory.specs.PagesByNumber.{first-found, last-found}
 use Rattle.theory.specs.JudgeAnswers.{pageCount-le}
 use Rattle.judge.specs.declared.pages.Layout.{Layout}
-use Rattle.judge.specs.Rows.{Row, goodCase, IsLayout, noLayout}
-
--- ---- Arrays
-
--- what stands at w after a store of x at q, where x is g q and all else had its g already
-stored : (g : ℕ → ℕ) (l : List ℕ) (q x w : ℕ) → q < length l → x ≡ g q → ((w ≡ q → ⊥) → getD l w 0 ≡ g w)
-    → getD (set l q x) w 0 ≡ g w
-stored g l q x w fits e other = getD-set l q x w (g w) (λ same. (fits, e ∙ ap g (sym same))) other
-
--- an array has f w in each slot w
-pub record SlotsHold (f : ℕ → ℕ) (l : List ℕ) : Type 0 where
-  pub long : length l ≡ slots
-  pub at : (w : ℕ) → w < slots → getD l w 0 ≡ f w
-
-slots-start : (f : ℕ → ℕ) → ((w : ℕ) → f w ≡ 0) → SlotsHold f (replicate slots 0)
-slots-start f zeros = record { long = refl; at = λ w fits. getD-replicate slots w 0 0 fits ∙ sym (zeros w) }
-
-slots-store : {f : ℕ → ℕ} {l : List ℕ} (g : ℕ → ℕ) (q x : ℕ) → SlotsHold f l → q < slots → x ≡ g q
-    → ((w : ℕ) → (w ≡ q → ⊥) → f w ≡ g w) → SlotsHold g (set l q x)
-slots-store {f} {l} g q x h fits e same =
-    record {
-      long = simp length-set (h .long);
-      at = λ w within. stored g l q x w (omega (arith, h .long)) e (λ other. h .at w within ∙ same w other);
-    }
-
--- one more node
-row-add : (f : ℕ → ℕ) (l : List ℕ) (v x : ℕ) → Row v f l → v + 1 < length l → x ≡ f (v + 1)
-    → Row (v + 1) f (set l (v + 1) x)
-row-add f l v x row fits e u low high = stored f l (v + 1) x u fits e (λ other. row u low (omega arith))
-
--- ---- The sibling just before each node
-
--- the last of the nodes 1 to v with w just after it
-abbrev prevTo : List ℕ → ℕ → ℕ → ℕ
-prevTo t v w = lastTo v (λ u. eqb (nextAt t u) w)
-
-prevs-turn : (t l : List ℕ) (v x : ℕ) → SlotsHold (prevTo t v) l → x ≡ nextAt t (v + 1) → x < slots
-    → SlotsHold (prevTo t (v + 1)) (set l x (v + 1))
-prevs-turn t l v x h e fits =
-    rw (add-one v)
-    (slots-store (prevTo t (suc v)) x (suc v) h fits
-    (sym (lastTo-yes v (λ u. eqb (nextAt t u) x) (eq-eqb (nextAt t (suc v)) x next)))
-    (λ w other.
-    sym (lastTo-no v (λ u. eqb (nextAt t u) w) (ne-eqb (nextAt t (suc v)) w (λ z. other (sym z ∙ next))))))
-  where
-    next : nextAt t (suc v) ≡ x
-    next = ap (nextAt t) (sym (add-one v)) ∙ sym e
-
-prior-is : (t l : List ℕ) (v : ℕ) → SlotsHold (prevTo t v) l → v + 1 < slots → getD l (v + 1) 0 ≡ prevAt t (v + 1)
-unfolding prevAt
-prior-is t l v h fits =
-    let same : v ≡ v + 1 - 1 = omega arith in
-    h .at (v + 1) fits ∙ ap (λ (k : ℕ). lastTo k (λ u. eqb (nextAt t u) (v + 1))) same
-
--- ---- Parents
-
-parent-is : {t : List ℕ} → AcceptedFacts t → (l : List ℕ) (v u x : ℕ) → Row v (parentAt t) l → v < nodeCount t
-    → u ≡ prevAt t (v + 1) → x ≡ pick (eqb u 0) (v + 1 - 1) (getD l u 0) → x ≡ parentAt t (v + 1)
-parent-is {t} a l v u x row less e q =
-    q ∙ go (eqb u 0) refl ∙ ap (λ (k : ℕ). pick (eqb k 0) (v + 1 - 1) (parentAt t k)) e
-    ∙ sym (parentAt-step (a .sound) (v + 1) (omega arith) (omega arith))
-  where
-    go : (b : Bool) → eqb u 0 ≡ b → pick (eqb u 0) (v + 1 - 1) (getD l u 0) ≡ pick (eqb u 0) (v + 1 - 1) (parentAt t u)
-    go true p = pick-true (eqb u 0) (v + 1 - 1) (getD l u 0) p ∙ sym (pick-true (eqb u 0) (v + 1 - 1) (parentAt t u) p)
-    go false p =
-        let other : u ≡ 0 → ⊥ = eqb-false u 0 p in
-        ap (pick (eqb u 0) (v + 1 - 1)) (row u (omega arith) (omega (arith, prevAt-less t (v + 1) (omega arith))))
+use Rattle.judge.specs.Rows.{goodCase, IsLayout, noLayout}
 
 -- ---- Pages
 
@@ -112,11 +47,6 @@ count-turn m v mark pages next h e q =
     ∙ rw (add-one v) (sym (countTo-suc v (hasMark m begins)))
 
 module _ (t m : List ℕ) where
-  -- the page of the node one step back is known
-  home-is : (l : List ℕ) (v u : ℕ) → Row v (pageOf t m) l → getD l 0 0 ≡ 0 → u ≤ v → getD l u 0 ≡ pageOf t m u
-  home-is l v zero row root high = root ∙ sym (pageOf-none t m)
-  home-is l v (suc u) row root high = row (suc u) (omega arith) high
-
   -- the node one step back
   back-is : (v mark u parent home : ℕ) → mark ≡ markAt m v → u ≡ prevAt t v → parent ≡ parentAt t v
       → home ≡ pick (eqb mark 2) u parent → home ≡ stepBack t m v
@@ -129,7 +59,7 @@ module _ (t m : List ℕ) where
   page-turn l v mark next home x row root e q back r =
       r
       ∙ ap (λ (k : ℕ). pick (eqb mark 1) next k)
-      (home-is l v home row root (omega (arith, back-less t m (v + 1) (omega arith), back)) ∙ ap (pageOf t m) back)
+      (home-is t m l v home row root (omega (arith, back-less t m (v + 1) (omega arith), back)) ∙ ap (pageOf t m) back)
       ∙ ap₂ (λ (k j : ℕ). pick (eqb k 1) j (pageOf t m (stepBack t m (v + 1)))) e q
       ∙ sym (pageOf-step t m (v + 1) (omega arith))
 
@@ -162,23 +92,10 @@ weights-turn t m l v q w h e fits g =
     here = ap (pageOf t m) (sym (add-one v)) ∙ sym e
 
     on : getD l q 0 + w ≡ weightTo (suc v) t m q
-    on =
-        omega (
-          arith,
-          h .at q fits,
-          g ∙ ap (weightAt t) (add-one v),
-          weightTo-suc v t m q,
-          pick-true (eqb (pageOf t m (suc v)) q) (weightAt t (suc v)) 0 (eq-eqb (pageOf t m (suc v)) q here),
-        )
+    on = omega (arith, h .at q fits, g ∙ ap (weightAt t) (add-one v), weightTo-on v t m q here)
 
     off : (p : ℕ) → (p ≡ q → ⊥) → weightTo v t m p ≡ weightTo (suc v) t m p
-    off p other =
-        omega (
-          arith,
-          weightTo-suc v t m p,
-          pick-false (eqb (pageOf t m (suc v)) p) (weightAt t (suc v)) 0
-              (ne-eqb (pageOf t m (suc v)) p (λ z. other (sym z ∙ here))),
-        )
+    off p other = sym (weightTo-off v t m p (λ z. other (sym z ∙ here)))
 
 module _ {t : List ℕ} (a : AcceptedFacts t) where
   pick-most : (b : Bool) (x k : ℕ) → x ≤ k → pick b x 0 ≤ k

@@ -1,5 +1,5 @@
 -- What the arrays of the judge hold, what its pass over a plan finds, and the test of a mark by numbers.
--- Defines Row, goodCase, noLayout, IsLayout. Assumes nothing.
+-- Defines goodCase, noLayout, IsLayout. Assumes nothing.
 use Prim.Native.Nat.{ℕ, _<_}
 use mathlib.Core.Path.{_≡_}
 use mathlib.Core.Bool.{Bool, not, _&&_, _||_}
@@ -11,12 +11,8 @@ use Rattle.model.specs.Table.{slots, nodeCount}
 use Rattle.model.specs.Plan.{parentAt, pageOf, pageWeight, pageCount, badMark}
 use Rattle.model.specs.Runs.{pageRun}
 use Rattle.model.specs.declared.Place.the-variants.{Nowhere}
-use Rattle.theory.specs.Ranges.{Upto}
+use Rattle.theory.specs.Slots.{Row}
 use Rattle.judge.specs.declared.pages.Layout.{Layout}
-
--- the list has f v at v, for each of the nodes 1 to n
-abbrev pub Row : ℕ → (ℕ → ℕ) → List ℕ → Type 0
-Row n f l = Upto n (λ v. getD l v 0 ≡ f v)
 
 -- what goodMark says of node v, by v's mark, the sibling before it, and that one's mark
 unfoldable pub goodCase : ℕ → ℕ → ℕ → ℕ → Bool

@@ -21,8 +21,9 @@ pub mod SiblingsBack
 pub mod LaidByNumber
 pub mod TableEncoded
 pub mod Put
--- Plans: pages by number, the judge's answer, plans by shape, and that both say the same
+-- Plans: pages by number, arrays with a slot a node, the judge's answer, plans by shape, and that both say the same
 pub mod PlanPass
+pub mod Slots
 pub mod PlanPages
 pub mod JudgeAnswers
 pub mod PlanMarks
@@ -48,8 +49,9 @@ pub mod Reduce
 pub mod ReduceCount
 pub mod SingleShape
 pub mod PairShape
--- Rightmost
+-- The quick planners: rightmost by shape, depth-first by number
 pub mod RightmostShape
+pub mod DepthFirst
 -- Best and level: the optimality of best
 pub mod BestGreedy
 pub mod BestLevel

@@ -1,7 +1,7 @@
 -- Marks by number and by shape say the same: for a table of sound form and as many marks as nodes, no mark is bad just
 -- where node 1 has mark 1 and the marks of the tree are allowed.
--- Proves weighed-from, allowed-from (the marks of a node with its children and the siblings after it) and marks-bridge.
--- Assumes nothing.
+-- Proves marks-from, weighed-from, allowed-from (the marks of a node with its children and the siblings after it) and
+-- marks-bridge. Assumes nothing.
 use Prim.Native.Nat.{ℕ, zero, suc, _+_, _-_, _≤_, _<_}
 use native.Mathlib.Omega.{arith}
 use native.Mathlib.Nat.{eq-or-lt-of-le}
@@ -29,7 +29,7 @@ use Rattle.theory.specs.PlanPages.{bad-none, good-first, good-later}
 -- ---- The marks of a chain, taken from the marks of the table
 
 -- the marks from node v on
-marks-from : (m : List ℕ) (v : ℕ) → v < length m → drop v m ≡ markAt m (suc v) ∷ drop (suc v) m
+pub marks-from : (m : List ℕ) (v : ℕ) → v < length m → drop v m ≡ markAt m (suc v) ∷ drop (suc v) m
 unfolding markAt
 marks-from m v h = let same : suc v - 1 ≡ v = omega arith in rw same (drop-cons m v 0 h)
 

@@ -1,6 +1,7 @@
 -- The page and the parent of a node by one step back, with no bound on the steps, and the weights of the pages up to a
 -- node: what a pass over the nodes in their order computes.
--- Defines stepBack, weightTo. Proves pageOf-none, pageOf-step, pageOf-le, weightTo-suc, parentAt-step. Assumes nothing.
+-- Defines stepBack, weightTo. Proves pageOf-none, pageOf-step, pageOf-le, weightTo-suc, weightTo-on, weightTo-off,
+-- parentAt-step. Assumes nothing.
 use Prim.Native.Nat.{ℕ, zero, suc, _+_, _-_, _≤_, _<_}
 use native.Mathlib.Omega.{arith}
 use native.Mathlib.Nat.{eq-or-lt-of-le, eq-zero-or-pos}
@@ -93,6 +94,25 @@ pub weightTo-suc : (v : ℕ) (t m : List ℕ) (p : ℕ)
     → weightTo (suc v) t m p ≡ weightTo v t m p + pick (eqb (pageOf t m (suc v)) p) (weightAt t (suc v)) 0
 unfolding weightTo
 weightTo-suc v t m p = sumTo-suc v (λ u. pick (eqb (pageOf t m u) p) (weightAt t u) 0)
+
+-- one more node adds its weight to its page, and to no other
+pub weightTo-on : (v : ℕ) (t m : List ℕ) (p : ℕ) → pageOf t m (suc v) ≡ p
+    → weightTo (suc v) t m p ≡ weightTo v t m p + weightAt t (suc v)
+weightTo-on v t m p e =
+    omega (
+      arith,
+      weightTo-suc v t m p,
+      pick-true (eqb (pageOf t m (suc v)) p) (weightAt t (suc v)) 0 (eq-eqb (pageOf t m (suc v)) p e),
+    )
+
+pub weightTo-off : (v : ℕ) (t m : List ℕ) (p : ℕ) → (pageOf t m (suc v) ≡ p → ⊥)
+    → weightTo (suc v) t m p ≡ weightTo v t m p
+weightTo-off v t m p e =
+    omega (
+      arith,
+      weightTo-suc v t m p,
+      pick-false (eqb (pageOf t m (suc v)) p) (weightAt t (suc v)) 0 (ne-eqb (pageOf t m (suc v)) p e),
+    )
 
 -- ---- Parents
 
