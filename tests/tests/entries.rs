@@ -18,7 +18,7 @@ struct Asked {
     read_tree: Answer,
     judge: Answer,
     /// In the order of `KINDS`.
-    planners: [Answer; 4],
+    planners: [Answer; KINDS.len()],
     write_archive: Answer,
 }
 
@@ -53,7 +53,7 @@ impl Asked {
 
     fn expect_refused(&self, table: &[u8], number: u32, place: usize) {
         let refusal = Answer::refused(number, place);
-        assert_eq!(self.all(), [refusal; 7], "{}", show(table));
+        assert_eq!(self.all(), [refusal; 3 + KINDS.len()], "{}", show(table));
     }
 
     /// The verdicts of the planners are not looked at.
