@@ -371,6 +371,32 @@ fn numbers_of_the_header() {
     assert!(listed.eq(&numbers[1..]));
 }
 
+/// The header declares the ten doors, each once.
+#[test]
+fn functions_of_the_header() {
+    let declared: Vec<&str> = HEADER
+        .lines()
+        .filter_map(|line| {
+            line.strip_prefix("balduqen_answer balduqen_")?
+                .split_once('(')
+        })
+        .map(|(name, _)| name)
+        .collect();
+    let doors = [
+        "read_tree",
+        "judge",
+        "plan_best",
+        "plan_level",
+        "plan_single",
+        "plan_pair",
+        "plan_rightmost",
+        "plan_depth_first",
+        "write_archive",
+        "read_archive",
+    ];
+    assert_eq!(declared, doors);
+}
+
 macro_rules! tests_of_entries {
     ($name:ident, $entries:expr, $($test:ident)*) => {
         mod $name {
