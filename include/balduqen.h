@@ -133,8 +133,8 @@ balduqen_answer balduqen_plan_pair(const uint8_t *table, size_t table_length,
                                    uint8_t *marks, size_t marks_length,
                                    uint32_t *scratch, size_t scratch_length);
 
-/* The next two are quick: their steps are linear in the nodes, beside the clearing of the scratch. Their
- * pages are never fewer than balduqen_plan_best's. */
+/* The next two are quick: their steps are linear in the nodes, beside the clearing of the scratch.
+ * Their pages are never fewer than balduqen_plan_best's. */
 
 /* Cuts runs of last children, each as long as a page holds, until the rest fits. */
 balduqen_answer balduqen_plan_rightmost(const uint8_t *table, size_t table_length,
