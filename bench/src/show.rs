@@ -140,10 +140,10 @@ const BY_SIZE: [(&str, Form, bool); 3] = [
 
 pub fn print_head_by_size() {
     println!("\n{NOTES_BY_SIZE}");
-    // The names stand above the first of their sizes.
+    // A name stands above the last of its sizes.
     print!("{:34}", "");
     for (name, _, _) in BY_SIZE {
-        print!("{name:>10}{:20}", "");
+        print!("{name:>30}");
     }
     println!();
     print_names();
