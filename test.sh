@@ -91,7 +91,7 @@ add_one readme "$?"
 (cd bench && CARGO_TARGET_DIR=../target/bench cargo build --release --offline)
 add_one bench "$?"
 
-in_rust tests tests/entries.rs=23 tests/guarded.rs=16 tests/library.rs=85 tests/model.rs=33 tests/program.rs=15 tests/rule_sheet.rs=37 \
+in_rust tests tests/entries.rs=24 tests/guarded.rs=16 tests/library.rs=106 tests/model.rs=40 tests/program.rs=15 tests/rule_sheet.rs=37 \
   tests/stack.rs=2 tests/threads.rs=1
 in_rust tools src/main.rs=26 tests/commands.rs=4 tests/must_fail_logs.rs=3
 

@@ -133,6 +133,20 @@ balduqen_answer balduqen_plan_pair(const uint8_t *table, size_t table_length,
                                    uint8_t *marks, size_t marks_length,
                                    uint32_t *scratch, size_t scratch_length);
 
+/* The next two are quick: their steps are linear in the nodes, beside the clearing of the scratch.
+ * Their pages are never fewer than balduqen_plan_best's. */
+
+/* Cuts runs of last children, each as long as a page holds, until the rest fits. */
+balduqen_answer balduqen_plan_rightmost(const uint8_t *table, size_t table_length,
+                                        uint8_t *marks, size_t marks_length,
+                                        uint32_t *scratch, size_t scratch_length);
+
+/* Goes through the nodes in their order, and lays each on the page begun last where it fits and its
+ * parent or its previous sibling is there; else it begins a page. */
+balduqen_answer balduqen_plan_depth_first(const uint8_t *table, size_t table_length,
+                                          uint8_t *marks, size_t marks_length,
+                                          uint32_t *scratch, size_t scratch_length);
+
 /* Writes the archive of a tree and a plan. The archive buffer has exactly 6 + 8 * P + 8 * N bytes,
  * where P is the page count that the planner or the judge gave. Refuses 1 to 8, 10 to 12 and 14. With
  * the marks of balduqen_plan_best, page count and root weight on film are that planner's. */

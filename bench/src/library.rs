@@ -36,6 +36,8 @@ macro_rules! planner {
 /// The library's planner.
 pub fn planner(kind: Kind) -> Planner {
     match kind {
+        Kind::Rightmost => planner!(balduqen_plan_rightmost),
+        Kind::DepthFirst => planner!(balduqen_plan_depth_first),
         Kind::Single => planner!(balduqen_plan_single),
         Kind::Pair => planner!(balduqen_plan_pair),
         Kind::Level => planner!(balduqen_plan_level),

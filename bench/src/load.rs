@@ -1,7 +1,10 @@
 //! The trees to plan: the same ones in each run.
 
-pub const NODES: usize = 1024;
-pub const LIMITS: [usize; 3] = [64, 256, 1024];
+const NODES: usize = 1024;
+const LIMITS: [usize; 3] = [64, 256, 1024];
+
+/// The numbers of nodes that the quick planners are timed with.
+pub const SIZES: [usize; 3] = [256, 512, NODES];
 
 #[derive(Clone, Copy)]
 pub enum Shape {
@@ -13,7 +16,7 @@ pub enum Shape {
     Random,
 }
 
-pub const SHAPES: [Shape; 4] = [Shape::Flat, Shape::Bushy, Shape::Deep, Shape::Random];
+const SHAPES: [Shape; 4] = [Shape::Flat, Shape::Bushy, Shape::Deep, Shape::Random];
 
 impl Shape {
     pub fn name(self) -> &'static str {
@@ -39,6 +42,7 @@ impl Shape {
 /// A tree's table, and what it was made from.
 pub struct Load {
     pub shape: Shape,
+    pub nodes: usize,
     pub limit: usize,
     /// Weights are 1 up to this.
     pub heaviest: usize,
@@ -46,6 +50,16 @@ pub struct Load {
 }
 
 impl Load {
+    fn new(shape: Shape, nodes: usize, limit: usize, heaviest: usize) -> Load {
+        Load {
+            shape,
+            nodes,
+            limit,
+            heaviest,
+            table: table(shape, nodes, limit, heaviest),
+        }
+    }
+
     pub fn name(&self) -> String {
         let shape = self.shape.name();
         format!("{shape}, weights 1-{}, K {}", self.heaviest, self.limit)
@@ -58,16 +72,17 @@ pub fn loads() -> Vec<Load> {
     for shape in SHAPES {
         for limit in LIMITS {
             for heaviest in [3, limit / 4] {
-                list.push(Load {
-                    shape,
-                    limit,
-                    heaviest,
-                    table: table(shape, limit, heaviest),
-                });
+                list.push(Load::new(shape, NODES, limit, heaviest));
             }
         }
     }
     list
+}
+
+/// Each shape in all sizes, with the lowest limit and weights up to a quarter of it.
+pub fn loads_by_size() -> [[Load; SIZES.len()]; SHAPES.len()] {
+    let limit = LIMITS[0];
+    SHAPES.map(|shape| SIZES.map(|nodes| Load::new(shape, nodes, limit, limit / 4)))
 }
 
 /// A linear congruential generator; a draw is the upper half of its state.
@@ -81,12 +96,12 @@ impl Draws {
     }
 }
 
-fn table(shape: Shape, limit: usize, heaviest: usize) -> Vec<u8> {
+fn table(shape: Shape, nodes: usize, limit: usize, heaviest: usize) -> Vec<u8> {
     let mut draws = Draws(1);
-    let mut words = vec![NODES, limit];
+    let mut words = vec![nodes, limit];
     // The newest node of each depth, the newest of all at the end.
     let mut branch: Vec<usize> = vec![];
-    for node in 1..=NODES {
+    for node in 1..=nodes {
         let depth = match branch.len() {
             0 => 0,
             length => shape.next_depth(length - 1, &mut draws),

@@ -11,10 +11,11 @@ mod load;
 mod measure;
 mod plain;
 mod planner;
+mod quick;
 mod show;
 mod tree;
 
-use planner::KINDS;
+use planner::{KINDS, QUICK};
 use show::Row;
 
 fn main() {
@@ -37,4 +38,15 @@ fn main() {
         }
     }
     show::print_worst(&rows);
+
+    show::print_head_by_size();
+    for loads in &load::loads_by_size() {
+        for kind in QUICK {
+            show::print_by_size(&loads.each_ref().map(|load| {
+                measure::check_agreement(load, kind);
+                let times = measure::times(load, kind);
+                Row { load, kind, times }
+            }));
+        }
+    }
 }

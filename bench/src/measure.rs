@@ -2,7 +2,7 @@
 
 use crate::clock::time;
 use crate::dhw::{self, Entries};
-use crate::load::{Load, NODES};
+use crate::load::Load;
 use crate::planner::{scratch_words, Answer, Kind, Planner};
 use crate::{library, plain};
 use std::hint::black_box;
@@ -66,8 +66,8 @@ impl Buffers {
     /// Filled with what no planner leaves behind.
     fn soiled(load: &Load) -> Buffers {
         Buffers {
-            marks: vec![0xa5; NODES],
-            scratch: vec![0xa5a5_a5a5; scratch_words(NODES, load.limit)],
+            marks: vec![0xa5; load.nodes],
+            scratch: vec![0xa5a5_a5a5; scratch_words(load.nodes, load.limit)],
         }
     }
 

@@ -1,12 +1,14 @@
-//! The four planners in plain Rust, each with all that the library's entry does: the tree is read
+//! The six planners in plain Rust, each with all that the library's entry does: the tree is read
 //! and checked, the plan is made and judged, and the whole scratch is cleared.
 
-use crate::columns;
 use crate::planner::{scratch_words, Answer, Kind, Planner};
 use crate::tree::Tree;
+use crate::{columns, quick};
 
 pub fn planner(kind: Kind) -> Planner {
     match kind {
+        Kind::Rightmost => |table, marks, scratch| plan(table, marks, scratch, quick::rightmost),
+        Kind::DepthFirst => |table, marks, scratch| plan(table, marks, scratch, quick::depth_first),
         Kind::Single => |table, marks, scratch| plan(table, marks, scratch, single),
         Kind::Pair => |table, marks, scratch| plan(table, marks, scratch, pair),
         Kind::Level => |table, marks, scratch| plan(table, marks, scratch, columns::level),

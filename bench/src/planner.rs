@@ -25,17 +25,31 @@ pub type Planner = fn(&[u8], &mut [u8], &mut [u32]) -> Answer;
 
 #[derive(Clone, Copy, Debug, PartialEq, Eq)]
 pub enum Kind {
+    Rightmost,
+    DepthFirst,
     Single,
     Pair,
     Level,
     Best,
 }
 
-pub const KINDS: [Kind; 4] = [Kind::Single, Kind::Pair, Kind::Level, Kind::Best];
+pub const KINDS: [Kind; 6] = [
+    Kind::Rightmost,
+    Kind::DepthFirst,
+    Kind::Single,
+    Kind::Pair,
+    Kind::Level,
+    Kind::Best,
+];
+
+/// Those whose steps are linear in the nodes.
+pub const QUICK: [Kind; 2] = [Kind::Rightmost, Kind::DepthFirst];
 
 impl Kind {
     pub fn name(self) -> &'static str {
         match self {
+            Kind::Rightmost => "rightmost",
+            Kind::DepthFirst => "depth-first",
             Kind::Single => "single",
             Kind::Pair => "pair",
             Kind::Level => "level",

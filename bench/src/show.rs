@@ -1,6 +1,6 @@
-//! The table of times and ratios, and the worst ratios.
+//! The table of times and ratios, the worst ratios, and the quick planners' times by size.
 
-use crate::load::Load;
+use crate::load::{Load, SIZES};
 use crate::measure::{Form, Times};
 use crate::planner::{Kind, KINDS};
 
@@ -58,9 +58,13 @@ impl Ratio {
     }
 }
 
+fn print_names() {
+    print!("{:<7}{:>8}{:>6}  {:<11}", "tree", "weights", "K", "planner");
+}
+
 pub fn print_head() {
     println!("{NOTES}");
-    print!("{:<7}{:>8}{:>6}  {:<7}", "tree", "weights", "K", "planner");
+    print_names();
     for name in NAMES.into_iter().chain(RATIOS.map(|ratio| ratio.name)) {
         print!("{name:>10}");
     }
@@ -74,10 +78,15 @@ pub struct Row<'a> {
 }
 
 impl Row<'_> {
-    pub fn print(&self) {
+    /// What is planned, and by whom.
+    fn print_name(&self) {
         let weights = format!("1-{}", self.load.heaviest);
         let (shape, kind) = (self.load.shape.name(), self.kind.name());
-        print!("{shape:<7}{weights:>8}{:>6}  {kind:<7}", self.load.limit);
+        print!("{shape:<7}{weights:>8}{:>6}  {kind:<11}", self.load.limit);
+    }
+
+    pub fn print(&self) {
+        self.print_name();
         for time in self.times {
             print_figure(time.map(|time| 1000.0 * time.as_secs_f64()), 3);
         }
@@ -110,8 +119,53 @@ pub fn print_worst(rows: &[Row]) {
             }
             if let [(worst, row), .., (best, _)] = &figures[..] {
                 let (name, kind, place) = (ratio.name, kind.name(), row.load.name());
-                println!("{name:<10} {kind:<7} worst {worst:.2} ({place}), best {best:.2}");
+                println!("{name:<10} {kind:<11} worst {worst:.2} ({place}), best {best:.2}");
             }
         }
     }
+}
+
+const NOTES_BY_SIZE: &str = "\
+The quick planners by the number of nodes N, with the same form of tree, weights and limit: lib in
+milliseconds, then lib and clear in nanoseconds a node. Where these stay as they are, the time is
+linear in the nodes.
+";
+
+/// The columns, each for all sizes: name, what is timed, and whether it is given by node.
+const BY_SIZE: [(&str, Form, bool); 3] = [
+    ("lib", Form::Library, false),
+    ("lib/N", Form::Library, true),
+    ("clear/N", Form::Clearing, true),
+];
+
+pub fn print_head_by_size() {
+    println!("\n{NOTES_BY_SIZE}");
+    // A name stands above the last of its sizes.
+    print!("{:34}", "");
+    for (name, _, _) in BY_SIZE {
+        print!("{name:>30}");
+    }
+    println!();
+    print_names();
+    for _ in BY_SIZE {
+        for nodes in SIZES {
+            print!("{nodes:>10}");
+        }
+    }
+    println!();
+}
+
+/// The rows of one tree and planner in all sizes, as one line.
+pub fn print_by_size(rows: &[Row; SIZES.len()]) {
+    rows[0].print_name();
+    for (_, form, is_by_node) in BY_SIZE {
+        for row in rows {
+            let time = row.times[form as usize].map(|time| time.as_secs_f64());
+            match is_by_node {
+                false => print_figure(time.map(|time| 1e3 * time), 3),
+                true => print_figure(time.map(|time| 1e9 * time / row.load.nodes as f64), 0),
+            }
+        }
+    }
+    println!();
 }

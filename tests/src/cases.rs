@@ -1,8 +1,11 @@
-//! Cases A to G of document 01, its examples of refusals, and one for refusal 14 of document 02.
+//! Cases A to G of document 01, its examples of refusals, and what document 02 adds: one for refusal
+//! 14, and the plans of request Two.
 
 use crate::ffi;
 use crate::gen::Table;
-use crate::model::{plan_best, plan_level, plan_pair, plan_single, Planner};
+use crate::model::{
+    plan_best, plan_depth_first, plan_level, plan_pair, plan_rightmost, plan_single, Planner,
+};
 
 #[derive(Clone, Copy, Debug, PartialEq, Eq)]
 pub enum Kind {
@@ -10,9 +13,21 @@ pub enum Kind {
     Level,
     Single,
     Pair,
+    Rightmost,
+    DepthFirst,
 }
 
-pub const KINDS: [Kind; 4] = [Kind::Best, Kind::Level, Kind::Single, Kind::Pair];
+pub const KINDS: [Kind; 6] = [
+    Kind::Best,
+    Kind::Level,
+    Kind::Single,
+    Kind::Pair,
+    Kind::Rightmost,
+    Kind::DepthFirst,
+];
+
+/// The two planners of request Two.
+pub const QUICK: [Kind; 2] = [Kind::Rightmost, Kind::DepthFirst];
 
 impl Kind {
     pub fn model(self) -> Planner {
@@ -21,6 +36,8 @@ impl Kind {
             Kind::Level => plan_level,
             Kind::Single => plan_single,
             Kind::Pair => plan_pair,
+            Kind::Rightmost => plan_rightmost,
+            Kind::DepthFirst => plan_depth_first,
         }
     }
 
@@ -30,6 +47,8 @@ impl Kind {
             Kind::Level => ffi::plan_level,
             Kind::Single => ffi::plan_single,
             Kind::Pair => ffi::plan_pair,
+            Kind::Rightmost => ffi::plan_rightmost,
+            Kind::DepthFirst => ffi::plan_depth_first,
         }
     }
 }
@@ -75,7 +94,8 @@ pub fn case_g() -> Table {
     Table::new(5, &[0, 1, 2, 1, 1], &[1, 2, 3, 2, 2])
 }
 
-/// The plans that document 01 gives, and those that follow from its planner steps by hand.
+/// The plans that document 01 gives, and those that follow by hand from its planner steps and from
+/// those of request Two.
 pub fn made() -> Vec<Made> {
     let mut list = vec![];
     let mut add = |name, table: Table, kinds: &[Kind], marks: &[u8], pages, root| {
@@ -93,14 +113,21 @@ pub fn made() -> Vec<Made> {
     use Kind::*;
     add("A", case_a(), &KINDS, &[1], 1, 1);
     add("C", case_c(), &KINDS, &[1, 0, 0, 0], 1, 5);
-    add("D", case_d(), &[Best, Level, Pair], &[1, 1, 2, 2], 2, 2);
+    // Rightmost's run goes on to the first child, although cutting the last one is enough.
+    let of_run = [Best, Level, Pair, Rightmost];
+    add("D", case_d(), &of_run, &[1, 1, 2, 2], 2, 2);
     // The first child is the earliest of equals, and cutting it is enough.
     add("D", case_d(), &[Single], &[1, 1, 0, 0], 2, 4);
+    add("D", case_d(), &[DepthFirst], &[1, 0, 0, 1], 2, 4);
     add("E", case_e(), &[Best, Pair], &[1, 1, 2, 1, 2, 2], 3, 5);
-    add("E", case_e(), &[Level, Single], &[1, 1, 1, 0, 0, 1], 4, 5);
+    let of_branches = [Level, Single, Rightmost];
+    add("E", case_e(), &of_branches, &[1, 1, 1, 0, 0, 1], 4, 5);
+    // Nodes 2, 3 and 4 fill a page, and node 6 has neither parent nor sibling on the page of 5.
+    add("E", case_e(), &[DepthFirst], &[1, 1, 2, 0, 1, 1], 4, 5);
     add("F", case_f(), &[Best, Level, Single], &[1, 1, 0], 2, 4);
     // Node 2 and its sibling weigh 6, so the sibling is cut, and the rest fits node 1's page.
-    add("F", case_f(), &[Pair], &[1, 0, 1], 2, 4);
+    let of_last = [Pair, Rightmost, DepthFirst];
+    add("F", case_f(), &of_last, &[1, 0, 1], 2, 4);
     add(
         "G",
         case_g(),
@@ -109,31 +136,26 @@ pub fn made() -> Vec<Made> {
         2,
         5,
     );
-    add("G", case_g(), &[Pair], &[1, 1, 0, 1, 2], 3, 1);
+    add("G", case_g(), &[Pair, Rightmost], &[1, 1, 0, 1, 2], 3, 1);
+    add("G", case_g(), &[DepthFirst], &[1, 0, 1, 1, 2], 3, 3);
 
     // Two runs either way, so the shorter last run stays.
     let equal = Table::new(5, &[0, 1, 1, 1], &[5, 2, 2, 2]);
     add(
         "equal runs",
         equal.clone(),
-        &[Best, Level],
+        &[Best, Level, DepthFirst],
         &[1, 1, 2, 1],
         3,
         5,
     );
     add("equal runs", equal.clone(), &[Single], &[1, 1, 1, 1], 4, 5);
-    add("equal runs", equal, &[Pair], &[1, 1, 1, 2], 3, 5);
+    add("equal runs", equal, &[Pair, Rightmost], &[1, 1, 1, 2], 3, 5);
     // Two pages in any case, and the last candidate has the lightest root page.
     let lighter = Table::new(3, &[0, 1, 1], &[1, 2, 1]);
-    add(
-        "lighter rest",
-        lighter.clone(),
-        &[Best, Level, Pair],
-        &[1, 1, 2],
-        2,
-        1,
-    );
-    add("lighter rest", lighter, &[Single], &[1, 1, 0], 2, 2);
+    add("lighter rest", lighter.clone(), &of_run, &[1, 1, 2], 2, 1);
+    add("lighter rest", lighter.clone(), &[Single], &[1, 1, 0], 2, 2);
+    add("lighter rest", lighter, &[DepthFirst], &[1, 0, 1], 2, 3);
     // Node 2's child and its sibling both weigh 2, and pair cuts the child.
     let sides = Table::new(5, &[0, 1, 2, 1], &[1, 2, 2, 2]);
     add(
@@ -144,7 +166,8 @@ pub fn made() -> Vec<Made> {
         2,
         3,
     );
-    add("equal sides", sides, &[Pair], &[1, 0, 1, 0], 2, 5);
+    add("equal sides", sides.clone(), &[Pair], &[1, 0, 1, 0], 2, 5);
+    add("equal sides", sides, &QUICK, &[1, 0, 0, 1], 2, 5);
     // The children weigh 2, 9 and 2. Node 4's second plan, with the larger gain, brings them all
     // into one run; node 2's comes earlier and would not be enough.
     let gains = Table::new(10, &[0, 1, 2, 1, 4, 1], &[10, 1, 1, 1, 8, 2]);
@@ -158,12 +181,100 @@ pub fn made() -> Vec<Made> {
     );
     add(
         "larger gain",
-        gains,
-        &[Level, Single],
+        gains.clone(),
+        &of_branches,
         &[1, 1, 0, 1, 0, 1],
         4,
         10,
     );
+    add(
+        "larger gain",
+        gains,
+        &[DepthFirst],
+        &[1, 1, 0, 2, 1, 1],
+        4,
+        10,
+    );
+
+    // The last two children are enough for the node, and the third still fits the run.
+    let stretched = Table::new(4, &[0, 1, 1, 1, 1], &[1, 2, 1, 1, 1]);
+    add(
+        "stretched",
+        stretched.clone(),
+        &[Rightmost],
+        &[1, 0, 1, 2, 2],
+        2,
+        3,
+    );
+    add(
+        "stretched",
+        stretched,
+        &[DepthFirst],
+        &[1, 0, 0, 1, 2],
+        2,
+        4,
+    );
+    // A run of exactly the limit. A run that ends below it leaves three pages, and one that takes
+    // the first child too is over it.
+    let full = Table::new(4, &[0, 1, 1, 1], &[1, 3, 2, 2]);
+    add("full run", full, &QUICK, &[1, 0, 1, 2], 2, 4);
+    // The middle child ends both runs beside it: a run passes over no child, although 1 and 1 fit.
+    let between = Table::new(4, &[0, 1, 1, 1], &[4, 1, 4, 1]);
+    add("between", between, &QUICK, &[1, 1, 1, 1], 4, 4);
+    // A second run begins where the first ended, and takes what fits by itself.
+    let two_runs = Table::new(3, &[0, 1, 1, 1, 1], &[3, 1, 2, 1, 2]);
+    add("two runs", two_runs, &QUICK, &[1, 1, 2, 1, 2], 3, 3);
+    // Node 2 has cut both its children, so that it counts 2 for node 1 and stays. With one child
+    // cut, which is enough for node 2, or by the weight of all below it, it would have to go.
+    let cut_below = Table::new(4, &[0, 1, 2, 2], &[2, 2, 2, 2]);
+    add("cut below", cut_below, &QUICK, &[1, 0, 1, 2], 2, 4);
+    // A run of branches: each counts what it has left, and those below it keep their marks.
+    let branches = Table::new(5, &[0, 1, 2, 2, 1, 5], &[4, 1, 2, 4, 1, 1]);
+    add(
+        "branches",
+        branches.clone(),
+        &[Rightmost],
+        &[1, 1, 0, 1, 2, 0],
+        3,
+        4,
+    );
+    // Node 5 would fit the page of node 4, which has neither its parent nor its sibling.
+    add(
+        "branches",
+        branches,
+        &[DepthFirst],
+        &[1, 0, 1, 1, 1, 0],
+        4,
+        5,
+    );
+    // Node 4 would fit the page of its parent and its sibling, but node 3 has begun another.
+    let not_current = Table::new(4, &[0, 1, 2, 1], &[1, 2, 3, 1]);
+    add(
+        "not current",
+        not_current.clone(),
+        &[DepthFirst],
+        &[1, 0, 1, 1],
+        3,
+        3,
+    );
+    add(
+        "not current",
+        not_current,
+        &[Rightmost],
+        &[1, 0, 1, 0],
+        2,
+        4,
+    );
+    // The same of siblings: the last one would fit the page of its parent. Nor does rightmost cut a
+    // child and leave one to its right.
+    let left_behind = Table::new(4, &[0, 1, 1, 1], &[2, 1, 4, 1]);
+    add("left behind", left_behind, &QUICK, &[1, 0, 1, 1], 3, 3);
+    // Node 4 goes on with the run of node 3, although it would fit its parent's page, too.
+    let goes_on = Table::new(3, &[0, 1, 1, 1], &[1, 3, 1, 1]);
+    add("goes on", goes_on, &QUICK, &[1, 1, 1, 2], 3, 1);
+    // Nodes 4 and 5 stay with their parent, node 6 continues that parent's run, and node 7 stays.
+    let both = Table::new(5, &[0, 1, 1, 3, 3, 1, 6], &[2, 3, 1, 1, 1, 1, 1]);
+    add("both", both, &QUICK, &[1, 0, 1, 0, 0, 2, 0], 2, 5);
     list
 }
 

@@ -66,7 +66,8 @@ pub fn score_of_plan(tree: &Tree, marks: &[u8]) -> Option<Score> {
     feasible.then_some((weights.len(), weights[0]))
 }
 
-fn first_of_page(tree: &Tree, marks: &[u8], node: usize) -> usize {
+/// The first node of the page that a node is on, in a plan with allowed marks.
+pub fn first_of_page(tree: &Tree, marks: &[u8], node: usize) -> usize {
     match marks[node - 1] {
         0 => first_of_page(tree, marks, tree.parents[node]),
         2 => first_of_page(

@@ -57,6 +57,8 @@ planner!(plan_single, balduqen_plan_single);
 planner!(plan_pair, balduqen_plan_pair);
 planner!(plan_level, balduqen_plan_level);
 planner!(plan_best, balduqen_plan_best);
+planner!(plan_rightmost, balduqen_plan_rightmost);
+planner!(plan_depth_first, balduqen_plan_depth_first);
 
 pub fn write_archive(table: &[u8], marks: &[u8], archive: &mut [u8]) -> Answer {
     extern "C" {

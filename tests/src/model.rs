@@ -1,5 +1,5 @@
-//! A model of document 01 with request One of document 02: every entry with its answers and the
-//! buffers it leaves behind.
+//! A model of document 01 with requests One and Two of document 02: every entry with its answers
+//! and the buffers it leaves behind.
 //!
 //! It follows the documents' words closely and is not meant to be fast. The entries have the same
 //! shape as the library's, so that a test can run both on the same input.
@@ -9,11 +9,14 @@ mod best;
 mod greedy;
 mod plan;
 mod planners;
+mod quick;
 mod tree;
 
 pub use archive::{archive_bytes, archive_length, read_archive, write_archive};
 pub use plan::{judge, pages, verdict, Page};
-pub use planners::{plan_best, plan_level, plan_pair, plan_single, scratch_length};
+pub use planners::{
+    plan_best, plan_depth_first, plan_level, plan_pair, plan_rightmost, plan_single, scratch_length,
+};
 pub use tree::{read, read_as_before, read_sound, read_tree, word, Tree, MAX_LIMIT, MAX_NODES};
 
 /// A number and a place, and the verdict beside them where a plan is given or made and accepted.

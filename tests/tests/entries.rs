@@ -18,7 +18,7 @@ struct Asked {
     read_tree: Answer,
     judge: Answer,
     /// In the order of `KINDS`.
-    planners: [Answer; 4],
+    planners: [Answer; KINDS.len()],
     write_archive: Answer,
 }
 
@@ -53,7 +53,7 @@ impl Asked {
 
     fn expect_refused(&self, table: &[u8], number: u32, place: usize) {
         let refusal = Answer::refused(number, place);
-        assert_eq!(self.all(), [refusal; 7], "{}", show(table));
+        assert_eq!(self.all(), [refusal; 3 + KINDS.len()], "{}", show(table));
     }
 
     /// The verdicts of the planners are not looked at.
@@ -369,6 +369,32 @@ fn numbers_of_the_header() {
         numbers.contains(&number.to_string()).then_some(number)
     });
     assert!(listed.eq(&numbers[1..]));
+}
+
+/// The header declares the ten doors, each once.
+#[test]
+fn functions_of_the_header() {
+    let declared: Vec<&str> = HEADER
+        .lines()
+        .filter_map(|line| {
+            line.strip_prefix("balduqen_answer balduqen_")?
+                .split_once('(')
+        })
+        .map(|(name, _)| name)
+        .collect();
+    let doors = [
+        "read_tree",
+        "judge",
+        "plan_best",
+        "plan_level",
+        "plan_single",
+        "plan_pair",
+        "plan_rightmost",
+        "plan_depth_first",
+        "write_archive",
+        "read_archive",
+    ];
+    assert_eq!(declared, doors);
 }
 
 macro_rules! tests_of_entries {

@@ -9,6 +9,8 @@ mod cases;
 mod planners;
 #[path = "model/plans.rs"]
 mod plans;
+#[path = "model/quick.rs"]
+mod quick;
 #[path = "model/tree.rs"]
 mod tree;
 

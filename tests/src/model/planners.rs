@@ -1,6 +1,6 @@
-//! The four planner entries: refusals 1 to 9 and 14, the marks and the scratch left behind.
+//! The six planner entries: refusals 1 to 9 and 14, the marks and the scratch left behind.
 
-use super::{best, greedy, read, verdict, Answer, Tree};
+use super::{best, greedy, quick, read, verdict, Answer, Tree};
 
 /// The scratch words that a planner asks for.
 pub fn scratch_length(nodes: usize, limit: usize) -> usize {
@@ -21,6 +21,14 @@ pub fn plan_single(table: &[u8], marks: &mut [u8], scratch: &mut [u32]) -> Answe
 
 pub fn plan_pair(table: &[u8], marks: &mut [u8], scratch: &mut [u32]) -> Answer {
     plan(table, marks, scratch, greedy::pair)
+}
+
+pub fn plan_rightmost(table: &[u8], marks: &mut [u8], scratch: &mut [u32]) -> Answer {
+    plan(table, marks, scratch, quick::rightmost)
+}
+
+pub fn plan_depth_first(table: &[u8], marks: &mut [u8], scratch: &mut [u32]) -> Answer {
+    plan(table, marks, scratch, quick::depth_first)
 }
 
 fn plan(table: &[u8], marks: &mut [u8], scratch: &mut [u32], make: fn(&Tree) -> Vec<u8>) -> Answer {

@@ -198,26 +198,50 @@ planner_tests!(single, Kind::Single);
 planner_tests!(pair, Kind::Pair);
 planner_tests!(level, Kind::Level);
 planner_tests!(best, Kind::Best);
+planner_tests!(rightmost, Kind::Rightmost);
+planner_tests!(depth_first, Kind::DepthFirst);
 
-/// The best planner against exhaustive search. The model reads the tree; its judge and its planners
-/// are not asked.
+/// The best planner and the quick ones against exhaustive search. The model reads the tree; its judge
+/// and its planners are not asked.
 mod search {
     use super::*;
     use balduqen_tests::exhaustive::{best_of_plans, best_of_run_sets, score_of_plan, Score};
     use balduqen_tests::model::{read, Tree};
 
-    /// Checks one tree against its best score.
-    fn check(random: &mut Random, table: &[u8], best: fn(&Tree) -> Option<Score>) {
-        let tree = read(table).expect("an accepted table");
-        let (pages, root) = best(&tree).expect("an accepted tree is held within its limit");
+    /// The score of a planner's plan, which is weighed anew and has to be the planner's answer.
+    fn score(kind: Kind, random: &mut Random, table: &[u8], tree: &Tree) -> Score {
         let count = tree.node_count();
         let mut marks = random.bytes(count);
         let filling = random.number() as u32;
         let mut scratch = vec![filling; scratch_length(count, tree.limit as usize)];
-        let answer = ffi::plan_best(table, &mut marks, &mut scratch);
-        assert_eq!(answer, Answer::accepted(pages, root), "{}", show(table));
-        let made = score_of_plan(&tree, &marks);
-        assert_eq!(made, Some((pages, root)), "{marks:?}: {}", show(table));
+        let answer = kind.library()(table, &mut marks, &mut scratch);
+        let made = score_of_plan(tree, &marks);
+        let (pages, root) = made.unwrap_or_else(|| panic!("{kind:?} {marks:?}: {}", show(table)));
+        let told = Answer::accepted(pages, root);
+        assert_eq!(answer, told, "{kind:?} {marks:?}: {}", show(table));
+        // The library's judge is of the same mind.
+        let judged = ffi::judge(table, &marks);
+        assert_eq!(judged, told, "{kind:?} {marks:?}: {}", show(table));
+        (pages, root)
+    }
+
+    /// Checks one tree against its best score.
+    fn check(random: &mut Random, table: &[u8], best: fn(&Tree) -> Option<Score>) {
+        let tree = read(table).expect("an accepted table");
+        let best = best(&tree).expect("an accepted tree is held within its limit");
+        let made = score(Kind::Best, random, table, &tree);
+        assert_eq!(made, best, "{}", show(table));
+    }
+
+    /// Checks that one tree's best score is not undercut, and counts where it is not met.
+    fn check_quick(random: &mut Random, table: &[u8], seen: &mut [[usize; 2]; 2]) {
+        let tree = read(table).expect("an accepted table");
+        let best = best_of_plans(&tree).expect("an accepted tree is held within its limit");
+        for (kind, seen) in QUICK.into_iter().zip(seen) {
+            let made = score(kind, random, table, &tree);
+            assert!(best <= made, "{kind:?} {made:?}: {}", show(table));
+            seen[usize::from(best.0 < made.0)] += 1;
+        }
     }
 
     #[test]
@@ -247,6 +271,51 @@ mod search {
         for _ in 0..2000 {
             let table = any_table(random, 7, 10).bytes();
             check(random, &table, best_of_run_sets);
+        }
+    }
+
+    /// Each planner meets the fewest pages somewhere, and misses them somewhere.
+    fn expect_both(seen: [[usize; 2]; 2]) {
+        let mut counts = seen.iter().flatten();
+        assert!(counts.all(|&trees| trees >= 100), "{seen:?}");
+    }
+
+    #[test]
+    fn quick_of_all_small_trees() {
+        let random = &mut Random::new(812);
+        let mut seen = [[0; 2]; 2];
+        for_each_table(1..=5, &[1, 2, 3], &[3, 4, 5, 6], |table| {
+            check_quick(random, table, &mut seen);
+        });
+        expect_both(seen);
+    }
+
+    #[test]
+    fn quick_of_random_small_trees() {
+        let random = &mut Random::new(813);
+        let mut seen = [[0; 2]; 2];
+        for _ in 0..20000 {
+            let limit = random.pick(&[5, 8, 20]);
+            let table = any_table(random, 8, limit).bytes();
+            check_quick(random, &table, &mut seen);
+        }
+        expect_both(seen);
+    }
+
+    /// Where no search can be had, the library's best planner is not undercut.
+    #[test]
+    fn quick_of_large_trees() {
+        let random = &mut Random::new(814);
+        for round in 0..60 {
+            let limit = random.pick(&[1, 5, 30, 200]);
+            let count = random.pick(&[50, 200, 1024]);
+            let table = random_table(random, FORMS[round % 5], count, limit).bytes();
+            let tree = read(&table).expect("an accepted table");
+            let best = score(Kind::Best, random, &table, &tree);
+            for kind in QUICK {
+                let made = score(kind, random, &table, &tree);
+                assert!(best <= made, "{kind:?} {made:?}: {}", show(&table));
+            }
         }
     }
 }

@@ -7,7 +7,7 @@ use balduqen_tests::gen::*;
 use balduqen_tests::model::{read, Tree};
 
 /// A planner's score, with its answer checked against the pages weighed anew.
-fn score(kind: Kind, table: &[u8]) -> Score {
+pub fn score(kind: Kind, table: &[u8]) -> Score {
     let tree = read(table).expect("an accepted table");
     let (answer, marks) = plan(kind, table);
     let score = score_of_plan(&tree, &marks).expect("a feasible plan");
