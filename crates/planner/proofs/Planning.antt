@@ -10,7 +10,7 @@ use lib.ListN.{length, replicate}
 use Rattle.model.specs.Table.{maxNodes, maxLimit, Chain, limitOf, treeOf}
 use Rattle.model.specs.Refusals.{scratchWords, treeChecks, lentChecks, planChecks, passes, acceptedTree, accepted}
 use Rattle.model.specs.Refusals.{firstOf, readTree, judgePlan, Planned, planned, planBest}
-use Rattle.model.specs.Demand.{PlanPromise, BestPromise}
+use Rattle.model.specs.Demand.{PlanPromise, BestPromise, QuickPromise}
 use Rattle.model.specs.declared.Answer.{Answer}
 use Rattle.theory.specs.TableFacts.{AcceptedFacts, accepted-facts}
 use Rattle.theory.specs.Checks.{plan-never, accepted-pass, refused-fails, firstOf-pass, firstOf-stop, firstOf-all}
@@ -18,6 +18,7 @@ use Rattle.theory.specs.Checks.{andThen}
 use Rattle.theory.specs.PlanFeasible.{Judged, feasible-judged, judge-feasible}
 use Rattle.theory.specs.JudgeAnswers.{tree-accepted, marksAnswer, judge-then}
 use Rattle.theory.specs.PromisePlanner.{passes-lent, planned-done, planned-refused, plan-promise, best-promise}
+use Rattle.theory.specs.PromisePlanner.{quick-promise}
 use Rattle.judge.specs.Rows.{IsLayout}
 use Rattle.judge.specs.declared.pages.Layout.{Layout}
 use Rattle.planner.specs.Outcome.{outcome, PlanReady, FeasibleLayout}
@@ -99,3 +100,10 @@ plan-promised {t} {m} {s} steps good e =
 pub best-promised : {t m s m′ s′ : List ℕ} {r : Answer} → outcome r m′ s′ ≡ planBest t m s → BestPromise t m s r m′
 best-promised {t} {m} {s} e =
     rw (ap (λ (p : Planned). p .answer) e, ap (λ (p : Planned). p .marks) e) (best-promise t m s)
+
+-- a quick planner's plan is not below best's
+pub quick-promised : {t m′ s′ : List ℕ} {r : Answer} (m s : List ℕ) (steps : ℕ → Chain → List ℕ)
+    → (AcceptedFacts t → Judged t (steps (limitOf t) (treeOf t))) → outcome r m′ s′ ≡ planned steps t m s
+    → QuickPromise t r
+quick-promised {t} m s steps good e =
+    rw (ap (λ (p : Planned). p .answer) e) (quick-promise steps t m s good)

@@ -11,12 +11,15 @@ use judge::judge_pages;
 use judge::without_layout;
 use model::Answer;
 use pair::lay_pair;
+use quick::depth_first::lay_depth_first;
+use quick::rightmost::lay_rightmost;
 use single::lay_single;
 use table::accept;
 ghost use mathlib.Core.Path.{_≡_};
 ghost use Rattle.model.specs.Table.{limitOf, treeOf};
-ghost use Rattle.model.specs.Refusals.{planned, planBest, planLevel, planSingle, planPair};
-ghost use Rattle.model.specs.Demand.{PlanPromise, BestPromise};
+ghost use Rattle.model.specs.Refusals.{planned, planBest, planLevel, planSingle, planPair, planRightmost};
+ghost use Rattle.model.specs.Refusals.{planDepthFirst};
+ghost use Rattle.model.specs.Demand.{PlanPromise, BestPromise, QuickPromise};
 ghost use Rattle.planner.specs.Outcome.{outcome, stepsOf, PlanReady, FeasibleLayout};
 
 // Whose steps make the plan.
@@ -25,6 +28,8 @@ enum Planner {
     Level,
     Single,
     Pair,
+    Rightmost,
+    DepthFirst,
 }
 
 // The marks of an accepted tree.
@@ -38,6 +43,8 @@ fn lay_steps(planner: Planner, table: &[u8], marks: &mut [u8], scratch: &mut [u3
         Planner::Level => lay_best(table, false, marks, scratch),
         Planner::Single => lay_single(table, marks, scratch),
         Planner::Pair => lay_pair(table, marks, scratch),
+        Planner::Rightmost => lay_rightmost(table, marks),
+        Planner::DepthFirst => lay_depth_first(table, marks),
     }
 }
 
@@ -67,12 +74,13 @@ pub fn plan_best_pages(table: &[u8], marks: &mut [u8], scratch: &mut [u32]) -> J
     plan_pages(Planner::Best, table, marks, scratch)
 }
 
-// What every entry does.
+// What every entry does. Whatever the planner, its plan is not below best's, as the quick ones promise.
 fn make_plan(planner: Planner, table: &[u8], marks: &mut [u8], scratch: &mut [u32]) -> Answer
     ensures { λ r. ⌜ outcome r (now (marks .exit)) (now (scratch .exit))
         ≡ planned (stepsOf planner) (now (table .entry)) (now (marks .entry)) (now (scratch .entry)) ⌝ }
     ensures { λ r. ⌜ PlanPromise (now (table .entry)) (now (marks .entry)) (now (scratch .entry))
         r (now (marks .exit)) (now (scratch .exit)) ⌝ }
+    ensures { λ r. ⌜ QuickPromise (now (table .entry)) r ⌝ }
 {
     plan_pages(planner, table, marks, scratch).answer
 }
@@ -117,4 +125,26 @@ pub fn plan_pair(table: &[u8], marks: &mut [u8], scratch: &mut [u32]) -> Answer
         r (now (marks .exit)) (now (scratch .exit)) ⌝ }
 {
     make_plan(Planner::Pair, table, marks, scratch)
+}
+
+// Entry: the rightmost planner, one of the two quick ones. Its plan never has fewer pages than best's.
+pub fn plan_rightmost(table: &[u8], marks: &mut [u8], scratch: &mut [u32]) -> Answer
+    ensures { λ r. ⌜ outcome r (now (marks .exit)) (now (scratch .exit))
+        ≡ planRightmost (now (table .entry)) (now (marks .entry)) (now (scratch .entry)) ⌝ }
+    ensures { λ r. ⌜ PlanPromise (now (table .entry)) (now (marks .entry)) (now (scratch .entry))
+        r (now (marks .exit)) (now (scratch .exit)) ⌝ }
+    ensures { λ r. ⌜ QuickPromise (now (table .entry)) r ⌝ }
+{
+    make_plan(Planner::Rightmost, table, marks, scratch)
+}
+
+// Entry: the depth-first planner, the other quick one, with the same promise.
+pub fn plan_depth_first(table: &[u8], marks: &mut [u8], scratch: &mut [u32]) -> Answer
+    ensures { λ r. ⌜ outcome r (now (marks .exit)) (now (scratch .exit))
+        ≡ planDepthFirst (now (table .entry)) (now (marks .entry)) (now (scratch .entry)) ⌝ }
+    ensures { λ r. ⌜ PlanPromise (now (table .entry)) (now (marks .entry)) (now (scratch .entry))
+        r (now (marks .exit)) (now (scratch .exit)) ⌝ }
+    ensures { λ r. ⌜ QuickPromise (now (table .entry)) r ⌝ }
+{
+    make_plan(Planner::DepthFirst, table, marks, scratch)
 }

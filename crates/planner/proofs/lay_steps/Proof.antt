@@ -37,10 +37,21 @@ returns-4 c =
     let l = c .before .before .before .before in
     by-steps _ (l .before .before .before .enum-told4 .given .1) (l .lay-pair .ensures)
 
+returns-5 : tie.Need-returns-5
+returns-5 c =
+    let l = c .before .before in
+    by-steps _ (l .before .before .enum-told5 .given .1) (l .lay-rightmost .ensures)
+
+returns-6 : tie.Need-returns-6
+returns-6 c =
+    let l = c .before .before in
+    by-steps _ (l .before .before .enum-told6 .given .1) (l .lay-depth-first .ensures)
+
 pub lay-steps-spec : {M : Type 1} → statement M
 lay-steps-spec =
     tie.close
     (tie.spec (λ c. search needs) (λ c κs. search needs) (λ c. search needs) (λ c κs. search needs)
     (λ c. search needs) (λ c κs. search needs) (λ c. search needs) (λ c κs. search needs) (λ c. search needs)
-    (λ c. search needs) returns (λ c. search needs) (λ c. search needs) returns-2 (λ c. search needs)
-    (λ c. search needs) returns-3 (λ c. search needs) (λ c. search needs) returns-4)
+    (λ c κs. search needs) (λ c. search needs) (λ c κs. search needs) (λ c. search needs) (λ c. search needs) returns
+    (λ c. search needs) (λ c. search needs) returns-2 (λ c. search needs) (λ c. search needs) returns-3
+    (λ c. search needs) (λ c. search needs) returns-4 (λ c. search needs) returns-5 (λ c. search needs) returns-6)

@@ -7,7 +7,7 @@ use Rattle.planner.proofs.plan_best.Tie as tie
 returns : tie.Need-returns
 returns c =
     let made = c .before .before .before .before .make-plan .ensures in
-    (made .0, (made .1, best-promised (made .0)))
+    (made .0, (made .1 .0, best-promised (made .0)))
 
 pub plan-best-spec : {M : Type 1} → statement M
 plan-best-spec = tie.close (tie.spec (λ c κs. search needs) (λ c. search needs) (λ c. search needs) returns)
