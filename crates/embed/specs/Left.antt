@@ -3,7 +3,7 @@ use mathlib.Core.Path.{_≡_}
 use mathlib.Core.List.{List}
 use Prim.Native.Nat.{ℕ}
 use Rattle.model.specs.Refusals.{Planned, Written, Restored}
-use Rattle.model.specs.Demand.{WeightPromise, PlanPromise, BestPromise, WritePromise, ReadPromise}
+use Rattle.model.specs.Demand.{WeightPromise, PlanPromise, BestPromise, QuickPromise, WritePromise, ReadPromise}
 use Rattle.model.specs.declared.Answer.{Answer}
 use Rattle.model.specs.declared.Edition.{Edition}
 use Rattle.embed.specs.declared.Figures.{Figures}
@@ -34,6 +34,9 @@ PlanFigures t m s f marks scratch = FiguresOf (λ r. PlanPromise t m s r marks s
 
 abbrev pub BestFigures : List ℕ → List ℕ → List ℕ → Figures → List ℕ → Type 0
 BestFigures t m s f marks = FiguresOf (λ r. BestPromise t m s r marks) f
+
+abbrev pub QuickFigures : List ℕ → Figures → Type 0
+QuickFigures t f = FiguresOf (λ r. QuickPromise t r) f
 
 abbrev pub WriteFigures : Edition → List ℕ → List ℕ → List ℕ → Figures → List ℕ → Type 0
 WriteFigures e t m out f archive = FiguresOf (λ r. WritePromise e t m out r archive) f

@@ -5,9 +5,9 @@ use model::Verdict;
 ghost use mathlib.Core.Path.{_≡_};
 ghost use Rattle.model.specs.Archive.{firstEdition};
 ghost use Rattle.model.specs.Refusals.{readTree, judgePlan, planBest, planLevel, planSingle, planPair, writeArchive};
-ghost use Rattle.model.specs.Refusals.{readArchive};
+ghost use Rattle.model.specs.Refusals.{planRightmost, planDepthFirst, readArchive};
 ghost use Rattle.embed.specs.Figures.{figuresBy, figuresOf};
-ghost use Rattle.embed.specs.Left.{WeightFigures, left, leftBy, PlanFigures, BestFigures};
+ghost use Rattle.embed.specs.Left.{WeightFigures, left, leftBy, PlanFigures, BestFigures, QuickFigures};
 ghost use Rattle.embed.specs.Left.{filled, filledBy, WriteFigures, refilled, refilledBy, ReadFigures};
 
 // A number and a place, and the verdict's page count and root weight, both 0 unless the number is 0.
@@ -120,6 +120,36 @@ pub extern "C" fn balduqen_plan_pair(table: &[u8], marks: &mut [u8], scratch: &m
         r (now (marks .exit)) (now (scratch .exit)) ⌝ }
 {
     flatten(planner::plan_pair(table, marks, scratch))
+}
+
+#[no_mangle]
+pub extern "C" fn balduqen_plan_rightmost(
+    table: &[u8],
+    marks: &mut [u8],
+    scratch: &mut [u32],
+) -> Figures
+    ensures { λ r. ⌜ left r (now (marks .exit)) (now (scratch .exit))
+        ≡ leftBy (planRightmost (now (table .entry)) (now (marks .entry)) (now (scratch .entry))) ⌝ }
+    ensures { λ r. ⌜ PlanFigures (now (table .entry)) (now (marks .entry)) (now (scratch .entry))
+        r (now (marks .exit)) (now (scratch .exit)) ⌝ }
+    ensures { λ r. ⌜ QuickFigures (now (table .entry)) r ⌝ }
+{
+    flatten(planner::plan_rightmost(table, marks, scratch))
+}
+
+#[no_mangle]
+pub extern "C" fn balduqen_plan_depth_first(
+    table: &[u8],
+    marks: &mut [u8],
+    scratch: &mut [u32],
+) -> Figures
+    ensures { λ r. ⌜ left r (now (marks .exit)) (now (scratch .exit))
+        ≡ leftBy (planDepthFirst (now (table .entry)) (now (marks .entry)) (now (scratch .entry))) ⌝ }
+    ensures { λ r. ⌜ PlanFigures (now (table .entry)) (now (marks .entry)) (now (scratch .entry))
+        r (now (marks .exit)) (now (scratch .exit)) ⌝ }
+    ensures { λ r. ⌜ QuickFigures (now (table .entry)) r ⌝ }
+{
+    flatten(planner::plan_depth_first(table, marks, scratch))
 }
 
 #[no_mangle]
