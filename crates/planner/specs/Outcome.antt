@@ -1,6 +1,6 @@
 -- What a planner leaves: its answer, the marks and the scratch; what it is lent where nothing is refused, and what its
 -- plan is then.
--- Defines outcome, stepsOf, PlanReady, LayReady, FeasibleLayout. Proves steps-judged. Assumes nothing.
+-- Defines outcome, stepsOf, PlanReady, FeasibleLayout. Proves steps-judged. Assumes nothing.
 use Prim.Native.Nat.{ℕ, _≤_}
 use mathlib.Core.Path.{_≡_}
 use mathlib.Core.List.{List}
@@ -44,12 +44,6 @@ pub record PlanReady (t a s : List ℕ) : Type 0 where
   pub tree : AcceptedFacts t
   pub marks-long : length a ≡ nodeCount t
   pub words : scratchWords (nodeCount t) (limitOf t) ≤ length s
-
--- what laying a plan asks of what it was lent
-pub record LayReady (t a s : List ℕ) : Type 0 where
-  pub tree : AcceptedFacts t
-  pub marks-long : length a ≡ nodeCount t
-  pub long : nodeCount t ≤ length s
 
 -- the plan is feasible, and this is its layout
 pub record FeasibleLayout (t m : List ℕ) (l : Layout) : Type 0 where

@@ -1,5 +1,4 @@
-// What all planners share: the refusals, the words that the scratch keeps of each node, and the clearing of the
-// scratch.
+// What all planners share: the refusals, and the clearing of the scratch.
 use model::Answer;
 use table::accept;
 use table::earlier;
@@ -8,10 +7,8 @@ use table::read_tree;
 use table::words::limit_of;
 use table::words::node_count;
 ghost use mathlib.Core.Path.{_≡_};
-ghost use Prim.Native.Nat.{_≤_};
 ghost use lib.ListN.{length, replicate};
 ghost use Rattle.model.specs.Refusals.{planChecks, firstOf, accepted};
-ghost use Rattle.planner.specs.Kept.{kept};
 
 // The tree's refusals, 8 and 9: the answer, or acceptance with no verdict yet.
 pub fn check_plan(table: &[u8], marks: &[u8], scratch: &[u32]) -> Answer
@@ -27,14 +24,6 @@ pub fn check_plan(table: &[u8], marks: &[u8], scratch: &[u32]) -> Answer
     let short = place_if(scratch.len() < words as usize, words);
     let wrong = place_if(marks.len() != nodes as usize, nodes as u32);
     earlier(8, wrong, earlier(9, short, accept()))
-}
-
-// What the scratch keeps of node v; 0 for no node.
-pub fn kept_at(scratch: &[u32], v: u16) -> u32
-    requires { ⌜ v ≤ length (now scratch) ⌝ }
-    ensures { λ r. ⌜ r ≡ kept (now (scratch .entry)) v ⌝ }
-{
-    if v == 0 { 0 } else { scratch[(v as usize) - 1] }
 }
 
 // Every word of the scratch is 0.

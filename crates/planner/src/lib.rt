@@ -1,19 +1,17 @@
 // The planners: each refuses, or lays its plan, clears the scratch and answers with the judge.
 mod common;
-mod pair;
-mod single;
 
 use best::lay_best;
 use common::check_plan;
 use common::clear;
+use greedy::pair::lay_pair;
+use greedy::single::lay_single;
 use judge::Judgement;
 use judge::judge_pages;
 use judge::without_layout;
 use model::Answer;
-use pair::lay_pair;
 use quick::depth_first::lay_depth_first;
 use quick::rightmost::lay_rightmost;
-use single::lay_single;
 use table::accept;
 ghost use mathlib.Core.Path.{_≡_};
 ghost use Rattle.model.specs.Table.{limitOf, treeOf};

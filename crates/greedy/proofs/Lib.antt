@@ -1,0 +1,4 @@
+pub mod Scan
+pub mod Cut
+pub mod Settle
+pub mod TwoWay
