@@ -34,7 +34,7 @@ treeA = bytesOf (1 ∷ 1 ∷ 1 ∷ 1 ∷ 0 ∷ 0 ∷ [])
 abbrev treeB : List ℕ
 treeB = bytesOf (1 ∷ 3 ∷ 4 ∷ 1 ∷ 0 ∷ 0 ∷ [])
 
--- root 2, children 1 1 1, limit K: C for 5 and D for 4
+-- root 2, children 1 1 1, limit K: C for 5 and D for 4; in 3 a run of all children just fits
 abbrev treeCD : ℕ → List ℕ
 treeCD K = bytesOf (4 ∷ K ∷ 2 ∷ 1 ∷ 2 ∷ 0 ∷ 1 ∷ 2 ∷ 0 ∷ 3 ∷ 1 ∷ 3 ∷ 0 ∷ 4 ∷ 1 ∷ 4 ∷ 0 ∷ 0 ∷ [])
 
@@ -138,6 +138,8 @@ quick =
     ∷ plans planDepthFirst (treeCD 5) (1 ∷ 0 ∷ 0 ∷ 0 ∷ []) 1 5
     ∷ plans planRightmost (treeCD 4) (1 ∷ 1 ∷ 2 ∷ 2 ∷ []) 2 2
     ∷ plans planDepthFirst (treeCD 4) (1 ∷ 0 ∷ 0 ∷ 1 ∷ []) 2 4
+    ∷ plans planRightmost (treeCD 3) (1 ∷ 1 ∷ 2 ∷ 2 ∷ []) 2 2
+    ∷ plans planDepthFirst (treeCD 3) (1 ∷ 0 ∷ 1 ∷ 2 ∷ []) 2 3
     ∷ plans planRightmost (treeE 5 1) (1 ∷ 1 ∷ 1 ∷ 0 ∷ 0 ∷ 1 ∷ []) 4 5
     ∷ plans planDepthFirst (treeE 5 1) (1 ∷ 1 ∷ 2 ∷ 0 ∷ 1 ∷ 1 ∷ []) 4 5
     ∷ plans planRightmost treeF (1 ∷ 0 ∷ 1 ∷ []) 2 4
