@@ -3,17 +3,15 @@
 -- Proves settle-cuts, sum-fits, settled-start, settled-node, settled-plan. Assumes nothing.
 use Prim.Native.Nat.{ℕ, zero, suc, _+_, _-_, _*_, _≤_, _<_}
 use native.Mathlib.Omega.{arith}
-use native.Mathlib.Nat.{eq-zero-or-pos}
-use mathlib.Core.Path.{_≡_, refl, sym, _∙_, ap, ap₂}
-use mathlib.Core.Bool.{Bool, true, false}
+use mathlib.Core.Path.{_≡_, refl, sym, _∙_, ap}
 use mathlib.Core.Logic.{_⊎_, inl, inr, ⊎-elim}
 use mathlib.Core.List.{List, [], _∷_, reverse}
 use lib.ListN.{length, getD, set, replicate, length-set, length-replicate}
 use lib.Seq.{getD-set-same, getD-set-other}
 use lib.Dec.{eqb}
-use borrow.Author.Tests.{eqb-true, eqb-false, eq-eqb, ne-eqb}
+use borrow.Author.Tests.{eqb-true, eqb-false, ne-eqb}
 use Rattle.model.specs.Basics.{pick}
-use Rattle.model.specs.Table.{maxLimit, maxNodes, slots, nodeCount, limitOf, weightAt, labelAt, firstAt, nextAt, treeOf}
+use Rattle.model.specs.Table.{maxLimit, slots, nodeCount, limitOf, weightAt, firstAt, nextAt, treeOf}
 use Rattle.model.specs.Plan.{prevAt, parentAt, markAt}
 use Rattle.model.specs.Steps.{siblingsBy, total, cutRuns, rightRest, rightRests, layRightmost, rightmostMarks}
 use Rattle.theory.specs.Bools.{bool-cases}

@@ -13,7 +13,7 @@ use lib.Seq.{getD-set-same, getD-set-other}
 use lib.Dec.{eqb, ltb, leb}
 use borrow.Author.Tests.{ne-eqb, ltb-true, ltb-false, leb-true, le-leb, lt-leb}
 use Rattle.model.specs.Basics.{pick}
-use Rattle.model.specs.Table.{maxLimit, nodeCount, limitOf, weightAt}
+use Rattle.model.specs.Table.{nodeCount, limitOf, weightAt}
 use Rattle.model.specs.Plan.{prevAt, parentAt, stays, markAt}
 use Rattle.model.specs.Steps.{total, whileOver, cutRuns, runLeft, stayed, rightRest}
 use Rattle.theory.specs.Bools.{both-true}

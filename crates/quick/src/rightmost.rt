@@ -51,8 +51,10 @@ fn cut_runs(
 {
     let limit = limit_of(table) as u32;
     let weight = weight_at(table, v) as u32;
+    // the node with those children that stay, and with all up to this one
     let mut kept = weight;
     let mut left = weight + sum;
+    // the run that has taken this child: what it weighs with it, and whether there is one
     let mut run: u32 = 0;
     let mut taken = false;
     let mut child = last as usize;

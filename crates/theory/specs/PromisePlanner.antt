@@ -3,7 +3,7 @@
 -- above any feasible plan (best-not-above), a quick planner's among them (quick-promise).
 -- Proves lent-passes, passes-lent (right buffers are checks that pass), planned-done, planned-refused (what a planner
 -- leaves), plan-passes (a planner that answers 0 was lent an accepted tree and right buffers). Assumes nothing.
-use Prim.Native.Nat.{ℕ, _+_, _≤_}
+use Prim.Native.Nat.{ℕ, _≤_}
 use mathlib.Core.Path.{_≡_, sym, ap, _∙_}
 use mathlib.Core.Bool.{true, false, not}
 use mathlib.Core.List.{List, [], _∷_}
