@@ -9,7 +9,8 @@ use Rattle.model.specs.Basics.{pick}
 use Rattle.model.specs.Table.{Chain, end, node}
 use Rattle.model.specs.Plan.{stays, begins, continues}
 
--- ---- What all four share: from siblings, or sides, the largest is taken off first, until their sum has room
+-- ---- What best, level, single and pair share: from siblings, or sides, the largest is taken off first, until their
+-- sum has room
 
 -- what one of them weighs now, what can still be taken off it, and whether it was
 pub record Member : Type 0 where
@@ -245,12 +246,14 @@ unfoldable pub total : List ℕ → ℕ
 total [] = 0
 total (r ∷ rs) = r + total rs
 
--- what becomes of the uncut children rs of a node of weight w: while node and remainders exceed K, they are cut
+-- a choice for the uncut children rs of a node of weight w: while the node's weight and its uncut remainder exceed K
+-- they are cut, and else kept
 unfoldable pub whileOver : ℕ → ℕ → List ℕ → List ℕ → List ℕ → List ℕ
 whileOver K w rs cut kept = pick (leb (w + total rs) K) kept cut
 
--- The marks of the uncut children: a run starts at the last of them. A run of weight `sum` takes left neighbours while
--- the sum of their remainders stays within K; the leftmost of the run gets 1, the others 2.
+-- The marks of the uncut children, where a run starts at the last of them; and the marks from a run's last member so far
+-- on, where `sum` is what the run weighs with it: the run takes left neighbours while the sum of their remainders stays
+-- within K, and the leftmost of the run gets 1, the others 2.
 unfoldable mutual
   pub cutRuns : ℕ → ℕ → List ℕ → List ℕ
   cutRuns K w [] = []
@@ -272,10 +275,11 @@ stayed (r ∷ rs) (m ∷ ms) = pick (eqb m stays) r 0 + stayed rs ms
 unfoldable pub rightRest : ℕ → ℕ → List ℕ → ℕ
 rightRest K w rs = w + stayed rs (cutRuns K w rs)
 
--- the remainders of a chain of siblings
+-- children first: the remainders of a chain of siblings
 unfoldable pub rightRests : ℕ → Chain → List ℕ
 rightRests K c = siblingsBy (rightRest K) c []
 
+-- a child has the mark that the cuts of its node's children give it
 abbrev pub layRightmost : ℕ → Chain → List ℕ → List ℕ
 layRightmost K = layDown (λ (m : ℕ). m) (λ w kids m. reverse (cutRuns K w (rightRests K kids)))
 
@@ -312,6 +316,7 @@ pageAfter K (node w l kids next) up back p =
     let q : Page = pageWith K w up back p in
     pageAfter K next up (q .number) (pageAfter K kids (q .number) 0 q)
 
+-- the marks of a chain of siblings in node order, under a parent on page `up` and after a sibling on page `back`
 unfoldable pub layDepthFirst : ℕ → Chain → ℕ → ℕ → Page → List ℕ
 layDepthFirst K end up back p = []
 layDepthFirst K (node w l kids next) up back p =
@@ -319,5 +324,6 @@ layDepthFirst K (node w l kids next) up back p =
     pageMark K w up back p ∷ layDepthFirst K kids (q .number) 0 q
     ++ layDepthFirst K next up (q .number) (pageAfter K kids (q .number) 0 q)
 
+-- node 1 has neither parent nor sibling, and there is no page yet
 unfoldable pub depthFirstMarks : ℕ → Chain → List ℕ
 depthFirstMarks K c = layDepthFirst K c 0 0 (record { number = 0; weight = 0 })
