@@ -9,7 +9,7 @@ pub mod Lists
 pub mod Words
 -- Lists of checks
 pub mod Checks
--- Tables of sound form: facts, numbering, links, siblings, bytes, and words put into bytes
+-- Tables of sound form: facts, numbering, links, siblings, marks laid by number, bytes, and words put into bytes
 pub mod TableFacts
 pub mod PlanShape
 pub mod TableNumbered
