@@ -1,7 +1,6 @@
 -- Arrays with a slot for each node or page, and one for 0: what a pass over the nodes in their order keeps in them.
 -- Defines Row, SlotsHold, prevTo. Proves slots-start, slots-store, row-add (a store); prevs-turn, prior-is (the sibling
--- just before each node); parent-is (its parent); home-is (its page). Assumes
--- nothing.
+-- just before each node); parent-is (its parent); home-is (its page). Assumes nothing.
 use Prim.Native.Nat.{ℕ, zero, suc, _+_, _-_, _≤_, _<_}
 use native.Mathlib.Omega.{arith}
 use native.Mathlib.Numerals.{add-one}
