@@ -1,5 +1,6 @@
 -- Document 01, 'Trees on both sides' and the examples of 'What is refused', computed from the definitions: one result
--- for the starred cases and one for the refusals; one for the quick planners and one for trees with unfiled lots.
+-- for the starred cases and one for the refusals; one for the quick planners, one for trees with unfiled lots and one
+-- for trees with notes that weigh nothing.
 -- Assumes nothing.
 use mathlib.Core.Path.{_≡_, refl}
 use Prim.Native.Nat.{ℕ}
@@ -17,6 +18,7 @@ use Rattle.model.specs.Refusals as Refusals
 use Rattle.model.specs.Basics.{every, sameList}
 use Rattle.model.specs.Table.{bytesOf, nodeCount, limitOf}
 use Rattle.model.specs.Runs.{Run, holds, withinLimit, runsOf, runCount, rootWeight}
+use Rattle.model.specs.Steps.{Child, stopsAt}
 use Rattle.model.specs.Archive.{firstEdition, archiveOf}
 use Rattle.model.specs.Refusals.{refusedForWeight, readTree, judgePlan, planBest, planLevel, planSingle}
 use Rattle.model.specs.Refusals.{planPair, writeArchive, writeUnfiled, Written, readArchive, scratchWords}
@@ -76,7 +78,7 @@ unfolding Basics.pick Basics.when Basics.atPlace Basics.sumTo Basics.countTo Bas
     Archive.headWords Archive.nextPage Archive.pageRecord Archive.nextOnPage Archive.nodeRecord Archive.archiveOf
     Archive.nodesIn Archive.limitIn Archive.pagesIn Archive.pageFieldIn Archive.nodeFieldIn Archive.parentIn
     Archive.firstIn Archive.nextIn Archive.tableIn Archive.beginsIn Archive.continuesIn Archive.markIn Archive.marksIn
-    Refusals.shortTable Refusals.badCount Refusals.badLimit Refusals.badLength Refusals.noWeight Refusals.badWalk
+    Refusals.shortTable Refusals.badCount Refusals.badLimit Refusals.badLength Refusals.badWalk
     Refusals.heavyNode Refusals.badMarks Refusals.shortScratch Refusals.markRefused Refusals.pageRefused
     Refusals.badOutput Refusals.noArchive Refusals.noLabel Refusals.headChecks Refusals.nodeChecks
     Refusals.weightChecks Refusals.lentChecks Refusals.markChecks Refusals.filmChecks Refusals.backChecks
@@ -171,7 +173,7 @@ refusals =
     ∷ answers (readTree (0 ∷ 0 ∷ 0 ∷ 5 ∷ [])) 2 0
     ∷ answers (readTree (0 ∷ 1 ∷ 0 ∷ 0 ∷ [])) 3 0
     ∷ answers (readTree (0 ∷ 1 ∷ 0 ∷ 5 ∷ 0 ∷ [])) 4 12
-    ∷ answers (readTree (treeE 5 0)) 5 3
+    ∷ answers (readTree (treeE 5 0)) 0 0
     ∷ answers (readTree (0 ∷ 1 ∷ 0 ∷ 5 ∷ 0 ∷ 1 ∷ 0 ∷ 1 ∷ 0 ∷ 5 ∷ 0 ∷ 0 ∷ [])) 6 1
     ∷ answers (readTree (treeE 4 1)) 7 1
     ∷ answers (judgePlan (treeE 5 1) (replicate 5 0)) 8 6
@@ -206,7 +208,7 @@ unfiledF three = bytesOf (3 ∷ 4 ∷ 1 ∷ 1 ∷ 2 ∷ 0 ∷ 3 ∷ 0 ∷ 0 ∷ 
 abbrev bestF : List ℕ
 bestF = 1 ∷ 1 ∷ 0 ∷ []
 
--- after 5 and before 6 and 7; no entry but the reader takes such a tree, and only the writer without 14 writes it
+-- before 6 and 7; no entry but the reader takes such a tree, and only the writer without 14 writes it
 pub unfiled : List Bool
 unfiled =
     let lent : List ℕ = replicate 46 7 in
@@ -214,7 +216,7 @@ unfiled =
     let w = writeArchive firstEdition (unfiledF 3) bestF lent in
     let r = readArchive firstEdition film (replicate 28 7) (replicate 3 7) in
     answers (readTree (unfiledF 3)) 14 2
-    ∷ answers (readTree (unfiledF 0)) 5 3
+    ∷ answers (readTree (unfiledF 0)) 14 2
     ∷ answers (readTree (0 ∷ 1 ∷ 0 ∷ 5 ∷ 0 ∷ 1 ∷ 0 ∷ 0 ∷ 0 ∷ 5 ∷ 0 ∷ 0 ∷ [])) 14 1
     ∷ answers (readTree (unfiledF 5)) 14 2
     ∷ not (refusedForWeight (unfiledF 5))
@@ -230,6 +232,50 @@ unfiled =
 pub unfiled-hold : every computed unfiled ≡ true
 unfolding computed unfiled
 unfiled-hold = refl
+
+-- ---- Notes that weigh nothing
+
+-- root r, children a, b, c, limit K
+abbrev treeW : ℕ → ℕ → ℕ → ℕ → ℕ → List ℕ
+treeW K r a b c = bytesOf (4 ∷ K ∷ r ∷ 1 ∷ 2 ∷ 0 ∷ a ∷ 2 ∷ 0 ∷ 3 ∷ b ∷ 3 ∷ 0 ∷ 4 ∷ c ∷ 4 ∷ 0 ∷ 0 ∷ [])
+
+-- all children in one run; in the limit 2 it has more nodes than K
+abbrev oneRun : List ℕ
+oneRun = 1 ∷ 1 ∷ 2 ∷ 2 ∷ []
+
+abbrev child : ℕ → ℕ → Child
+child rest gain = record { rest = rest; gain = gain }
+
+-- the planners where the middle child weighs nothing, where the root does and where all do; the judge where the first
+-- child does or the last; film of such a tree; and the stop, below K, at it and past it, which rests alone do not give
+pub weightless : List Bool
+weightless =
+    let film : List ℕ = archiveOf firstEdition (treeW 2 2 1 0 1) oneRun in
+    let r = readArchive firstEdition film (replicate 36 7) (replicate 4 7) in
+    plans planBest (treeW 2 2 1 0 1) oneRun 2 2
+    ∷ plans planLevel (treeW 2 2 1 0 1) oneRun 2 2
+    ∷ plans planSingle (treeW 2 2 1 0 1) (1 ∷ 1 ∷ 0 ∷ 1 ∷ []) 3 2
+    ∷ plans planPair (treeW 2 2 1 0 1) oneRun 2 2
+    ∷ plans planRightmost (treeW 2 2 1 0 1) oneRun 2 2
+    ∷ plans planDepthFirst (treeW 2 2 1 0 1) oneRun 2 2
+    ∷ plans planBest (treeW 2 0 1 1 1) (1 ∷ 1 ∷ 0 ∷ 0 ∷ []) 2 2
+    ∷ plans planBest (treeW 1 0 0 0 0) (1 ∷ 0 ∷ 0 ∷ 0 ∷ []) 1 0
+    ∷ plans planRightmost (treeW 1 0 0 0 0) (1 ∷ 0 ∷ 0 ∷ 0 ∷ []) 1 0
+    ∷ plans planDepthFirst (treeW 1 0 0 0 0) (1 ∷ 0 ∷ 0 ∷ 0 ∷ []) 1 0
+    ∷ saysFeasible (judgePlan (treeW 2 2 0 1 1) oneRun .beside) 2 2
+    ∷ saysFeasible (judgePlan (treeW 2 2 1 1 0) oneRun .beside) 2 2
+    ∷ saysFeasible (judgePlan (treeW 1 0 0 0 0) oneRun .beside) 2 0
+    ∷ leaves (writeArchive firstEdition (treeW 2 2 1 0 1) oneRun (replicate 54 7)) film
+    ∷ keeps (r .answer) (r .table) (treeW 2 2 1 0 1) 0 0
+    ∷ keeps (r .answer) (r .marks) oneRun 0 0
+    ∷ not (stopsAt 2 (child 1 0 ∷ child 1 0 ∷ []))
+    ∷ stopsAt 2 (child 2 0 ∷ child 1 0 ∷ [])
+    ∷ not (stopsAt 2 (child 2 1 ∷ child 1 0 ∷ []))
+    ∷ []
+
+pub weightless-hold : every computed weightless ≡ true
+unfolding computed weightless plans
+weightless-hold = refl
 
 -- ---- Sequences of sibling runs of E: its best plan's in any order, and those that do not hold it, or too heavy
 

@@ -37,9 +37,10 @@ pub record HeldWithin (t : List ℕ) : Type 0 where
   pub within : withinLimit t runs ≡ true
 
 -- Of the answer r to the table t: a tree of sound form is refused with 7 exactly when no sequence of sibling runs
--- holds it within the limit.
-abbrev pub WeightPromise : List ℕ → Answer → Type 0
-WeightPromise t r = soundForm t ≡ true → (r .number ≡ 7) ↔ (HeldWithin t → ⊥)
+-- holds it within the limit, and 5, which was given for a weight of 0, is never given.
+pub record WeightPromise (t : List ℕ) (r : Answer) : Type 0 where
+  pub seven : soundForm t ≡ true → (r .number ≡ 7) ↔ (HeldWithin t → ⊥)
+  pub five : r .number ≡ 5 → ⊥
 
 -- ---- Planners
 

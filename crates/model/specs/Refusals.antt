@@ -1,5 +1,5 @@
--- Document 01, 'What is refused', with 14 of document 02: the list of refusals, the checks of each entry in their
--- order, and for each entry its answer and every lent buffer left behind, as one definition of all it was lent.
+-- Document 01, 'What is refused', with 14 and without 5 by document 02: the list of refusals, the checks of each entry
+-- in their order, and for each entry its answer and every lent buffer left behind, as one definition of all it was lent.
 use Prim.Native.Nat.{ℕ, _+_, _*_}
 use mathlib.Core.Bool.{Bool, true, false, not, _&&_, _||_}
 use mathlib.Core.List.{List, [], _∷_, _++_}
@@ -70,9 +70,7 @@ badLength t =
     let size : ℕ = tableBytes (nodeCount t) in
     record { answer = refused 4; place = when (not (eqb (length t) size)) size }
 
--- 5: a weight is 0; place the first such node
-unfoldable pub noWeight : List ℕ → Check
-noWeight t = record { answer = refused 5; place = firstTo (nodeCount t) (λ v. eqb (weightAt t v) 0) }
+-- 5 is retired: it was given for a weight of 0, which is allowed everywhere since document 02, Three
 
 -- 6: the walk fails; place 0 if node 1 has a sibling, else the nodes met in order before it failed
 unfoldable pub badWalk : List ℕ → Check
@@ -123,7 +121,7 @@ headChecks t = shortTable t ∷ badCount t ∷ badLimit t ∷ badLength t ∷ []
 
 -- the nodes and their links
 unfoldable pub nodeChecks : List ℕ → List Check
-nodeChecks t = noWeight t ∷ noLabel t ∷ badWalk t ∷ []
+nodeChecks t = noLabel t ∷ badWalk t ∷ []
 
 -- the nodes' weights against the limit
 unfoldable pub weightChecks : List ℕ → List Check

@@ -132,9 +132,9 @@ runOf K run = reduce K (map asMember run)
 unfoldable pub lightest : List Child → ℕ
 lightest run = restSum (map asMember run) - gainSum (map asMember run)
 
--- stretching left stops as soon as the lightest total reaches K; that run is still tried
+-- stretching left stops only once the lightest total passes K: that run is no candidate, and no longer one is
 unfoldable pub stopsAt : ℕ → List Child → Bool
-stopsAt K run = leb K (lightest run)
+stopsAt K run = ltb K (lightest run)
 
 -- The entry at start s after the children of the list, the last child first; and the candidates whose run goes on to
 -- the left of a run already tried, the earliest child first.

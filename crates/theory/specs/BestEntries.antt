@@ -10,12 +10,10 @@ use lib.ListN.{length}
 use Rattle.model.specs.Basics.{pick}
 use Rattle.model.specs.Plan.{begins, continues}
 use Rattle.model.specs.Steps.{Member, Child, Choice, Entry, restSum, takenCount, winner, staying, runChoices, running}
-use Rattle.model.specs.Steps.{runOf, lightest, entryAt, stretched}
+use Rattle.model.specs.Steps.{runOf, stopsAt, entryAt, stretched}
 use Rattle.theory.specs.BestGreedy.{best, Picked, pickedNone, pickedOne, Gainful, Spared, runOf-least, RunReduced}
-use Rattle.theory.specs.BestGreedy.{reducedNone, reducedOne, reduced-offers, runOf-reduced}
-use Rattle.theory.specs.BestLevel.{Fair, stopping, stopsAt-stopping, stopping-less, lightestOf, lightest-nil}
-use Rattle.theory.specs.BestLevel.{lightest-cons, RunSoFar, noRun, aRun, Level, empty, stay, begin, go}
-use Rattle.theory.specs.BestLevel.{run-within}
+use Rattle.theory.specs.BestGreedy.{reducedNone, reducedOne, reduced-offers, runOf-reduced, picked-goes}
+use Rattle.theory.specs.BestLevel.{Fair, RunSoFar, noRun, aRun, Level, empty, stay, begin, go, run-within}
 use Rattle.theory.specs.BestCandidates.{AllOf, AnyOf, all-append, any-left, any-right, winner-all, Below}
 use Rattle.theory.specs.BestCandidates.{winner-below, stayed, ran, staying-all, staying-any, running-all}
 use Rattle.theory.specs.BestCandidates.{running-any}
@@ -26,27 +24,13 @@ record Extended (K : ℕ) (ks : List Child) (cs : List Choice) (n x : ℕ) : Typ
   run : RunSoFar
   level : Level K ks cs n x run
 
--- a run may go on with these members, where l is the lightest total of those that it has but the first
-abbrev Reachable : ℕ → ℕ → List Child → Type 0
-Reachable K l [] = Unit {0}
-Reachable K l (k ∷ run) = stopping K (l + lightest (k ∷ run)) ≡ false
-
-reachable-more : (K l : ℕ) (k : Child) (run : List Child) → Gainful (k ∷ run)
-    → stopping K (l + lightest (k ∷ run)) ≡ false → Reachable K (l + lightestOf k) run
-reachable-more K l k [] g s = tt
-reachable-more K l k (j ∷ run) g s = stopping-less K _ _ s (omega (arith, lightest-cons k (j ∷ run) g))
-
-run-goes : {K n n′ x y l : ℕ} {ks run : List Child} {cs : List Choice} {ms : List Member}
-    → RunReduced run ms → Gainful run → Level K ks cs n x (aRun y l) → y + restSum ms ≤ K → Reachable K l run
-    → n′ ≡ n + takenCount ms
+run-goes : {K n n′ x y : ℕ} {ks run : List Child} {cs : List Choice} {ms : List Member}
+    → RunReduced run ms → Level K ks cs n x (aRun y) → y + restSum ms ≤ K → n′ ≡ n + takenCount ms
     → Extended K (reverseAux run ks) (reverseAux (runChoices continues ms) cs) n′ x
 unfolding restSum takenCount runChoices
-run-goes {n = n} {n′ = n′} reducedNone g p h s e =
-    let q : n′ ≡ n = omega arith in rw q (record { run = _; level = p })
-run-goes {K} {n = n} {l = l} (reducedOne {k = k} {run = run} o r) g p h s e =
-    let part : stopping K (l + lightestOf k) ≡ false = stopping-less K _ _ s (omega (arith, lightest-cons k run g)) in
-    run-goes r (g .1) (go (reduced-offers o) refl (omega arith) refl part refl p) (omega arith)
-    (reachable-more K l k run g s) (omega arith)
+run-goes {n = n} {n′ = n′} reducedNone p h e = let q : n′ ≡ n = omega arith in rw q (record { run = _; level = p })
+run-goes (reducedOne o r) p h e =
+    run-goes r (go (reduced-offers o) refl (omega arith) refl p) (omega arith) (omega arith)
 
 -- the entry e at start s is a plan of the level, usable there
 pub record Usable (K s : ℕ) (ks : List Child) (e : Entry) : Type 0 where
@@ -63,13 +47,13 @@ stayed-usable {k = k} r =
     record { sum = r .sum + k .rest; run = noRun; level = level; total = omega arith; within = r .within }
 
 ran-usable : {K s : ℕ} {k : Child} {run ks : List Child} {e : Entry} {ms : List Member}
-    → Gainful (k ∷ run) → RunReduced (k ∷ run) ms → Reachable K 0 run → restSum ms ≤ K → Usable K s ks e
+    → RunReduced (k ∷ run) ms → restSum ms ≤ K → Usable K s ks e
     → Usable K s (reverseAux (k ∷ run) ks) (ran ms e)
 unfolding restSum takenCount runChoices
-ran-usable {e = e} g (reducedOne {m = m} {ms = ms} o q) a h r =
+ran-usable {e = e} (reducedOne {m = m} {ms = ms} o q) h r =
     let n : ℕ = e .count + 1 + (pick (m .taken) 1 0 + takenCount ms) in
     let x : Extended _ _ _ n _ =
-    run-goes q (g .1) (begin (reduced-offers o) (omega arith) refl refl (r .level)) (omega arith) a (omega arith) in
+    run-goes q (begin (reduced-offers o) (omega arith) refl (r .level)) (omega arith) (omega arith) in
     let level = rw (reverseAux-eq (runChoices begins (m ∷ ms)) (e .choices)) at (x .level) in
     record { sum = r .sum; run = x .run; level = level; total = r .total; within = r .within }
 
@@ -78,9 +62,9 @@ abbrev longer : ℕ → ℕ → List Child → Child → List Child → List Ent
 longer K s run k ks = running K (runOf K (k ∷ run)) (entryAt K ks s) ++ stretched K s (k ∷ run) ks
 
 stretched-cons : (K s : ℕ) (run : List Child) (k : Child) (ks : List Child)
-    → stretched K s run (k ∷ ks) ≡ pick (stopping K (lightest run)) [] (longer K s run k ks)
+    → stretched K s run (k ∷ ks) ≡ pick (stopsAt K run) [] (longer K s run k ks)
 unfolding stretched
-stretched-cons K s run k ks = rw stopsAt-stopping
+stretched-cons K s run k ks = refl
 
 -- the candidates of the entry at start s
 abbrev candidates : ℕ → Child → List Child → ℕ → List Entry
@@ -92,7 +76,7 @@ entryAt-cons K k ks s = refl
 
 record LevelSound (K : ℕ) (ks : List Child) : Type 0 where
   entry : (s : ℕ) → s ≤ K → Usable K s ks (entryAt K ks s)
-  stretch : (s : ℕ) (k : Child) (run : List Child) → s ≤ K → Gainful (k ∷ run) → Reachable K 0 run
+  stretch : (s : ℕ) (k : Child) (run : List Child) → s ≤ K → Gainful (k ∷ run)
       → AllOf (Usable K s (reverseAux (k ∷ run) ks)) (stretched K s (k ∷ run) ks)
 
 level-sound-nil : (K : ℕ) → LevelSound K []
@@ -100,19 +84,19 @@ unfolding entryAt stretched
 level-sound-nil K =
     record {
       entry = λ s h. record { sum = 0; run = noRun; level = empty refl refl; total = omega arith; within = h };
-      stretch = λ s k run h g a. tt;
+      stretch = λ s k run h g. tt;
     }
 
 module _ (K : ℕ) (k : Child) (ks : List Child) (f : Fair K (k ∷ ks)) (before : LevelSound K ks) (s : ℕ) (h : s ≤ K)
   where
-    longer-sound : (run : List Child) → Gainful run → Reachable K 0 run
+    longer-sound : (run : List Child) → Gainful run
         → AllOf (Usable K s (reverseAux (k ∷ run) ks)) (longer K s run k ks)
-    longer-sound run g a =
+    longer-sound run g =
         let ms : List Member = runOf K (k ∷ run) in
         let reduced = runOf-reduced K (k ∷ run) (f .1, g) in
         all-append _ (running K ms (entryAt K ks s)) _
-        (running-all _ K ms _ (λ w. ran-usable {run = run} (f .1, g) reduced a w (before .entry s h)))
-        (before .stretch s k run h (f .1, g) a)
+        (running-all _ K ms _ (λ w. ran-usable {run = run} reduced w (before .entry s h)))
+        (before .stretch s k run h (f .1, g))
 
     -- there is a candidate: the run of one child is within K
     candidate : AnyOf (λ (c : Entry). Unit {0}) (candidates K k ks s)
@@ -128,18 +112,17 @@ module _ (K : ℕ) (k : Child) (ks : List Child) (f : Fair K (k ∷ ks)) (before
         rw entryAt-cons
         (winner-all P (λ (c : Entry). Unit {0}) s (candidates K k ks s)
         (all-append P (staying K s k (entryAt K ks (s + k .rest))) _
-        (staying-all P K s k _ (λ w. stayed-usable (before .entry (s + k .rest) w))) (longer-sound [] tt tt))
+        (staying-all P K s k _ (λ w. stayed-usable (before .entry (s + k .rest) w))) (longer-sound [] tt))
         candidate)
 
     stretch-sound-cons : (j : Child) (run : List Child) → Gainful (j ∷ run)
         → AllOf (Usable K s (reverseAux (k ∷ j ∷ run) ks)) (stretched K s (j ∷ run) (k ∷ ks))
     unfolding pick
-    stretch-sound-cons j run g = rw stretched-cons (ask (stopping K (lightest (j ∷ run))) refl)
+    stretch-sound-cons j run g = rw stretched-cons (ask (stopsAt K (j ∷ run)))
       where
-        ask : (b : Bool) → stopping K (lightest (j ∷ run)) ≡ b
-            → AllOf (Usable K s (reverseAux (k ∷ j ∷ run) ks)) (pick b [] (longer K s (j ∷ run) k ks))
-        ask true e = tt
-        ask false e = longer-sound (j ∷ run) g (stopping-less K _ _ e (omega arith))
+        ask : (b : Bool) → AllOf (Usable K s (reverseAux (k ∷ j ∷ run) ks)) (pick b [] (longer K s (j ∷ run) k ks))
+        ask true = tt
+        ask false = longer-sound (j ∷ run) g
 
 level-sound : (K : ℕ) (ks : List Child) → Fair K ks → LevelSound K ks
 level-sound K [] f = level-sound-nil K
@@ -147,7 +130,7 @@ level-sound K (k ∷ ks) f =
     let before = level-sound K ks (f .2) in
     record {
       entry = entry-sound-cons K k ks f before;
-      stretch = λ s j run h g a. stretch-sound-cons K k ks f before s h j run g;
+      stretch = λ s j run h g. stretch-sound-cons K k ks f before s h j run g;
     }
 
 pub entry-sound : (K : ℕ) (ks : List Child) → Fair K ks → (s : ℕ) → s ≤ K → Usable K s ks (entryAt K ks s)
@@ -159,18 +142,18 @@ entry-sound K ks f = level-sound K ks f .entry
 record LevelLeast (K : ℕ) (ks : List Child) : Type 0 where
   entry : (s : ℕ) {cs : List Choice} {n x : ℕ} {o : RunSoFar} → Level K ks cs n x o → s + x ≤ K
       → Below (entryAt K ks s) n (s + x)
-  stretch : (s t : ℕ) {j : Child} {run : List Child} {cs : List Choice} {m z n x y l : ℕ}
-      → Gainful (j ∷ run) → Picked (j ∷ run) m z → Level K ks cs n x (aRun y l) → y + z ≤ K
-      → stopping K (l + lightest (j ∷ run)) ≡ false → s + x ≤ K → n + m ≤ t
+  stretch : (s t : ℕ) {j : Child} {run : List Child} {cs : List Choice} {m z n x y : ℕ}
+      → Gainful (j ∷ run) → Picked (j ∷ run) m z → Level K ks cs n x (aRun y) → y + z ≤ K
+      → s + x ≤ K → n + m ≤ t
       → AnyOf (λ (c : Entry). Below c t (s + x)) (stretched K s (j ∷ run) ks)
 
-run-members : {K n x y l : ℕ} {ks : List Child} {cs : List Choice} → Level K ks cs n x (aRun y l) → 1 ≤ length ks
-run-members (begin o h e f p) = omega arith
-run-members (go o e h f s q p) = omega arith
+run-members : {K n x y : ℕ} {ks : List Child} {cs : List Choice} → Level K ks cs n x (aRun y) → 1 ≤ length ks
+run-members (begin o h e p) = omega arith
+run-members (go o e h f p) = omega arith
 
 level-least-nil : (K : ℕ) → LevelLeast K []
 unfolding entryAt
-level-least-nil K = record { entry = entry; stretch = λ s t g p l w e h i. absurd (omega (arith, run-members l)) }
+level-least-nil K = record { entry = entry; stretch = λ s t g p l w h i. absurd (omega (arith, run-members l)) }
   where
     entry : (s : ℕ) {cs : List Choice} {n x : ℕ} {o : RunSoFar} → Level K [] cs n x o → s + x ≤ K
         → Below (entryAt K [] s) n (s + x)
@@ -181,33 +164,25 @@ ran-below : {e : Entry} {n z n′ t : ℕ} (ms : List Member) → Below e n z �
     → Below (ran ms e) n′ z
 ran-below ms b p q = record { count = omega arith; rest = λ i. b .rest (omega arith) }
 
--- a run that goes on with k may go on with the members after it
-reachable-left : (K l l′ : ℕ) (k : Child) (run : List Child) → Gainful (k ∷ run) → l ≡ l′ + lightestOf k
-    → stopping K l ≡ false → Reachable K l run → stopping K (l′ + lightest (k ∷ run)) ≡ false
-reachable-left K l l′ k [] g e t a = stopping-less K _ _ t (omega (arith, lightest-cons k [] g, lightest-nil))
-reachable-left K l l′ k (j ∷ run) g e t a = stopping-less K _ _ a (omega (arith, lightest-cons k (j ∷ run) g))
-
 module _ {K : ℕ} {k : Child} {ks : List Child} (f : Fair K (k ∷ ks)) (before : LevelLeast K ks) (s : ℕ) where
-  longer-least : (t : ℕ) {m z n x y l : ℕ} {run : List Child} {cs : List Choice}
-      → Gainful run → Picked run m z → Level K (k ∷ ks) cs n x (aRun y l) → y + z ≤ K → Reachable K l run
-      → s + x ≤ K → n + m ≤ t
+  longer-least : (t : ℕ) {m z n x y : ℕ} {run : List Child} {cs : List Choice}
+      → Gainful run → Picked run m z → Level K (k ∷ ks) cs n x (aRun y) → y + z ≤ K → s + x ≤ K → n + m ≤ t
       → AnyOf (λ (c : Entry). Below c t (s + x)) (longer K s run k ks)
-  longer-least t {run = run} g p (begin o a b c l) w e h i =
+  longer-least t {run = run} g p (begin o a b l) w h i =
       let ms : List Member = runOf K (k ∷ run) in
       let least : Spared K _ ms = runOf-least (f .1, g) (pickedOne o refl refl p) (omega arith) in
       any-left _ (running K ms (entryAt K ks s)) _
       (running-any _ K ms (entryAt K ks s) (least .within)
       (ran-below ms (before .entry s l h) (least .fewest) (omega arith)))
-  longer-least t {l = y} {run = run} g p (go {l′ = y′} o a b c d u l) w e h i =
+  longer-least t {run = run} g p (go o a b c l) w h i =
       any-right _ (running K (runOf K (k ∷ run)) (entryAt K ks s)) _
-      (before .stretch s t (f .1, g) (pickedOne o refl refl p) l (omega arith)
-      (reachable-left K y y′ k run (f .1, g) c d e) h (omega arith))
+      (before .stretch s t (f .1, g) (pickedOne o refl refl p) l (omega arith) h (omega arith))
 
-  run-least : {n x y l : ℕ} {cs : List Choice} → Level K (k ∷ ks) cs n x (aRun y l) → s + x ≤ K
+  run-least : {n x y : ℕ} {cs : List Choice} → Level K (k ∷ ks) cs n x (aRun y) → s + x ≤ K
       → AnyOf (λ (c : Entry). Below c n (s + x)) (candidates K k ks s)
   run-least {n} l h =
       any-right _ (staying K s k (entryAt K ks (s + k .rest))) _
-      (longer-least n tt (pickedNone refl refl) l (omega (arith, run-within l)) tt h (omega arith))
+      (longer-least n tt (pickedNone refl refl) l (omega (arith, run-within l)) h (omega arith))
 
   entry-least-cons : {n x : ℕ} {cs : List Choice} {o : RunSoFar} → Level K (k ∷ ks) cs n x o → s + x ≤ K
       → AnyOf (λ (c : Entry). Below c n (s + x)) (candidates K k ks s)
@@ -215,8 +190,8 @@ module _ {K : ℕ} {k : Child} {ks : List Child} (f : Fair K (k ∷ ks)) (before
       let b = before .entry (s + k .rest) l (omega arith) in
       any-left _ (staying K s k (entryAt K ks (s + k .rest))) _
       (staying-any _ K s k _ (omega arith) (record { count = b .count; rest = λ i. omega (arith, b .rest i) }))
-  entry-least-cons (begin o w e q l) h = run-least (begin o w e q l) h
-  entry-least-cons (go o e w q t u l) h = run-least (go o e w q t u l) h
+  entry-least-cons (begin o w e l) h = run-least (begin o w e l) h
+  entry-least-cons (go o e w q l) h = run-least (go o e w q l) h
 
 level-least : (K : ℕ) (ks : List Child) → Fair K ks → LevelLeast K ks
 unfolding pick
@@ -226,9 +201,8 @@ level-least K (k ∷ ks) f =
     record {
       entry = λ s {cs} {n} {x} l h.
           rw entryAt-cons (winner-below s (candidates K k ks s) n (s + x) (entry-least-cons f before s l h));
-      stretch = λ s t {j} {run} g p l w e h i.
-          rw (stretched-cons, stopping-less K _ (lightest (j ∷ run)) e (omega arith))
-          (longer-least f before s t g p l w e h i);
+      stretch = λ s t {j} {run} g p l w h i.
+          rw (stretched-cons, picked-goes p (omega arith)) (longer-least f before s t g p l w h i);
     }
 
 pub entry-least : {K n x : ℕ} {ks : List Child} {cs : List Choice} {o : RunSoFar} (s : ℕ) → Fair K ks

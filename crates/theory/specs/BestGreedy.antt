@@ -1,15 +1,18 @@
 -- What `reduce` makes of the members of a run: it takes the largest gains first, so whatever choice of gains brings
 -- the sum of the rests down to the room, `reduce` does too, and takes no more of them.
 -- Defines Offers (what a child offers), Picked (an offer of each member of a run), Gainful, Spared and RunReduced
--- (what a run's members are reduced to). Proves runOf-least and runOf-reduced. Assumes nothing.
+-- (what a run's members are reduced to). Proves runOf-least and runOf-reduced, and that the stretch does not stop at a
+-- run that is within K by any offers (picked-goes). Assumes nothing.
 use Prim.Native.Nat.{ℕ, zero, suc, _+_, _-_, _≤_}
 use mathlib.Core.Path.{_≡_, refl}
 use mathlib.Core.Bool.{Bool, true, false}
 use mathlib.Core.List.{List, [], _∷_, map}
 use mathlib.Core.Logic.{inl, inr}
 use native.Mathlib.Omega.{arith}
+use borrow.Author.Tests.{le-ltb}
 use Rattle.model.specs.Basics.{pick}
-use Rattle.model.specs.Steps.{Member, restSum, takenCount, largestGain, Child, asMember, runOf}
+use Rattle.model.specs.Steps.{Member, restSum, gainSum, takenCount, largestGain, Child, asMember, runOf, lightest}
+use Rattle.model.specs.Steps.{stopsAt}
 use Rattle.theory.specs.Reduce.{EachMember, Earliest, here, there, largest-earliest, Reduction, ended, turned}
 use Rattle.theory.specs.Reduce.{reduce-reduction, reduce-keeps}
 use Rattle.theory.specs.ReduceCount.{Sound, asMember-sound, earliest-sound, earliest-rest, earliest-taken}
@@ -106,6 +109,17 @@ pub data Picked : List Child → ℕ → ℕ → Type 0 where
   pickedNone : {m z : ℕ} → m ≡ 0 → z ≡ 0 → Picked [] m z
   pickedOne : {k : Child} {run : List Child} {b : Bool} {e r m z m′ z′ : ℕ}
       → Offers k b e r → m ≡ e + m′ → z ≡ r + z′ → Picked run m′ z′ → Picked (k ∷ run) m z
+
+-- whatever the offers are, they come to no less than the run's lightest total
+picked-lightest : {run : List Child} {m z : ℕ} → Picked run m z → lightest run ≤ z
+unfolding lightest restSum gainSum asMember
+picked-lightest (pickedNone e f) = omega arith
+picked-lightest (pickedOne (best e₁ f₁) e f p) = omega (arith, picked-lightest p)
+picked-lightest (pickedOne (second e₁ l f₁) e f p) = omega (arith, picked-lightest p)
+
+pub picked-goes : {K m z : ℕ} {run : List Child} → Picked run m z → z ≤ K → stopsAt K run ≡ false
+unfolding stopsAt
+picked-goes p h = le-ltb _ _ (omega (arith, picked-lightest p))
 
 -- every gain is part of its rest
 abbrev pub Gainful : List Child → Type 0

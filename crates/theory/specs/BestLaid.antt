@@ -44,16 +44,16 @@ record NodeLaid (gains : Bool) (K w : ℕ) (kids : Chain) (b : Bool) (e r : ℕ)
 -- whether a sibling may continue a run
 abbrev inRunSoFar : RunSoFar → Bool
 inRunSoFar noRun = false
-inRunSoFar (aRun y l) = true
+inRunSoFar (aRun y) = true
 
 -- the run so far has room for what is carried to it
 abbrev HasRoom : ℕ → RunSoFar → ℕ → Type 0
 HasRoom K noRun c = Unit {0}
-HasRoom K (aRun y l) c = y + c ≤ K
+HasRoom K (aRun y) c = y + c ≤ K
 
 room-zero : {K n x : ℕ} {ks : List Child} {cs : List Choice} (o : RunSoFar) → Level K ks cs n x o → HasRoom K o 0
 room-zero noRun l = tt
-room-zero (aRun y z) l = omega (arith, run-within l)
+room-zero (aRun y) l = omega (arith, run-within l)
 
 -- The marks of a chain after some siblings, laid under the choices ds of a plan of the level with n pages, and x
 -- that stays: the choices are split into those of the chain and those of the siblings before, for which the plan is
@@ -89,11 +89,11 @@ chain-laid-node {w = w} {l} {kids = kids} {next} kid (chainLaid own s (stay {o =
     let p : NodeLaid _ _ w kids false 0 _ = kid false 0 _ (best refl refl) in
     chainLaid (record { mark = stays; second = false } ∷ own) s v
     (weighs-stays w l kids next _ _ (inRunSoFar o) (p .marks) q) (room-zero o v) (omega arith) (omega arith)
-chain-laid-node {w = w} {l} {kids = kids} {next} kid (chainLaid own s (begin {b = b} {o = o} f c e z v) q h t u) =
+chain-laid-node {w = w} {l} {kids = kids} {next} kid (chainLaid own s (begin {b = b} {o = o} f c e v) q h t u) =
     let p : NodeLaid _ _ w kids b _ _ = kid b _ _ f in
     chainLaid (record { mark = begins; second = b } ∷ own) s v
     (weighs-begins w l kids next _ _ (inRunSoFar o) (p .marks) q (omega arith)) (room-zero o v) t (omega arith)
-chain-laid-node {w = w} {l} {kids = kids} {next} kid (chainLaid own s (go {b = b} f c d e g i v) q h t u) =
+chain-laid-node {w = w} {l} {kids = kids} {next} kid (chainLaid own s (go {b = b} f c d e v) q h t u) =
     let p : NodeLaid _ _ w kids b _ _ = kid b _ _ f in
     chainLaid (record { mark = continues; second = b } ∷ own) s v
     (weighs-continues w l kids next _ _ (p .marks) q) (omega arith) t (omega arith)

@@ -13,8 +13,8 @@ use Rattle.model.specs.Runs.{runsOf}
 use Rattle.model.specs.Steps.{bestMarks, levelMarks, singleMarks, pairMarks, rightmostMarks}
 use Rattle.model.specs.Demand.{Lowest}
 use Rattle.theory.specs.TableFacts.{AcceptedFacts}
-use Rattle.theory.specs.TableNumbered.{Rooted, sound-root, tree-within, tree-positive}
-use Rattle.theory.specs.PlanShape.{allowed, weighed, AllWithin, EachWithin, Positive}
+use Rattle.theory.specs.TableNumbered.{Rooted, sound-root, tree-within}
+use Rattle.theory.specs.PlanShape.{allowed, weighed, AllWithin, EachWithin}
 use Rattle.theory.specs.PlanLaid.{FeasibleShape}
 use Rattle.theory.specs.PlanFeasible.{Judged, ShapePlan, judged-bridge, shape-judged}
 use Rattle.theory.specs.PlanBridge.{count-bridge, weight-bridge}
@@ -30,14 +30,12 @@ module _ {t : List ℕ} (a : AcceptedFacts t) where
 
   -- what is shown of a root with its children holds of the tree of the table
   by-shape : (P : Chain → Type 0)
-      → ((w l : ℕ) (kids : Chain) → EachWithin K (node w l kids end) → Positive (node w l kids end)
-      → P (node w l kids end))
+      → ((w l : ℕ) (kids : Chain) → EachWithin K (node w l kids end) → P (node w l kids end))
       → P (treeOf t)
   by-shape P f =
       let r : Rooted t = sound-root (a .sound) in
       rw (r .shape)
-      (f (weightAt t 1) (labelAt t 1) (r .kids) (rw (r .shape) at (tree-within a))
-      (rw (r .shape) at (tree-positive (a .sound))))
+      (f (weightAt t 1) (labelAt t 1) (r .kids) (rw (r .shape) at (tree-within a)))
 
   -- a planner whose marks are feasible by shape
   abbrev Plans : (ℕ → Chain → List ℕ) → Chain → Type 0
@@ -47,7 +45,7 @@ module _ {t : List ℕ} (a : AcceptedFacts t) where
       → ((w l : ℕ) (kids : Chain) → EachWithin K (node w l kids end) → Plans steps (node w l kids end))
       → Judged t (steps K (treeOf t))
   plan-judged steps f =
-      let p = by-shape (Plans steps) (λ w l kids e p. f w l kids e) in
+      let p = by-shape (Plans steps) f in
       shape-judged a _ (p .0) (p .1)
 
   pub best-judged : Judged t (bestMarks K (treeOf t))
@@ -77,7 +75,7 @@ module _ {t : List ℕ} (a : AcceptedFacts t) where
   no-better m j =
       let s : ShapePlan t m = judged-bridge a m (j .long) .0 j in
       by-shape (λ c. allowed false c m ≡ true → AllWithin K (weighed c m .pages) → NoBetterThanBest K c m)
-      (λ w l kids e p q h. best-least K w l kids m e p q (s .first) h) (s .allows) (s .within)
+      (λ w l kids e q h. best-least K w l kids m e q (s .first) h) (s .allows) (s .within)
 
   abbrev bestPlan : List ℕ
   bestPlan = bestMarks K (treeOf t)

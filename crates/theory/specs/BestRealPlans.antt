@@ -15,7 +15,6 @@ use Rattle.theory.specs.PlanShape.{EachWithin}
 use Rattle.theory.specs.PlanWeighs.{all-within-left, all-within-right}
 use Rattle.theory.specs.BestGreedy.{Offers, best, second}
 use Rattle.theory.specs.BestLevel.{Fair, RunSoFar, aRun, Level, empty, stay, begin, go}
-use Rattle.theory.specs.BestReaching.{ReachingAfter, Reaching}
 use Rattle.theory.specs.BestNodes.{bestEntry, node-rest, node-least, children-fair}
 use Rattle.theory.specs.BestLaid.{pagesBelow}
 
@@ -50,7 +49,7 @@ child-matched k (suc (suc e)) r g p = twoMore (omega arith)
 data Ahead (n y n′ : ℕ) : Bool → RunSoFar → Type 0 where
   fewer : {after : Bool} {o : RunSoFar} → n′ < n → Ahead n y n′ after o
   closed : {o : RunSoFar} → n′ ≤ n → Ahead n y n′ false o
-  lighter : {after : Bool} {y′ l : ℕ} → n′ ≤ n → y′ ≤ y → Ahead n y n′ after (aRun y′ l)
+  lighter : {after : Bool} {y′ : ℕ} → n′ ≤ n → y′ ≤ y → Ahead n y n′ after (aRun y′)
 
 data SiblingsMatched (K : ℕ) (ks : List Child) (after : Bool) (n x y : ℕ) : Type 0 where
   siblings : {cs : List Choice} {n′ x′ : ℕ} {o : RunSoFar}
@@ -67,28 +66,28 @@ module _ {K : ℕ} {k : Child} {ks : List Child} (f : Fair K (k ∷ ks)) where
   match-stays zero (siblings l i a) h =
       siblings (stay refl l) (omega (arith, h .equal (omega arith))) (closed (omega (arith, ahead-pages a)))
   match-stays (suc e) (siblings l i a) h =
-      siblings (begin (best refl refl) (f .0) refl refl l) (omega arith) (closed (omega (arith, ahead-pages a)))
+      siblings (begin (best refl refl) (f .0) refl l) (omega arith) (closed (omega (arith, ahead-pages a)))
 
   match-begins : {after : Bool} {n x y e r : ℕ} → SiblingsMatched K ks after n x y → ChildMatched k e r → r ≤ K
       → SiblingsMatched K (k ∷ ks) true (n + 1 + e) x r
   match-begins (siblings l i a) (alike o h j) w =
-      siblings (begin o (omega arith) refl refl l) i (lighter (omega (arith, ahead-pages a)) j)
+      siblings (begin o (omega arith) refl l) i (lighter (omega (arith, ahead-pages a)) j)
   match-begins (siblings l i a) (twoMore h) w =
-      siblings (begin (best refl refl) (f .0) refl refl l) i (fewer (omega (arith, ahead-pages a)))
+      siblings (begin (best refl refl) (f .0) refl l) i (fewer (omega (arith, ahead-pages a)))
 
-  match-continues : {n x y e r : ℕ} → ReachingAfter K ks → SiblingsMatched K ks true n x y → ChildMatched k e r
+  match-continues : {n x y e r : ℕ} → SiblingsMatched K ks true n x y → ChildMatched k e r
       → y + r ≤ K → SiblingsMatched K (k ∷ ks) true (n + e) x (y + r)
-  match-continues {y = y} {r = r} g (siblings l i (fewer a)) (alike {r′ = r′} o h j) w =
+  match-continues {y = y} {r = r} (siblings l i (fewer a)) (alike {r′ = r′} o h j) w =
       let less : r′ ≤ y + r = omega arith in
-      siblings (begin o (omega arith) refl refl l) i (lighter (omega arith) less)
-  match-continues g (siblings l i (fewer a)) (twoMore h) w =
-      siblings (begin (best refl refl) (f .0) refl refl l) i (fewer (omega arith))
-  match-continues {y = y} {r = r} g (siblings l i (lighter {y′ = y′} a b)) (alike {r′ = r′} o h j) w =
+      siblings (begin o (omega arith) refl l) i (lighter (omega arith) less)
+  match-continues (siblings l i (fewer a)) (twoMore h) w =
+      siblings (begin (best refl refl) (f .0) refl l) i (fewer (omega arith))
+  match-continues {y = y} {r = r} (siblings l i (lighter {y′ = y′} a b)) (alike {r′ = r′} o h j) w =
       let fits : y′ + r′ ≤ K = omega arith in
       let less : y′ + r′ ≤ y + r = omega arith in
-      siblings (go o refl fits refl (g .reach l o fits) refl l) i (lighter (omega arith) less)
-  match-continues g (siblings l i (lighter a b)) (twoMore h) w =
-      siblings (begin (best refl refl) (f .0) refl refl l) i (fewer (omega arith))
+      siblings (go o refl fits refl l) i (lighter (omega arith) less)
+  match-continues (siblings l i (lighter a b)) (twoMore h) w =
+      siblings (begin (best refl refl) (f .0) refl l) i (fewer (omega arith))
 
 -- ---- A chain of siblings
 
@@ -163,23 +162,23 @@ module _ {K : ℕ} (w : ℕ) (a b : Weights) where
   -- One more sibling, of mark k, whose own plan has so many pages more than its best: `rest` matches the siblings
   -- after it.
   match-node : {n x y more after-below : ℕ} {kid : Child} {ks all : List Child} (below k : ℕ) (after : Bool)
-      → Fair K (kid ∷ ks) → ReachingAfter K ks → allowedMark after k ≡ true → RunRoom K after y (joined k w a b .carry)
+      → Fair K (kid ∷ ks) → allowedMark after k ≡ true → RunRoom K after y (joined k w a b .carry)
       → AllWithin K (joined k w a b .pages) → SiblingsMatched K ks after n x y → w + a .stay ≤ K
       → NoWorse kid more (w + a .stay) → length (a .pages) ≡ below + more
       → ((n′ x′ y′ : ℕ) → SiblingsMatched K (kid ∷ ks) (runs k) n′ x′ y′ → RunRoom K (runs k) y′ (b .carry)
       → ChainMatched K all after-below (n′ + length (b .pages)) (x′ + b .stay))
       → ChainMatched K all (below + after-below) (n + length (joined k w a b .pages)) (x + joined k w a b .stay)
   unfolding allowedMark runs joined AllWithin
-  match-node {more = more} below zero after f g m r h p w′ c e rest =
+  match-node {more = more} below zero after f m r h p w′ c e rest =
       chain-matched-more (rest _ _ _ (match-stays f more p c) tt) (simp length-append (omega arith)) (omega arith)
-  match-node below (suc zero) after f g m r h p w′ c e rest =
+  match-node below (suc zero) after f m r h p w′ c e rest =
       chain-matched-more (rest _ _ _ (match-begins f p (child-matched _ _ _ (f .1) c) w′) (h .0))
       (simp length-append (omega arith)) (omega arith)
-  match-node below (suc (suc zero)) false f g m r h p w′ c e rest = absurd (false≢true m)
-  match-node below (suc (suc zero)) true f g m r h p w′ c e rest =
-      chain-matched-more (rest _ _ _ (match-continues f g p (child-matched _ _ _ (f .1) c) (omega arith)) (omega arith))
+  match-node below (suc (suc zero)) false f m r h p w′ c e rest = absurd (false≢true m)
+  match-node below (suc (suc zero)) true f m r h p w′ c e rest =
+      chain-matched-more (rest _ _ _ (match-continues f p (child-matched _ _ _ (f .1) c) (omega arith)) (omega arith))
       (simp length-append (omega arith)) (omega arith)
-  match-node below (suc (suc (suc k))) after f g m r h p w′ c e rest = absurd (false≢true m)
+  match-node below (suc (suc (suc k))) after f m r h p w′ c e rest = absurd (false≢true m)
 
 -- no sibling yet
 match-none : (K : ℕ) → SiblingsMatched K [] false 0 0 0
@@ -192,15 +191,15 @@ chain-matched-end (siblings l i a) =
     record { choices = _; pages = _; sum = _; run = _; level = l; few = omega arith; light = i }
 
 match-chain : {K n x y : ℕ} (after : Bool) (c : Chain) (before : List Child) (ms : List ℕ)
-    → EachWithin K c → Fair K before → Reaching K before c → SiblingsMatched K before after n x y
+    → EachWithin K c → Fair K before → SiblingsMatched K before after n x y
     → allowed after c ms ≡ true → AllWithin K (weighed c ms .pages) → RunRoom K after y (weighed c ms .carry)
     → weighed c ms .stay ≤ K
     → ChainMatched K (childrenFrom true K c before) (pagesBelow true K c) (n + length (weighed c ms .pages))
     (x + weighed c ms .stay)
-unfolding siblingsBy EachWithin Reaching allowed weighed pagesBelow childrenOf
-match-chain after end before ms e f g m a h r s = chain-matched-more (chain-matched-end m) (omega arith) (omega arith)
-match-chain after (node w l kids next) before [] e f g m a h r s = absurd (false≢true a)
-match-chain {K} {y = y} after (node w l kids next) before (k ∷ ms) e f g m a h r s =
+unfolding siblingsBy EachWithin allowed weighed pagesBelow childrenOf
+match-chain after end before ms e f m a h r s = chain-matched-more (chain-matched-end m) (omega arith) (omega arith)
+match-chain after (node w l kids next) before [] e f m a h r s = absurd (false≢true a)
+match-chain {K} {y = y} after (node w l kids next) before (k ∷ ms) e f m a h r s =
     let ns : List ℕ = drop (size kids) ms in
     let A : Weights = weighed kids ms in
     let B : Weights = weighed next ns in
@@ -210,16 +209,16 @@ match-chain {K} {y = y} after (node w l kids next) before (k ∷ ms) e f g m a h
     let t : NodeParts K w A B = node-parts w A B y k after (fine .0) r h s in
     let q : KidPlan K w kids (length (A .pages)) (A .stay) =
     kid-plan (children-fair true K kids [] (e .1) tt) (omega (arith, t .own))
-    (match-chain false kids [] ms (e .1) tt (g .1) (match-none K) (fine .1) (t .kids) tt (omega (arith, t .own))) in
+    (match-chain false kids [] ms (e .1) tt (match-none K) (fine .1) (t .kids) tt (omega (arith, t .own))) in
     let more : List Child = childOf true K w (childrenFrom true K kids []) ∷ before in
     let fair : Fair K more = children-fair true K (node w l kids end) before (e .0, e .1, tt) f in
-    match-node w A B _ k after fair (g .0) (fine .0) r h m (t .own) (q .noworse) (q .counted)
-    (λ n′ x′ y′ u v. match-chain (runs k) next more ns (e .2) fair (g .2) u (both .1) (t .next) v (t .stay-within))
+    match-node w A B _ k after fair (fine .0) r h m (t .own) (q .noworse) (q .counted)
+    (λ n′ x′ y′ u v. match-chain (runs k) next more ns (e .2) fair u (both .1) (t .next) v (t .stay-within))
 
 -- the plan of a node's children, by its marks
-pub match-children : {K : ℕ} (c : Chain) (ms : List ℕ) → EachWithin K c → Reaching K [] c → allowed false c ms ≡ true
+pub match-children : {K : ℕ} (c : Chain) (ms : List ℕ) → EachWithin K c → allowed false c ms ≡ true
     → AllWithin K (weighed c ms .pages) → weighed c ms .stay ≤ K
     → ChainMatched K (childrenOf true K c) (pagesBelow true K c) (length (weighed c ms .pages)) (weighed c ms .stay)
 unfolding childrenOf
-match-children {K} c ms e g a h s =
-    chain-matched-more (match-chain false c [] ms e tt g (match-none K) a h tt s) (omega arith) (omega arith)
+match-children {K} c ms e a h s =
+    chain-matched-more (match-chain false c [] ms e tt (match-none K) a h tt s) (omega arith) (omega arith)

@@ -1,6 +1,6 @@
 -- Best and level on a tree by shape: their plans are feasible and their figures are those of the entries
 -- (best-feasible, level-feasible), and no feasible plan has fewer pages than best, nor as many and a lighter root
--- page, where every node weighs something (best-least). Defines NoBetterThanBest. Assumes nothing.
+-- page (best-least). Defines NoBetterThanBest. Assumes nothing.
 use Prim.Native.Nat.{ℕ, zero, suc, _+_, _≤_}
 use mathlib.Core.Path.{_≡_}
 use mathlib.Core.Bool.{true, false, and-eq-true-iff}
@@ -9,12 +9,11 @@ use native.Mathlib.Omega.{arith}
 use lib.ListN.{length, getD, length-append}
 use Rattle.model.specs.Table.{Chain, end, node}
 use Rattle.model.specs.Steps.{entryAt, childrenOf, bestMarks, levelMarks}
-use Rattle.theory.specs.PlanShape.{allowed, allowedMark, joined, weighed, AllWithin, EachWithin, Positive}
+use Rattle.theory.specs.PlanShape.{allowed, allowedMark, joined, weighed, AllWithin, EachWithin}
 use Rattle.theory.specs.BestNodes.{node-least, children-fair}
 use Rattle.theory.specs.BestLaid.{pagesBelow, pagesOf, Figured, laid-feasible}
 use Rattle.theory.specs.PlanWeighs.{all-within-left}
 use Rattle.theory.specs.BestRealPlans.{match-children}
-use Rattle.theory.specs.BestReaching.{Reaching, positive-reaching}
 
 module _ (K w l : ℕ) (kids : Chain) (each : EachWithin K (node w l kids end)) where
   -- best's plan is feasible; its page count and the weight of its root page are the entries'
@@ -56,12 +55,12 @@ module _ (K w l : ℕ) (kids : Chain) where
         root-is = omega arith;
       }
 
-  root-least : (ms : List ℕ) → EachWithin K (node w l kids end) → Reaching K [] (node w l kids end)
-      → RootParts K w l kids ms → NoBetterThanBest K (node w l kids end) (1 ∷ ms)
-  unfolding EachWithin Reaching pagesBelow childrenOf
-  root-least ms e g r =
+  root-least : (ms : List ℕ) → EachWithin K (node w l kids end) → RootParts K w l kids ms
+      → NoBetterThanBest K (node w l kids end) (1 ∷ ms)
+  unfolding EachWithin pagesBelow childrenOf
+  root-least ms e r =
       let b = best-feasible K w l kids e in
-      let m = match-children kids ms (e .1) (g .1) (r .fine) (r .within) (omega (arith, r .root-within)) in
+      let m = match-children kids ms (e .1) (r .fine) (r .within) (omega (arith, r .root-within)) in
       let f = children-fair true K kids [] (e .1) tt in
       let c = node-least K w (childrenOf true K kids) f (e .0) (m .level) (omega (arith, m .light, r .root-within)) in
       let root = b .feasible .root-page in
@@ -71,12 +70,11 @@ module _ (K w l : ℕ) (kids : Chain) where
       }
 
   -- no feasible plan is better than best's
-  pub best-least : (ms : List ℕ) → EachWithin K (node w l kids end) → Positive (node w l kids end)
+  pub best-least : (ms : List ℕ) → EachWithin K (node w l kids end)
       → allowed false (node w l kids end) ms ≡ true → getD ms 0 0 ≡ 1
       → AllWithin K (weighed (node w l kids end) ms .pages)
       → NoBetterThanBest K (node w l kids end) ms
-  best-least [] e p a m h = absurd (omega arith)
-  best-least (zero ∷ ms) e p a m h = absurd (omega arith)
-  best-least (suc zero ∷ ms) e p a m h =
-      root-least ms e (positive-reaching K [] (node w l kids end) e p tt) (root-parts ms a h)
-  best-least (suc (suc k) ∷ ms) e p a m h = absurd (omega arith)
+  best-least [] e a m h = absurd (omega arith)
+  best-least (zero ∷ ms) e a m h = absurd (omega arith)
+  best-least (suc zero ∷ ms) e a m h = root-least ms e (root-parts ms a h)
+  best-least (suc (suc k) ∷ ms) e a m h = absurd (omega arith)

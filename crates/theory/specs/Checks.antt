@@ -3,7 +3,7 @@
 -- for, and nowhere else.
 -- Defines Pass, Never, Plain, andThen, checksWith. Proves pass-all, passes-append, passes-both, both-pass;
 -- firstOf-pass, firstOf-stop, firstOf-all, firstOf-cons, firstOf-append; never-append, never-first, accepted-pass,
--- refused-fails; that no check gives 0, and that of the weights alone 7 (head-plain to read-never); then-next,
+-- refused-fails; that no check gives 0 or 5, and that of the weights alone 7 (head-plain to read-never); then-next,
 -- then-stands, then-both, firstOf-then; what lists with 14 and without are, and what 14 adds (passes-without to
 -- node-stops). Assumes nothing.
 use Prim.Native.Nat.{ℕ}
@@ -15,7 +15,7 @@ use lib.Dec.{eqb}
 use borrow.Author.Tests.{eqb-true, eqb-false, eq-eqb, ne-eqb, not-true}
 use Rattle.model.specs.Basics.{pick, atPlace, every}
 use Rattle.model.specs.Refusals.{Check, accepted, refused, firstOf, passes, without}
-use Rattle.model.specs.Refusals.{shortTable, badCount, badLimit, badLength, noWeight, badWalk, heavyNode, badMarks}
+use Rattle.model.specs.Refusals.{shortTable, badCount, badLimit, badLength, badWalk, heavyNode, badMarks}
 use Rattle.model.specs.Refusals.{shortScratch, markRefused, pageRefused, badOutput, noArchive, noLabel}
 use Rattle.model.specs.Refusals.{headChecks, nodeChecks, weightChecks, lentChecks, markChecks, filmChecks, backChecks}
 use Rattle.model.specs.Refusals.{formChecks, treeChecks, planChecks, judgeChecks, writeChecks, readChecks}
@@ -152,26 +152,30 @@ refused-fails cs a z h = go (passes cs) refl
     go true e = absurd (h (ap (λ (x : Answer). x .number) (firstOf-all cs a e) ∙ z))
     go false e = e
 
--- ---- No check gives 0, and 7 is given by the check of the weights alone
+-- ---- No check gives 0 or 5, and 7 is given by the check of the weights alone
 
--- neither 0 nor 7
+-- neither 0 nor 7 nor 5
 abbrev pub Plain : List Check → Type 0
-Plain cs = Never 0 cs × Never 7 cs
+Plain cs = Never 0 cs × Never 7 cs × Never 5 cs
 
-plain-append : (cs ds : List Check) → Plain cs → Plain ds → Plain (cs ++ ds)
-plain-append cs ds h k = (never-append 0 cs ds (h .0) (k .0), never-append 7 cs ds (h .1) (k .1))
+pub plain-append : (cs ds : List Check) → Plain cs → Plain ds → Plain (cs ++ ds)
+plain-append cs ds h k = (
+  never-append 0 cs ds (h .0) (k .0),
+  never-append 7 cs ds (h .1) (k .1),
+  never-append 5 cs ds (h .2) (k .2),
+)
 
 pub head-plain : (t : List ℕ) → Plain (headChecks t)
 unfolding every headChecks shortTable badCount badLimit badLength
-head-plain t = (λ p. refl, λ p. refl)
+head-plain t = (λ p. refl, λ p. refl, λ p. refl)
 
 node-plain : (t : List ℕ) → Plain (nodeChecks t)
-unfolding every nodeChecks noWeight noLabel badWalk
-node-plain t = (λ p. refl, λ p. refl)
+unfolding every nodeChecks noLabel badWalk
+node-plain t = (λ p. refl, λ p. refl, λ p. refl)
 
-weight-never : (t : List ℕ) → Never 0 (weightChecks t)
+weight-never : (t : List ℕ) → Never 0 (weightChecks t) × Never 5 (weightChecks t)
 unfolding every weightChecks heavyNode
-weight-never t p = refl
+weight-never t = (λ p. refl, λ p. refl)
 
 -- the check of the weights gives 7 where it does not pass
 pub weight-seven : (t : List ℕ) (a : Answer) → passes (weightChecks t) ≡ false → firstOf (weightChecks t) a .number ≡ 7
@@ -184,15 +188,15 @@ weight-seven t a = go (heavyNode t .place)
 
 pub lent-plain : (t m s : List ℕ) → Plain (lentChecks t m s)
 unfolding every lentChecks badMarks shortScratch
-lent-plain t m s = (λ p. refl, λ p. refl)
+lent-plain t m s = (λ p. refl, λ p. refl, λ p. refl)
 
 pub mark-plain : (t m : List ℕ) → Plain (markChecks t m)
 unfolding every markChecks badMarks markRefused pageRefused
-mark-plain t m = (λ p. refl, λ p. refl)
+mark-plain t m = (λ p. refl, λ p. refl, λ p. refl)
 
 pub film-plain : (e : Edition) (t m out : List ℕ) → Plain (filmChecks e t m out)
 unfolding every filmChecks badOutput
-film-plain e t m out = (λ p. refl, λ p. refl)
+film-plain e t m out = (λ p. refl, λ p. refl, λ p. refl)
 
 pub form-plain : (t : List ℕ) → Plain (formChecks t)
 unfolding formChecks
@@ -200,7 +204,11 @@ form-plain t = plain-append (headChecks t) (nodeChecks t) (head-plain t) (node-p
 
 pub tree-never : (t : List ℕ) → Never 0 (treeChecks t)
 unfolding treeChecks
-tree-never t = never-append 0 (formChecks t) (weightChecks t) (form-plain t .0) (weight-never t)
+tree-never t = never-append 0 (formChecks t) (weightChecks t) (form-plain t .0) (weight-never t .0)
+
+pub tree-never-five : (t : List ℕ) → Never 5 (treeChecks t)
+unfolding treeChecks
+tree-never-five t = never-append 5 (formChecks t) (weightChecks t) (form-plain t .2) (weight-never t .1)
 
 pub plan-never : (t m s : List ℕ) → Never 0 (planChecks t m s)
 unfolding planChecks
@@ -354,13 +362,9 @@ with-write filed e t m out = with-after filed (judgeChecks t m) (filmChecks e t 
 -- nodes that pass all but 14: with no label 0 they pass, and with one the answer is 14
 module _ (t : List ℕ) (e : passes (without 14 (nodeChecks t)) ≡ true) where
   pub filed-passes : noLabel t .place ≡ Nowhere → passes (nodeChecks t) ≡ true
-  unfolding Pass pick without nodeChecks noWeight noLabel badWalk
-  filed-passes none =
-      let p = pass-all (without 14 (nodeChecks t)) .0 e in
-      pass-all (nodeChecks t) .1 (p .0, (none, (p .1 .0, tt)))
+  unfolding Pass pick without nodeChecks noLabel badWalk
+  filed-passes none = pass-all (nodeChecks t) .1 (none, pass-all (without 14 (nodeChecks t)) .0 e)
 
   pub node-stops : (v : ℕ) → noLabel t .place ≡ At v → (a : Answer) → firstOf (nodeChecks t) a ≡ refused 14 v
-  unfolding Pass pick without firstOf nodeChecks noWeight noLabel badWalk
-  node-stops v found a =
-      atPlace-nowhere (noWeight t .place) (refused 5) _ (pass-all (without 14 (nodeChecks t)) .0 e .0)
-      ∙ atPlace-at (noLabel t .place) v (refused 14) _ found
+  unfolding firstOf nodeChecks noLabel badWalk
+  node-stops v found a = atPlace-at (noLabel t .place) v (refused 14) _ found

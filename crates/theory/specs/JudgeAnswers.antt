@@ -13,7 +13,7 @@ use borrow.Author.Tests.{eq-eqb, ne-eqb}
 use Rattle.model.specs.Basics.{pick, when, atPlace}
 use Rattle.model.specs.Table.{maxNodes, nodeCount}
 use Rattle.model.specs.Plan.{badMark, heavyPage, pageCount, pageWeight, verdictOf}
-use Rattle.model.specs.Refusals.{Check, without, noWeight, noLabel, badWalk}
+use Rattle.model.specs.Refusals.{Check, without, noLabel, badWalk}
 use Rattle.model.specs.Refusals.{badMarks, markRefused, pageRefused, headChecks, nodeChecks, weightChecks}
 use Rattle.model.specs.Refusals.{formChecks, treeChecks, markChecks, judgeChecks, acceptedTree, answerOf}
 use Rattle.model.specs.Refusals.{refused, accepted, firstOf, readTree, judgePlan}
@@ -67,9 +67,9 @@ abbrev labelCheck : Bool → List ℕ → Check
 labelCheck filed t = record { answer = refused 14; place = pick filed (noLabel t .place) Nowhere }
 
 pub node-places : (filed : Bool) (t : List ℕ)
-    → firstOf (noWeight t ∷ labelCheck filed t ∷ badWalk t ∷ []) (firstOf (weightChecks t) accepted)
+    → firstOf (labelCheck filed t ∷ badWalk t ∷ []) (firstOf (weightChecks t) accepted)
     ≡ nodeAnswer filed t
-unfolding nodeAnswer firstOf atPlace pick without nodeChecks noWeight noLabel badWalk
+unfolding nodeAnswer firstOf atPlace pick without nodeChecks noLabel badWalk
 node-places true t = refl
 node-places false t = refl
 

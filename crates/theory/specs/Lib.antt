@@ -59,7 +59,6 @@ pub mod BestCandidates
 pub mod BestEntries
 pub mod BestNodes
 pub mod BestLaid
-pub mod BestReaching
 pub mod BestRealPlans
 pub mod BestShape
 pub mod BestLowest

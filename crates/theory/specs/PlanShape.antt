@@ -1,6 +1,6 @@
 -- A plan of a tree by shape: which marks are allowed, and the weights of its pages in the order of their first nodes.
 -- The marks of a chain are a list in node order; what stands after them in the list is not looked at.
--- Defines size, allowed, weighed, Weights, AllWithin, EachWithin, Positive. Assumes nothing.
+-- Defines size, allowed, weighed, Weights, AllWithin, EachWithin. Assumes nothing.
 use Prim.Native.Nat.{ℕ, zero, suc, _+_, _≤_}
 use mathlib.Core.Bool.{Bool, true, false, _&&_}
 use mathlib.Core.List.{List, [], _∷_, _++_}
@@ -59,8 +59,3 @@ AllWithin K (p ∷ ps) = (p ≤ K) × AllWithin K ps
 unfoldable pub EachWithin : ℕ → Chain → Type 0
 EachWithin K end = Unit {0}
 EachWithin K (node w l kids next) = (w ≤ K) × EachWithin K kids × EachWithin K next
-
--- every node of the chain weighs something
-unfoldable pub Positive : Chain → Type 0
-Positive end = Unit {0}
-Positive (node w l kids next) = (1 ≤ w) × Positive kids × Positive next

@@ -30,7 +30,7 @@ use Rattle.theory.specs.Checks.{Pass, pass-all, passes-both, both-pass, 
 use Rattle.theory.specs.Checks.{lent-plain}
 use Rattle.theory.specs.TableFacts.{AcceptedFacts, accepted-facts}
 use Rattle.theory.specs.PlanFeasible.{Judged, feasible-judged, judged-feasible, feasible-judge}
-use Rattle.theory.specs.PromiseWeight.{weight-promise, seven-tree}
+use Rattle.theory.specs.PromiseWeight.{weight-promise, seven-tree, five-tree}
 use Rattle.theory.specs.BestLowest.{best-judged, best-least-plan, best-lowest}
 
 -- ---- What is lent
@@ -126,6 +126,18 @@ module _ (steps : ℕ → Chain → List ℕ) (t m s : List ℕ) where
             let tree = seven-tree t (lentChecks t m s) accepted (lent-plain t m s .1) (λ h. omega arith) in
             (λ h. tree .0 (sym q ∙ h), λ h. q ∙ tree .1 h)
 
+    five-never : planned steps t m s .answer .number ≡ 5 → ⊥
+    unfolding planChecks
+    five-never h = ⊎-elim accepts refuses (bool-cases (passes (planChecks t m s)))
+      where
+        accepts : passes (planChecks t m s) ≡ true → ⊥
+        accepts e = omega (arith, h, ap (λ (a : Answer). a .number) (done-answer e))
+
+        refuses : passes (planChecks t m s) ≡ false → ⊥
+        refuses e =
+            five-tree t (lentChecks t m s) accepted (lent-plain t m s .2) (λ z. omega arith)
+            (sym (ap (λ (p : Planned). p .answer .number) (planned-refused e)) ∙ h)
+
     pub plan-promise : PlanPromise t m s (planned steps t m s .answer) (planned steps t m s .marks)
         (planned steps t m s .scratch)
     plan-promise =
@@ -136,7 +148,7 @@ module _ (steps : ℕ → Chain → List ℕ) (t m s : List ℕ) where
               rw (planned-done e) (feasible-judge t made (made-feasible e), made-feasible e);
           kept = λ h. ⊎-elim (λ e. absurd (h (ap (λ (a : Answer). a .number) (done-answer e)))) left
               (bool-cases (passes (planChecks t m s)));
-          weight = weight-promise t (planned steps t m s .answer) seven-same;
+          weight = weight-promise t (planned steps t m s .answer) seven-same five-never;
         }
       where
         left : passes (planChecks t m s) ≡ false → (planned steps t m s .marks ≡ m) × (planned steps t m s .scratch ≡ s)

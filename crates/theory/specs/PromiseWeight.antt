@@ -1,6 +1,7 @@
--- Refusal 7 of every entry is the tree reader's, and exact: demand 3's last sentence, as the entries promise it.
--- Proves weight-promise, seven-tree (checks after the tree's that never give 7 leave it to the tree's), read-weight,
--- judge-weight, write-weight. Assumes nothing.
+-- Refusal 7 of every entry is the tree reader's, and exact: demand 3's last sentence, as the entries promise it. 5 is
+-- never given.
+-- Proves weight-promise, seven-tree (checks after the tree's that never give 7 leave it to the tree's), five-tree,
+-- read-weight, judge-weight, write-weight. Assumes nothing.
 use Prim.Native.Nat.{ℕ}
 use native.Mathlib.Omega.{arith}
 use mathlib.Core.Path.{_≡_, refl, sym, _∙_, ap}
@@ -18,15 +19,20 @@ use Rattle.model.specs.declared.Verdict.the-variants.{Feasible, Failed}
 use Rattle.model.specs.declared.Answer.{Answer}
 use Rattle.model.specs.declared.Edition.{Edition}
 use Rattle.theory.specs.Checks.{Never, firstOf-pass, firstOf-stop, firstOf-all, never-append, never-first}
-use Rattle.theory.specs.Checks.{mark-plain, film-plain}
+use Rattle.theory.specs.Checks.{plain-append, mark-plain, film-plain, tree-never-five}
 use Rattle.theory.specs.RunsHeld.{refused-unheld, seven-refused}
 
--- an entry that answers 7 just where the tree reader does
-pub weight-promise : (t : List ℕ) (r : Answer) → (r .number ≡ 7) ↔ (readTree t .number ≡ 7) → WeightPromise t r
-weight-promise t r same f = (
-  λ h. refused-unheld t .0 (seven-refused t .0 (same .0 h)) .1,
-  λ h. same .1 (seven-refused t .1 (refused-unheld t .1 (f, h))),
-)
+-- an entry that answers 7 just where the tree reader does, and 5 nowhere
+pub weight-promise : (t : List ℕ) (r : Answer) → (r .number ≡ 7) ↔ (readTree t .number ≡ 7) → (r .number ≡ 5 → ⊥)
+    → WeightPromise t r
+weight-promise t r same never =
+    record {
+      seven = λ f. (
+        λ h. refused-unheld t .0 (seven-refused t .0 (same .0 h)) .1,
+        λ h. same .1 (seven-refused t .1 (refused-unheld t .1 (f, h))),
+      );
+      five = never;
+    }
 
 pub seven-tree : (t : List ℕ) (cs : List Check) (a : Answer) → Never 7 cs → (a .number ≡ 7 → ⊥)
     → (firstOf (treeChecks t ++ cs) a .number ≡ 7) ↔ (readTree t .number ≡ 7)
@@ -44,28 +50,38 @@ seven-tree t cs a never other = go (passes (treeChecks t)) refl
         let q = ap (λ (x : Answer). x .number) (firstOf-stop (treeChecks t) cs a accepted e) in
         (λ h. sym q ∙ h, λ h. q ∙ h)
 
--- no verdict has number 7
-verdict-never-seven : (v : Verdict) → answerOf v .number ≡ 7 → ⊥
-verdict-never-seven (Feasible pages root) h = omega arith
-verdict-never-seven (Failed (BadMark v)) h = omega arith
-verdict-never-seven (Failed (HeavyPage p)) h = omega arith
+pub five-tree : (t : List ℕ) (cs : List Check) (a : Answer) → Never 5 cs → (a .number ≡ 5 → ⊥)
+    → firstOf (treeChecks t ++ cs) a .number ≡ 5 → ⊥
+five-tree t cs a never other h =
+    other (never-first 5 (treeChecks t ++ cs) a (never-append 5 (treeChecks t) cs (tree-never-five t) never) h .1)
+
+-- no verdict has number 7 or 5
+verdict-never : (v : Verdict) → (answerOf v .number ≡ 7 → ⊥) × (answerOf v .number ≡ 5 → ⊥)
+verdict-never (Feasible pages root) = (λ h. omega arith, λ h. omega arith)
+verdict-never (Failed (BadMark v)) = (λ h. omega arith, λ h. omega arith)
+verdict-never (Failed (HeavyPage p)) = (λ h. omega arith, λ h. omega arith)
 
 pub read-weight : (t : List ℕ) → WeightPromise t (readTree t)
-read-weight t = weight-promise t (readTree t) (λ h. h, λ h. h)
+unfolding readTree
+read-weight t =
+    weight-promise t (readTree t) (λ h. h, λ h. h)
+    (λ h. omega (arith, never-first 5 (treeChecks t) accepted (tree-never-five t) h .1))
+
+-- an entry that checks the tree, then cs, and else has a verdict
+tree-weight : (t : List ℕ) (cs : List Check) (v : Verdict) → Never 7 cs → Never 5 cs
+    → WeightPromise t (firstOf (treeChecks t ++ cs) (answerOf v))
+tree-weight t cs v seven five =
+    weight-promise t _ (seven-tree t cs (answerOf v) seven (verdict-never v .0))
+    (five-tree t cs (answerOf v) five (verdict-never v .1))
 
 module _ (t m : List ℕ) where
   pub judge-weight : WeightPromise t (judgePlan t m)
   unfolding judgePlan judgeChecks
-  judge-weight =
-      weight-promise t (judgePlan t m)
-      (seven-tree t (markChecks t m) (answerOf (verdictOf t m)) (mark-plain t m .1)
-      (verdict-never-seven (verdictOf t m)))
+  judge-weight = tree-weight t (markChecks t m) (verdictOf t m) (mark-plain t m .1) (mark-plain t m .2)
 
   pub write-weight : (e : Edition) (out : List ℕ) → WeightPromise t (writeArchive e t m out .answer)
   unfolding writeArchive writeChecked writeChecks judgeChecks
   write-weight e out =
-      weight-promise t (writeArchive e t m out .answer)
-      (rw (append-assoc (treeChecks t) (markChecks t m) (filmChecks e t m out))
-      (seven-tree t (markChecks t m ++ filmChecks e t m out) (answerOf (verdictOf t m))
-      (never-append 7 (markChecks t m) (filmChecks e t m out) (mark-plain t m .1) (film-plain e t m out .1))
-      (verdict-never-seven (verdictOf t m))))
+      let plain = plain-append (markChecks t m) (filmChecks e t m out) (mark-plain t m) (film-plain e t m out) in
+      rw (append-assoc (treeChecks t) (markChecks t m) (filmChecks e t m out))
+      (tree-weight t (markChecks t m ++ filmChecks e t m out) (verdictOf t m) (plain .1) (plain .2))

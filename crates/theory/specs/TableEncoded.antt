@@ -82,7 +82,7 @@ holds-numbered t (node w l kids next) m i place h =
 
 -- the weight and the label of a node
 abbrev pub Fits : ℕ → ℕ → ℕ → Type 0
-Fits K w l = (1 ≤ w) × (w ≤ K) × (1 ≤ l) × (l < 65536)
+Fits K w l = (w ≤ K) × (1 ≤ l) × (l < 65536)
 
 pub record Encodable (K : ℕ) (c : Chain) : Type 0 where
   pub limit-low : 1 ≤ K
@@ -94,12 +94,7 @@ pub tree-fits : {t : List ℕ} → AcceptedFacts t → Filed t → Bytes t → E
 unfolding fieldAt
 tree-fits {t} a f h =
     numbered-each (Fits (limitOf t)) (sound-tree (a .sound))
-    (λ u low high. (
-      a .sound .weighs u low high,
-      a .light u low high,
-      f u low high,
-      word-small t (2 + 4 * (u - 1) + 1) h,
-    ))
+    (λ u low high. (a .light u low high, f u low high, word-small t (2 + 4 * (u - 1) + 1) h))
 
 linkTo-le : (m : ℕ) (c : Chain) → linkTo m c ≤ m + size c
 unfolding linkTo size
@@ -114,8 +109,8 @@ records-words K m (node w l kids next) h high few =
     let a : ℕ = linkTo (suc m) kids in
     let b : ℕ = linkTo last next in
     let rest : List ℕ = records (suc m) kids ++ records last next in
-    words-cons w (l ∷ a ∷ b ∷ rest) (omega (arith, h .0 .1))
-    (words-cons l (a ∷ b ∷ rest) (h .0 .3)
+    words-cons w (l ∷ a ∷ b ∷ rest) (omega (arith, h .0 .0))
+    (words-cons l (a ∷ b ∷ rest) (h .0 .2)
     (words-cons a (b ∷ rest) (omega (arith, linkTo-le (suc m) kids))
     (words-cons b rest (omega (arith, linkTo-le last next))
     (words-append (records (suc m) kids) (records last next)
@@ -180,17 +175,16 @@ module _ (K w l : ℕ) (kids : Chain) where
               limit-low = omega (arith, encoded-limit K tree, h .limit-low);
               limit-high = omega (arith, encoded-limit K tree, h .limit-high);
               bytes = omega (arith, encoded-length K tree, encoded-count K tree);
-              weighs = λ v low high. encoded-fits h v low high .0;
               root-alone = encoded-alone;
               walks = numbered-walk encoded-root;
             };
-        light = λ v low high. rw (encoded-limit K tree) (encoded-fits h v low high .1);
+        light = λ v low high. rw (encoded-limit K tree) (encoded-fits h v low high .0);
       }
 
   pub encoded-accepted : Encodable K tree
       → (acceptedTree (encoded K tree) ≡ true) × (treeOf (encoded K tree) ≡ tree) × Bytes (encoded K tree)
   encoded-accepted h = (
-    facts-accepted (encoded K tree) (encoded-facts h) (λ v low high. encoded-fits h v low high .2),
+    facts-accepted (encoded K tree) (encoded-facts h) (λ v low high. encoded-fits h v low high .1),
     encoded-tree,
     encoded-bytes K tree h,
   )

@@ -17,7 +17,7 @@ use Rattle.model.specs.Table.{maxNodes, maxLimit, nodeCount, limitOf, weightAt,
 use Rattle.model.specs.Table.{walkPlace}
 use Rattle.model.specs.Refusals.{passes, without, headChecks, nodeChecks, weightChecks, formChecks, treeChecks}
 use Rattle.model.specs.Refusals.{soundForm, acceptedTree}
-use Rattle.model.specs.Refusals.{shortTable, badCount, badLimit, badLength, noWeight, noLabel, badWalk, heavyNode}
+use Rattle.model.specs.Refusals.{shortTable, badCount, badLimit, badLength, noLabel, badWalk, heavyNode}
 use Rattle.model.specs.Demand.{Filed, FirstUnfiled}
 use Rattle.model.specs.declared.Place.the-variants.{At, Nowhere}
 use Rattle.theory.specs.Bools.{both-false}
@@ -31,7 +31,6 @@ pub record SoundFacts (t : List ℕ) : Type 0 where
   pub limit-low : 1 ≤ limitOf t
   pub limit-high : limitOf t ≤ maxLimit
   pub bytes : length t ≡ tableBytes (nodeCount t)
-  pub weighs : Upto (nodeCount t) (λ v. 1 ≤ weightAt t v)
   pub root-alone : nextAt t 1 ≡ 0
   pub walks : walkFrom (2 * nodeCount t + 2) t (nodeCount t) 0 (1 ∷ []) ≡ Nowhere
 
@@ -81,25 +80,20 @@ head-facts t e =
     )
 
 form-facts : (t : List ℕ) → passes (without 14 (formChecks t)) ≡ true → SoundFacts t
-unfolding Pass pick without nodeChecks noWeight noLabel badWalk
+unfolding Pass pick without nodeChecks noLabel badWalk
 form-facts t e =
     let parts = passes-both (headChecks t) (without 14 (nodeChecks t)) (sym (ap passes (with-form false t)) ∙ e) in
     let h = head-facts t (parts .0) in
     let p = pass-all (without 14 (nodeChecks t)) .0 (parts .1) in
-    let alone : nextAt t 1 ≡ 0 = walk-alone t (p .1 .0) in
+    let alone : nextAt t 1 ≡ 0 = walk-alone t (p .0) in
     record {
       count-low = h .0 .0;
       count-high = h .0 .1;
       limit-low = h .1 .0;
       limit-high = h .1 .1;
       bytes = h .2;
-      weighs =
-          λ v low high.
-          let nonzero : weightAt t v ≡ 0 → ⊥ =
-          eqb-false (weightAt t v) 0 (firstTo-nowhere (nodeCount t) (λ u. eqb (weightAt t u) 0) (p .0) v low high) in
-          omega arith;
       root-alone = alone;
-      walks = sym (walk-is t alone) ∙ p .1 .0;
+      walks = sym (walk-is t alone) ∙ p .0;
     }
 
 pub sound-facts : (t : List ℕ) → soundForm t ≡ true → SoundFacts t
@@ -125,11 +119,10 @@ unfiled-first t v f =
     })
 
 pub facts-sound : (t : List ℕ) → SoundFacts t → Filed t → soundForm t ≡ true
-unfolding Pass soundForm formChecks headChecks nodeChecks shortTable badCount badLimit badLength noWeight noLabel
-    badWalk
+unfolding Pass soundForm formChecks headChecks nodeChecks shortTable badCount badLimit badLength noLabel badWalk
 facts-sound t s f =
     both-pass (headChecks t) (nodeChecks t) (pass-all (headChecks t) .1 (short, (count, (limit, (long, tt)))))
-    (pass-all (nodeChecks t) .1 (weigh, (filed-nowhere t f, (walk-is t (s .root-alone) ∙ s .walks, tt))))
+    (pass-all (nodeChecks t) .1 (filed-nowhere t f, (walk-is t (s .root-alone) ∙ s .walks, tt)))
   where
     short : shortTable t .place ≡ Nowhere
     short = when-false (ltb (length t) 4) 0 (le-ltb (length t) 4 (omega (arith, s .bytes)))
@@ -142,11 +135,6 @@ facts-sound t s f =
 
     long : badLength t .place ≡ Nowhere
     long = when-false _ (tableBytes (nodeCount t)) (ap not (eq-eqb (length t) (tableBytes (nodeCount t)) (s .bytes)))
-
-    weigh : noWeight t .place ≡ Nowhere
-    weigh =
-        firstTo-none (nodeCount t) (λ v. eqb (weightAt t v) 0)
-        (λ v low high. ne-eqb (weightAt t v) 0 (λ z. omega (arith, s .weighs v low high)))
 
 -- ---- Accepted: of sound form, and no node outweighs K
 

@@ -16,7 +16,7 @@ use Rattle.model.specs.Table.{chainFrom, treeOf}
 use Rattle.model.specs.declared.Place.{Place}
 use Rattle.model.specs.declared.Place.the-variants.{At, Nowhere}
 use Rattle.theory.specs.Bools.{bool-cases, both-true}
-use Rattle.theory.specs.PlanShape.{size, EachWithin, Positive}
+use Rattle.theory.specs.PlanShape.{size, EachWithin}
 use Rattle.theory.specs.Ranges.{pick-true, pick-false, when-false, when-nowhere, at-nowhere}
 use Rattle.theory.specs.TableFacts.{SoundFacts, AcceptedFacts}
 
@@ -216,21 +216,11 @@ unfolding EachNode EachWithin
 each-within K end h = tt
 each-within K (node w l kids next) h = (h .0, each-within K kids (h .1), each-within K next (h .2))
 
-each-positive : (c : Chain) → EachNode (λ w l. 1 ≤ w) c → Positive c
-unfolding EachNode Positive
-each-positive end h = tt
-each-positive (node w l kids next) h = (h .0, each-positive kids (h .1), each-positive next (h .2))
-
 pub numbered-within : {t : List ℕ} {m v e : ℕ} {c : Chain} (K : ℕ) → Numbered t m v c e
     → Between m e (λ u. weightAt t u ≤ K)
     → EachWithin K c
 numbered-within {c} K r h = each-within K c (numbered-each (λ w l. w ≤ K) r h)
 
--- the tree of a table of sound form: every node weighs something, and none outweighs the limit where the tree is
--- accepted
-pub tree-positive : {t : List ℕ} → SoundFacts t → Positive (treeOf t)
-tree-positive {t} s =
-    each-positive (treeOf t) (numbered-each (λ w l. 1 ≤ w) (sound-tree s) (λ u low high. s .weighs u low high))
-
+-- no node of an accepted tree outweighs the limit
 pub tree-within : {t : List ℕ} → AcceptedFacts t → EachWithin (limitOf t) (treeOf t)
 tree-within {t} a = numbered-within (limitOf t) (sound-tree (a .sound)) (λ u low high. a .light u low high)
