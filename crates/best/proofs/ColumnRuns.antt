@@ -1,17 +1,17 @@
 -- The runs that end at a child, each by one member longer than the one before. Defines lastChildrenIn (a run's
 -- members), Stretch (what holds while the runs are tried; Joins and Tries say what is left to do) and Taking (while
 -- second plans are taken). Proves the turns of both loops and the ways out: stretch-start, stretch-joins,
--- stretch-again, stretch-end, taking-start, taking-down, taking-more, over-end, stops-end; and what the calls ask
+-- stretch-again, stretch-end, taking-start, taking-some, taking-down, taking-more, stops-end; and what the calls ask
 -- for. Assumes nothing.
 use Prim.Native.Nat.{ℕ, zero, suc, _+_, _-_, _*_, _≤_, _<_}
 use mathlib.Core.Path.{_≡_, refl, sym, _∙_, ap}
-use mathlib.Core.Bool.{Bool, true, false}
+use mathlib.Core.Bool.{Bool, true, false, true≢false}
 use mathlib.Core.List.{List, [], _∷_}
 use native.Mathlib.Omega.{arith}
 use native.Mathlib.Numerals.{add-one}
 use lib.ListN.{length, getD, set, length-set, replicate, length-replicate}
 use lib.Dec.{leb}
-use borrow.Author.Tests.{leb-true, le-leb, lt-leb}
+use borrow.Author.Tests.{leb-true, le-ltb, lt-ltb}
 use Rattle.model.specs.Basics.{pick}
 use Rattle.model.specs.Table.{maxNodes, maxLimit}
 use Rattle.model.specs.Steps.{Child, runOf}
@@ -21,8 +21,8 @@ use Rattle.best.specs.CellsArrays.{childIn, childrenIn, children-none, c
 use Rattle.best.specs.CellsArrays.{children-length, cellIn, Swept}
 use Rattle.best.specs.CellsRun.{RunSums, sums-none, sums-count, sums-gained, sums-total, sums-more, sums-joins}
 use Rattle.best.specs.CellsRun.{choosing, choosing-down, choosing-take, choosing-room, choosing-none, countsOf}
-use Rattle.best.specs.CellsRun.{run-figures, run-stops, run-taken-le, run-fits, run-over, over-stops, joins}
-use Rattle.best.specs.CellsRun.{longer-stops, longer-goes, nthPrev, nthPrev-shift, blockAt, nthPrev-le}
+use Rattle.best.specs.CellsRun.{run-figures, run-stops, stops-none, run-taken-le, run-fits, fits-goes, over-stops}
+use Rattle.best.specs.CellsRun.{joins, longer-stops, longer-goes, nthPrev, nthPrev-shift, blockAt, nthPrev-le}
 use Rattle.best.specs.CellsRun.{block-apart, ColumnWords, wordEnd, cell-word-small, Fillable}
 use Rattle.best.specs.declared.run.Sums.{Sums}
 use Rattle.best.specs.CellsSums.{gainSlots, joinedSums}
@@ -50,15 +50,12 @@ pub record Stretch (K start c : ℕ) (rests gains prevs xs : List ℕ)
       (cellIn ys K (blockAt K c) s)
       ≡ cellAt K (childrenIn rests gains prevs c) s
 
--- the child before the run is to join it; the run is to be tried; it was tried
+-- the child before the run is to join it; the run is to be tried
 abbrev pub Joins : ℕ → List Child → ℕ → List Child → ℕ → Cell → Cell
 Joins K run len ks s cell = joins K s run len ks cell
 
 abbrev pub Tries : ℕ → List Child → ℕ → List Child → ℕ → Cell → Cell
 Tries K run len ks s cell = longerRuns K s run len ks (tryRun K (runOf K run) len (cellAt K ks s .word) cell)
-
-abbrev Tried : ℕ → List Child → ℕ → List Child → ℕ → Cell → Cell
-Tried K run len ks s cell = longerRuns K s run len ks cell
 
 -- second plans are being taken: the choices left lead to the run's figures
 pub record Taking (K c : ℕ) (rests gains prevs counts : List ℕ) (sums : Sums) (sum taken gain left : ℕ) : Type 0 where
@@ -214,10 +211,33 @@ module _ {K start c : ℕ} {rests gains prevs xs : List ℕ} (f : Fillable K sta
         let small : sums .len ≤ maxNodes = omega (arith, t .short, f .node-high) in
         (sums-gained (t .kept), omega (arith, sums-total (t .kept) (f .limit-high)))
 
+    -- the lightest total passes the limit
+    pub stops-end : K < sums .total - sums .gained → Swept K start (blockAt K c) (λ s. cellAt K (children c) s) xs ys
+    stops-end h =
+        let stops = run-stops (t .kept) ∙ lt-ltb K (sums .total - sums .gained) h in
+        record {
+          long = t .long;
+          cells =
+              λ s p q. sym (stops-none (t .kept) stops (sums .len) (cellAt K (children next) s .word)
+              (cellIn ys K (blockAt K c) s))
+              ∙ sym (longer-stops K s (run (sums .len)) (sums .len) (children next) _ stops) ∙ t .cells s p q;
+          below = t .below;
+          above = t .above;
+        }
+
     pub taking-start : Taking K c rests gains prevs counts sums (sums .total) 0 (sums .top) (getD counts (sums .top) 0)
     taking-start = record { figures = run-figures (t .kept); gain-high = t .kept .top-high; taken-high = omega arith }
 
     module _ {sum taken gain left : ℕ} (w : Taking K c rests gains prevs counts sums sum taken gain left) where
+      -- a run whose lightest total is within the limit has a gain left
+      pub taking-some : sums .total - sums .gained ≤ K → K < sum → gain ≡ 0 → ⊥
+      taking-some h over e =
+          let figures = rw e at (w .figures) in
+          let last = figures ∙ choosing-none left (countsOf counts) K (record { sum = sum; count = taken }) in
+          true≢false
+          (sym (over-stops (t .kept) sum taken last over)
+          ∙ run-stops (t .kept) ∙ le-ltb K (sums .total - sums .gained) h)
+
       pub taking-down : (gain ≡ 0 → ⊥) → left ≡ 0
           → Taking K c rests gains prevs counts sums sum taken (gain - 1) (getD counts (gain - 1) 0)
       taking-down n e =
@@ -237,22 +257,6 @@ module _ {K start c : ℕ} {rests gains prevs xs : List ℕ} (f : Fillable K sta
                 (omega arith) over;
             gain-high = w .gain-high;
             taken-high = omega (arith, w .taken-high, w .gain-high);
-          }
-
-      -- no gain is left
-      pub over-end : gain ≡ 0 → K < sum → Swept K start (blockAt K c) (λ s. cellAt K (children c) s) xs ys
-      over-end e over =
-          let figures = rw e at (w .figures) in
-          let last = figures ∙ choosing-none left (countsOf counts) K (record { sum = sum; count = taken }) in
-          let stops = over-stops (t .kept) sum taken last over in
-          record {
-            long = t .long;
-            cells =
-                λ s p q. sym (run-over (t .kept) sum taken last over (sums .len) (cellAt K (children next) s .word)
-                (cellIn ys K (blockAt K c) s))
-                ∙ sym (longer-stops K s (run (sums .len)) (sums .len) (children next) _ stops) ∙ t .cells s p q;
-            below = t .below;
-            above = t .above;
           }
 
       module _ (high : sum ≤ K) (low : 1 ≤ sums .len) where
@@ -293,9 +297,10 @@ module _ {K start c : ℕ} {rests gains prevs xs : List ℕ} (f : Fillable K sta
               (swept : Swept K start here (λ s. lower (getD ys (before + s) 0 + (1 + taken) * pageWord) (sums .len)
               (cellIn ys K here s)) ys zs)
             where
-              tried : Stretch K start c rests gains prevs xs (Tried K) zs counts sums next
-              tried =
+              pub stretch-again : Stretch K start c rests gains prevs xs (Joins K) zs counts sums next
+              stretch-again =
                   let z = rw (e, d) at swept in
+                  let goes = fits-goes (t .kept) sum taken last-figures high in
                   record {
                     next-is = t .next-is;
                     short = t .short;
@@ -305,39 +310,12 @@ module _ {K start c : ℕ} {rests gains prevs xs : List ℕ} (f : Fillable K sta
                     below = λ i p. z .below i p ∙ t .below i p;
                     above = λ i p. z .above i p ∙ t .above i p;
                     cells =
-                        λ s p q. ap (λ cell. longerRuns K s (run (sums .len)) (sums .len) (children next) cell)
+                        λ s p q. sym (longer-goes K s (run (sums .len)) (sums .len) (children next) _ goes)
+                        ∙ ap (λ cell. longerRuns K s (run (sums .len)) (sums .len) (children next) cell)
                         (z .cells s p q
                         ∙ ap (λ x. lower (x + (1 + taken) * pageWord) (sums .len) (cellIn ys K (blockAt K c) s))
                         (word-is s p q)
                         ∙ sym (run-fits (t .kept) sum taken last-figures high (sums .len)
                         (cellAt K (children next) s .word) (cellIn ys K (blockAt K c) s)))
                         ∙ t .cells s p q;
-                  }
-
-              pub stops-end : K ≤ sums .total - sums .gained
-                  → Swept K start (blockAt K c) (λ s. cellAt K (children c) s) xs zs
-              stops-end h =
-                  let stops = run-stops (t .kept) ∙ le-leb K (sums .total - sums .gained) h in
-                  record {
-                    long = tried .long;
-                    cells = λ s p q. sym (longer-stops K s (run (sums .len)) (sums .len) (children next) _ stops)
-                        ∙ tried .cells s p q;
-                    below = tried .below;
-                    above = tried .above;
-                  }
-
-              pub stretch-again : sums .total - sums .gained < K
-                  → Stretch K start c rests gains prevs xs (Joins K) zs counts sums next
-              stretch-again h =
-                  let goes = run-stops (t .kept) ∙ lt-leb K (sums .total - sums .gained) h in
-                  record {
-                    next-is = t .next-is;
-                    short = t .short;
-                    kept = t .kept;
-                    wide = t .wide;
-                    long = tried .long;
-                    below = tried .below;
-                    above = tried .above;
-                    cells = λ s p q. sym (longer-goes K s (run (sums .len)) (sums .len) (children next) _ goes)
-                        ∙ tried .cells s p q;
                   }

@@ -2,20 +2,20 @@
 -- how many members have each gain, and what it makes of a cell.
 -- Defines asMembers, RunSums; choosing, countsOf; joins; nthPrev, blockAt, ColumnWords, wordEnd, Fillable.
 -- Proves sums-none, sums-joins, sums-more; choosing-start, choosing-take, choosing-down, choosing-room (one
--- choice a turn); run-figures, run-fits, run-over, run-stops; nthPrev-shift, nthPrev-le, block-apart,
--- cell-word-small.
+-- choice a turn); run-figures, run-fits, run-stops, stops-none, fits-goes, over-stops; nthPrev-shift, nthPrev-le,
+-- block-apart, cell-word-small.
 -- Assumes nothing.
 use Prim.Native.Nat.{ℕ, zero, suc, _+_, _-_, _*_, _≤_, _<_, max}
 use mathlib.Core.Path.{_≡_, refl, sym, _∙_, ap}
-use mathlib.Core.Bool.{Bool, true, false}
+use mathlib.Core.Bool.{Bool, true, false, true≢false}
 use mathlib.Core.List.{List, [], _∷_, map}
 use mathlib.Core.Logic.{_⊎_, inl, inr}
 use native.Mathlib.Omega.{arith}
 use native.Mathlib.Nat.{mul-le-mul-right}
 use lib.ListN.{length, getD, set, replicate}
 use lib.Seq.{getD-set-same, getD-set-other}
-use lib.Dec.{eqb, leb}
-use borrow.Author.Tests.{eqb-true, eqb-false, le-leb, lt-leb}
+use lib.Dec.{eqb, ltb, leb}
+use borrow.Author.Tests.{eqb-true, eqb-false, leb-true, le-leb, lt-leb, lt-ltb}
 use Rattle.model.specs.Basics.{pick}
 use Rattle.model.specs.Table.{maxNodes, maxLimit}
 use Rattle.model.specs.Steps.{Member, Child, restSum, gainSum, takenCount, largestGain, asMember, runOf, reduce}
@@ -25,8 +25,9 @@ use Rattle.theory.specs.Reduce.{EachMember, GainFits, sumOf, leastSum, reduce-l
 use Rattle.theory.specs.ReduceCount.{Sound, asMember-sound, hasGain, countGain, countGain-cons, Counted, Totals}
 use Rattle.theory.specs.ReduceCount.{totalsOf, takeUpTo, takeUpTo-room, byCount, byCount-room, reduce-by-count}
 use Rattle.theory.specs.Lists.{zeros}
+use Rattle.theory.specs.BestGreedy.{Gainful, runOf-goes}
 use Rattle.theory.specs.SiblingsBack.{Earlier}
-use Rattle.best.specs.Cells.{Cell, pageWord, lower, tryRun, cellAt, longerRuns, GoodChild, GoodChildren}
+use Rattle.best.specs.Cells.{Cell, pageWord, lower, runWord, tryRun, cellAt, longerRuns, GoodChild, GoodChildren}
 use Rattle.best.specs.Cells.{run-taken, entry-within, cell-entry}
 use Rattle.best.specs.CellsArrays.{EachGood, childrenIn}
 
@@ -89,6 +90,11 @@ members-fit : (K : ℕ) (run : List Child) → GoodChildren K run → EachMember
 unfolding EachMember GoodChildren asMember
 members-fit K [] g = tt
 members-fit K (k ∷ run) g = (g .0 .fits, members-fit K run (g .1))
+
+run-gainful : (K : ℕ) (run : List Child) → GoodChildren K run → Gainful run
+unfolding GoodChildren
+run-gainful K [] g = tt
+run-gainful K (k ∷ run) g = (g .0 .fits, run-gainful K run (g .1))
 
 members-fresh : (run : List Child) → takenCount (asMembers run) ≡ 0
 unfolding takenCount asMember pick
@@ -218,9 +224,20 @@ module _ {K : ℕ} {run : List Child} {len total gained top : ℕ} {counts : Lis
       (choosing-start top (countsOf counts) K (record { sum = total; count = 0 }))
 
   -- whether stretching stops at the run
-  pub run-stops : stopsAt K run ≡ leb K (total - gained)
+  pub run-stops : stopsAt K run ≡ ltb K (total - gained)
   unfolding stopsAt lightest
   run-stops = rw (kept .total-is, kept .gained-is)
+
+  -- where it does, the run is no candidate
+  pub stops-none : stopsAt K run ≡ true → (n before : ℕ) (c : Cell) → tryRun K (runOf K run) n before c ≡ c
+  unfolding tryRun pick
+  stops-none e n before c = go (leb (restSum (runOf K run)) K) refl
+    where
+      go : (b : Bool) → leb (restSum (runOf K run)) K ≡ b
+          → pick b (lower (runWord (runOf K run) before) n c) c ≡ c
+      go true h =
+          absurd (true≢false (sym e ∙ runOf-goes K run (run-gainful K run (kept .good)) (leb-true _ K h)))
+      go false h = refl
 
   module _ (sum taken : ℕ) (is : totalsOf (runOf K run) ≡ record { sum = sum; count = taken }) where
     sum-is : restSum (runOf K run) ≡ sum
@@ -240,12 +257,11 @@ module _ {K : ℕ} {run : List Child} {len total gained top : ℕ} {counts : Lis
     unfolding tryRun pick
     run-fits h n before c = rw (sum-is, taken-is, le-leb sum K h)
 
-    -- it is none
-    pub run-over : K < sum → (n before : ℕ) (c : Cell) → tryRun K (runOf K run) n before c ≡ c
-    unfolding tryRun pick
-    run-over h n before c = rw (sum-is, lt-leb sum K h)
+    -- and stretching goes on
+    pub fits-goes : sum ≤ K → stopsAt K run ≡ false
+    fits-goes h = runOf-goes K run (run-gainful K run (kept .good)) (omega (arith, sum-is))
 
-    -- and then its lightest total is over the limit
+    -- it is none: its lightest total is over the limit
     pub over-stops : K < sum → stopsAt K run ≡ true
     unfolding stopsAt lightest runOf
     over-stops h = go (reduce-least K (asMembers run))
@@ -254,7 +270,7 @@ module _ {K : ℕ} {run : List Child} {len total gained top : ℕ} {counts : Lis
             ⊎ (restSum (reduce K (asMembers run)) ≡ leastSum (asMembers run)) → stopsAt K run ≡ true
         go (inl l) = absurd (omega (arith, sum-is))
         go (inr e) =
-            le-leb K (restSum (asMembers run) - gainSum (asMembers run))
+            lt-ltb K (restSum (asMembers run) - gainSum (asMembers run))
             (omega (arith, sum-is, least-gain (asMembers run) (members-fit K run (kept .good))))
 
 -- ---- Stretching to the left

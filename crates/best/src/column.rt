@@ -110,8 +110,8 @@ pub fn fill_column(
         let mut gain = sums.top;
         let mut left = counts[gain as usize];
         while (limit as u32) < sum {
-            // no gain is left: the run is no candidate, and its lightest total is over the limit
-            if gain == 0 {
+            // the lightest total passes the limit: the run is no candidate, and no longer one is
+            if (limit as u32) < sums.total - sums.gained {
                 break 'stretch;
             }
             if left == 0 {
@@ -133,9 +133,5 @@ pub fn fill_column(
             (1 + taken) * PAGE_WORD,
             sums.len,
         );
-        // the lightest total reaches the limit
-        if (limit as u32) <= sums.total - sums.gained {
-            break 'stretch;
-        }
     }
 }

@@ -258,7 +258,7 @@ weightless =
     ∷ plans planPair (treeW 2 2 1 0 1) oneRun 2 2
     ∷ plans planRightmost (treeW 2 2 1 0 1) oneRun 2 2
     ∷ plans planDepthFirst (treeW 2 2 1 0 1) oneRun 2 2
-    ∷ plans planBest (treeW 2 0 1 1 1) (1 ∷ 1 ∷ 0 ∷ 0 ∷ []) 2 2
+    ∷ plans planBest (treeW 2 0 1 1 1) (1 ∷ 1 ∷ 2 ∷ 0 ∷ []) 2 1
     ∷ plans planBest (treeW 1 0 0 0 0) (1 ∷ 0 ∷ 0 ∷ 0 ∷ []) 1 0
     ∷ plans planRightmost (treeW 1 0 0 0 0) (1 ∷ 0 ∷ 0 ∷ 0 ∷ []) 1 0
     ∷ plans planDepthFirst (treeW 1 0 0 0 0) (1 ∷ 0 ∷ 0 ∷ 0 ∷ []) 1 0

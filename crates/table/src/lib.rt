@@ -1,5 +1,5 @@
-// The tree reader: words, the walk of the chains, and the refusals 1 to 7 and 14. Words are also put, for whoever
-// writes a table, and siblings linked back, for whoever goes through them from the last.
+// The tree reader: words, the walk of the chains, and the refusals 1 to 7 and 14, of which 5 is retired. Words are also
+// put, for whoever writes a table, and siblings linked back, for whoever goes through them from the last.
 pub mod links;
 pub mod put;
 mod walk;
@@ -9,7 +9,7 @@ use model::Answer;
 use model::Beside;
 use model::Place;
 use walk::walk_place;
-use words::field_at;
+use words::label_at;
 use words::limit_of;
 use words::node_count;
 use words::weight_at;
@@ -17,7 +17,7 @@ ghost use mathlib.Core.Path.{_≡_};
 ghost use lib.Dec.{eqb, ltb};
 ghost use mathlib.Core.Bool.{_||_};
 ghost use Rattle.model.specs.Basics.{pick, firstTo, when, atPlace};
-ghost use Rattle.model.specs.Table.{tableBytes, fieldAt, weightAt, labelAt};
+ghost use Rattle.model.specs.Table.{tableBytes, weightAt, labelAt};
 ghost use Rattle.model.specs.Refusals.{refused, accepted, headChecks, firstOf, readTree};
 ghost use Rattle.model.specs.Demand.{WeightPromise};
 ghost use Rattle.model.specs.declared.Place.the-variants.{Nowhere};
@@ -43,14 +43,14 @@ pub fn refuse(number: u32, place: u32) -> Answer
     }
 }
 
-// The first node whose record has 0 as word f.
-fn first_zero(table: &[u8], nodes: u16, f: u8) -> Place
-    ensures { λ r. ⌜ r ≡ firstTo nodes (λ v. eqb (fieldAt (now (table .entry)) v f) 0) ⌝ }
+// The first node with label 0.
+fn first_unlabelled(table: &[u8], nodes: u16) -> Place
+    ensures { λ r. ⌜ r ≡ firstTo nodes (λ v. eqb (labelAt (now (table .entry)) v) 0) ⌝ }
 {
     let mut node: u16 = 0;
     while node < nodes {
         node += 1;
-        if field_at(table, node, f) == 0 {
+        if label_at(table, node) == 0 {
             return Place::At(node as u32);
         }
     }
@@ -62,7 +62,7 @@ fn first_unfiled(table: &[u8], nodes: u16, filed: bool) -> Place
     ensures { λ r. ⌜ r ≡ pick filed (firstTo nodes (λ v. eqb (labelAt (now (table .entry)) v) 0)) Nowhere ⌝ }
 {
     if filed {
-        first_zero(table, nodes, 1)
+        first_unlabelled(table, nodes)
     } else {
         Place::Nowhere
     }
@@ -145,7 +145,7 @@ fn read_head(table: &[u8]) -> Answer
     )
 }
 
-// The refusals 1 to 7, with 14 or, for trees told by film that may be older, without.
+// The refusals 1 to 7 but 5, with 14 or, for trees told by film that may be older, without.
 pub fn check_tree(table: &[u8], filed: bool) -> Answer
     ensures { λ r. ⌜ r ≡ treeAnswer filed (now (table .entry)) ⌝ }
 {
@@ -157,15 +157,11 @@ pub fn check_tree(table: &[u8], filed: bool) -> Answer
     let heavy = first_heavier(table, nodes, limit_of(table));
     let walk = walk_place(table, nodes);
     let unfiled = first_unfiled(table, nodes, filed);
-    let weightless = first_zero(table, nodes, 0);
-    earlier(
-        5,
-        weightless,
-        earlier(14, unfiled, earlier(6, walk, earlier(7, heavy, accept()))),
-    )
+    earlier(14, unfiled, earlier(6, walk, earlier(7, heavy, accept())))
 }
 
-// Entry: the tree reader, with the refusals 1 to 7 and 14. 7 means that no sequence of sibling runs holds the tree.
+// Entry: the tree reader, with the refusals 1 to 7 but 5, and 14. 7 means that no sequence of sibling runs holds the
+// tree.
 pub fn read_tree(table: &[u8]) -> Answer
     ensures { λ r. ⌜ r ≡ readTree (now (table .entry)) ⌝ }
     ensures { λ r. ⌜ WeightPromise (now (table .entry)) r ⌝ }

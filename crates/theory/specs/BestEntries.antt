@@ -202,7 +202,7 @@ level-least K (k ∷ ks) f =
       entry = λ s {cs} {n} {x} l h.
           rw entryAt-cons (winner-below s (candidates K k ks s) n (s + x) (entry-least-cons f before s l h));
       stretch = λ s t {j} {run} g p l w h i.
-          rw (stretched-cons, picked-goes p (omega arith)) (longer-least f before s t g p l w h i);
+          rw (stretched-cons, picked-goes K p (omega arith)) (longer-least f before s t g p l w h i);
     }
 
 pub entry-least : {K n x : ℕ} {ks : List Child} {cs : List Choice} {o : RunSoFar} (s : ℕ) → Fair K ks

@@ -2,7 +2,7 @@
 -- the sum of the rests down to the room, `reduce` does too, and takes no more of them.
 -- Defines Offers (what a child offers), Picked (an offer of each member of a run), Gainful, Spared and RunReduced
 -- (what a run's members are reduced to). Proves runOf-least and runOf-reduced, and that the stretch does not stop at a
--- run that is within K by any offers (picked-goes). Assumes nothing.
+-- run that is within K by any offers (picked-goes), or as it is reduced (runOf-goes). Assumes nothing.
 use Prim.Native.Nat.{ℕ, zero, suc, _+_, _-_, _≤_}
 use mathlib.Core.Path.{_≡_, refl}
 use mathlib.Core.Bool.{Bool, true, false}
@@ -117,9 +117,9 @@ picked-lightest (pickedNone e f) = omega arith
 picked-lightest (pickedOne (best e₁ f₁) e f p) = omega (arith, picked-lightest p)
 picked-lightest (pickedOne (second e₁ l f₁) e f p) = omega (arith, picked-lightest p)
 
-pub picked-goes : {K m z : ℕ} {run : List Child} → Picked run m z → z ≤ K → stopsAt K run ≡ false
+pub picked-goes : (K : ℕ) {m z : ℕ} {run : List Child} → Picked run m z → z ≤ K → stopsAt K run ≡ false
 unfolding stopsAt
-picked-goes p h = le-ltb _ _ (omega (arith, picked-lightest p))
+picked-goes K {run = run} p h = le-ltb K (lightest run) (omega (arith, picked-lightest p))
 
 -- every gain is part of its rest
 abbrev pub Gainful : List Child → Type 0
@@ -197,3 +197,12 @@ pub runOf-reduced : (room : ℕ) (run : List Child) → Gainful run → RunReduc
 unfolding runOf
 runOf-reduced room run g =
     reduce-keeps room (RunReduced run) (λ xs ys x r c. reduced-turn r g (x .some) c) _ (reduced-run run)
+
+-- it is an offer of each member
+reduced-picked : {run : List Child} {ms : List Member} → RunReduced run ms → Picked run (takenCount ms) (restSum ms)
+unfolding restSum takenCount
+reduced-picked reducedNone = pickedNone refl refl
+reduced-picked (reducedOne o r) = pickedOne (reduced-offers o) refl refl (reduced-picked r)
+
+pub runOf-goes : (K : ℕ) (run : List Child) → Gainful run → restSum (runOf K run) ≤ K → stopsAt K run ≡ false
+runOf-goes K run g h = picked-goes K (reduced-picked (runOf-reduced K run g)) h

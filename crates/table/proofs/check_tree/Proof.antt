@@ -6,7 +6,7 @@ use lib.Dec.{eqb, ltb}
 use denote.Ref.{now}
 use Rattle.model.specs.Basics.{pick, firstTo}
 use Rattle.model.specs.Table.{weightAt, labelAt}
-use Rattle.model.specs.Refusals.{noWeight, noLabel, badWalk, heavyNode, weightChecks}
+use Rattle.model.specs.Refusals.{noLabel, badWalk, heavyNode, weightChecks}
 use Rattle.model.specs.declared.Answer.{Answer}
 use Rattle.model.specs.declared.Place.the-variants.{Nowhere}
 use Rattle.theory.specs.Checks.{firstOf-cons, firstOf-none}
@@ -36,26 +36,24 @@ walk-place-requires c κs =
     (count, omega (arith, count, head-count (now (h .before .before .args .table)) (sym (head-is h) ∙ e .if1 .left)))
 
 returns-2 : tie.Need-returns-2
-unfolding weightChecks noWeight noLabel badWalk heavyNode
+unfolding weightChecks noLabel badWalk heavyNode
 returns-2 c =
-    let l = c .before .before .before .before .before in
-    let heavy = l .before .before .before in
+    let l = c .before .before .before .before in
+    let heavy = l .before .before in
     let n = heavy .before .before in
     let h = n .before .before .before in
     let a = h .before .before .args in
     let t = now (a .table) in
     let count = n .node-count .ensures in
-    firstOf-cons _ _ _ _ _ _ (c .earlier4 .ensures)
-    (l .first-zero .ensures ∙ ap (λ (k : ℕ). firstTo k (λ v. eqb (weightAt t v) 0)) count)
-    (firstOf-cons _ _ _ _ _ _ (c .before .earlier3 .ensures)
-    (l .before .first-unfiled .ensures
+    firstOf-cons _ _ _ _ _ _ (c .earlier3 .ensures)
+    (l .first-unfiled .ensures
     ∙ ap (λ (k : ℕ). pick (a .filed) (firstTo k (λ v. eqb (labelAt t v) 0)) Nowhere) count)
-    (firstOf-cons _ _ _ _ _ _ (c .before .before .earlier2 .ensures) (l .before .before .walk-place .ensures)
+    (firstOf-cons _ _ _ _ _ _ (c .before .earlier2 .ensures) (l .before .walk-place .ensures)
     (firstOf-none _ _
-    (firstOf-cons _ _ _ _ _ _ (c .before .before .before .earlier .ensures)
+    (firstOf-cons _ _ _ _ _ _ (c .before .before .earlier .ensures)
     (heavy .first-heavier .ensures
     ∙ ap₂ (λ (k m : ℕ). firstTo k (λ v. ltb m (weightAt t v))) count (heavy .before .limit-of .ensures))
-    (firstOf-none _ _ (c .before .before .before .before .accept .ensures))))))
+    (firstOf-none _ _ (c .before .before .before .accept .ensures)))))
     ∙ node-places (a .filed) t
     ∙ head-goes-on (a .filed) t (sym (head-is h) ∙ n .before .if1 .left)
 
@@ -64,4 +62,4 @@ check-tree-spec =
     tie.close
     (tie.spec (λ c κs. search needs) returns (λ c κs. search needs) (λ c κs. search needs) (λ c κs. search needs)
     walk-place-requires (λ c κs. search needs) (λ c κs. search needs) (λ c κs. search needs) (λ c κs. search needs)
-    (λ c κs. search needs) (λ c κs. search needs) (λ c κs. search needs) returns-2)
+    (λ c κs. search needs) returns-2)

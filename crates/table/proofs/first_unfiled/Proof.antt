@@ -6,7 +6,7 @@ use Rattle.table.proofs.first_unfiled.Statement.{statement}
 use Rattle.table.proofs.first_unfiled.Tie as tie
 
 returns : tie.Need-returns
-returns c = c .first-zero .ensures ∙ sym (pick-true _ _ _ (c .before .if1 .taken))
+returns c = c .first-unlabelled .ensures ∙ sym (pick-true _ _ _ (c .before .if1 .taken))
 
 returns-2 : tie.Need-returns-2
 returns-2 c = sym (pick-false _ _ _ (c .if1 .left))

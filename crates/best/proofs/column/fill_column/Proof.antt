@@ -10,8 +10,8 @@ use lib.ListN.{getD}
 use Rattle.model.specs.Table.{maxNodes, slots}
 use Rattle.best.proofs.ColumnRuns.{Stretch, Joins, Tries, Taking, stretch-start, stretch-end, joins-fits}
 use Rattle.best.proofs.ColumnRuns.{stretch-joins, counts-small, total-small, stay-ready, stay-fillable}
-use Rattle.best.proofs.ColumnRuns.{stay-then, taking-start, taking-down, taking-more, over-end, taken-small}
-use Rattle.best.proofs.ColumnRuns.{relax-ready, stops-end, stretch-again as again}
+use Rattle.best.proofs.ColumnRuns.{stay-then, stops-end, taking-start, taking-some, taking-down, taking-more}
+use Rattle.best.proofs.ColumnRuns.{taken-small, relax-ready, stretch-again as again}
 use Rattle.best.specs.CellsRun.{blockAt, Fillable}
 use mathlib.Core.List.{List}
 use Rattle.best.specs.Cells.{Cell}
@@ -144,13 +144,13 @@ loop-again : tie.Need-loop-again Inv-loop μ-loop Inv-stretch μ-stretch
 loop-again c =
     let l = c .before .before .before in
     let n = longer (l .before) in
-    taking-down (n .2) (n .0) (l .loop .inv) (c .before .if1 .left) (c .if2 .taken)
+    taking-down (n .2) (n .0) (l .loop .inv) (some-left (c .before)) (c .if2 .taken)
 
 loop-again-2 : tie.Need-loop-again-2 Inv-loop μ-loop Inv-stretch μ-stretch
 loop-again-2 c =
     let l = c .before .before .before in
     let n = longer (l .before) in
-    taking-more (n .2) (n .0) (l .loop .inv) (c .before .if1 .left) (c .if2 .left) (c .before .before .loop-test .taken)
+    taking-more (n .2) (n .0) (l .loop .inv) (some-left (c .before)) (c .if2 .left) (c .before .before .loop-test .taken)
 
 block-at-requires-3 : tie.Need-block-at-requires-3 Inv-loop μ-loop Inv-stretch μ-stretch
 block-at-requires-3 c κs =
