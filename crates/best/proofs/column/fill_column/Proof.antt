@@ -135,22 +135,39 @@ array-read-left c = omega (arith, longer c .0 .kept .top-high, longer c .2 .limi
 loop-holds : tie.Need-loop-holds Inv-loop μ-loop Inv-stretch μ-stretch
 loop-holds c = taking-start (longer c .2) (longer c .0)
 
+sub-if1 : tie.Need-sub-if1 Inv-loop μ-loop Inv-stretch μ-stretch
+sub-if1 c =
+    let n = longer (c .before .before .before) in
+    total-small (n .2) (n .0) .0
+
+-- the lightest total is within the limit, and the sum is not: a gain is left
+some-left : (c : tie.Else1 Inv-loop μ-loop Inv-stretch μ-stretch) → c .before .before .before .loop .gain ≡ 0 → ⊥
+some-left c =
+    let l = c .before .before .before in
+    let n = longer (l .before) in
+    taking-some (n .2) (n .0) (l .loop .inv) (c .if1 .left) (c .before .before .loop-test .taken)
+
+sub-gain : tie.Need-sub-gain Inv-loop μ-loop Inv-stretch μ-stretch
+sub-gain c = let some = some-left (c .before) in omega arith
+
 loop-less : tie.Need-loop-less Inv-loop μ-loop Inv-stretch μ-stretch
 loop-less c =
-    let l = c .before .before .before in
+    let l = c .before .before .before .before in
+    let some = some-left (c .before) in
     omega (arith, counts-small (longer (l .before) .2) (longer (l .before) .0) (l .loop .gain - 1))
 
 loop-again : tie.Need-loop-again Inv-loop μ-loop Inv-stretch μ-stretch
 loop-again c =
-    let l = c .before .before .before in
+    let l = c .before .before .before .before in
     let n = longer (l .before) in
     taking-down (n .2) (n .0) (l .loop .inv) (some-left (c .before)) (c .if2 .taken)
 
 loop-again-2 : tie.Need-loop-again-2 Inv-loop μ-loop Inv-stretch μ-stretch
 loop-again-2 c =
-    let l = c .before .before .before in
+    let i = c .before .before .before in
+    let l = i .before in
     let n = longer (l .before) in
-    taking-more (n .2) (n .0) (l .loop .inv) (some-left (c .before)) (c .if2 .left) (c .before .before .loop-test .taken)
+    taking-more (n .2) (n .0) (l .loop .inv) (some-left (c .before)) (c .if2 .left) (i .loop-test .taken)
 
 block-at-requires-3 : tie.Need-block-at-requires-3 Inv-loop μ-loop Inv-stretch μ-stretch
 block-at-requires-3 c κs =
@@ -178,29 +195,21 @@ relax-requires c κs =
     relax-ready (n .2) (n .0) (l .loop .inv) (b .before .loop-test .left) (n .1) _ _ (n .4)
     (b .block-at3 .ensures) (n .3)
 
-cast-if3 : tie.Need-cast-if3 Inv-loop μ-loop Inv-stretch μ-stretch
-cast-if3 c = omega (arith, longer (c .before .before .before .before .before .before .before) .2 .limit-high)
-
-sub-if3 : tie.Need-sub-if3 Inv-loop μ-loop Inv-stretch μ-stretch
-sub-if3 c =
-    let n = longer (c .before .before .before .before .before .before .before .before) in
-    total-small (n .2) (n .0) .0
-
 stretch-less : tie.Need-stretch-less Inv-loop μ-loop Inv-stretch μ-stretch
 stretch-less c =
-    let n = c .before .before .before .before .before .before .before .before .before in
+    let n = c .before .before .before .before .before .before .before in
     let i = n .before .before .before .before .before in
     let l = i .before in
     ready (l .before) .earlier (l .stretch .next) (omega (arith, i .stretch-test .taken))
 
 stretch-again : tie.Need-stretch-again Inv-loop μ-loop Inv-stretch μ-stretch
 stretch-again c =
-    let x = c .before .before .before .before in
+    let x = c .before .before in
     let b = x .before .before in
     let l = b .before .before in
     let n = longer (l .before) in
     again (n .2) (n .0) (l .loop .inv) (b .before .loop-test .left) (n .1) _ _ (n .4) (b .block-at3 .ensures) _
-    (x .relax .ensures) (c .if3 .left)
+    (x .relax .ensures)
 
 returns : tie.Need-returns Inv-loop μ-loop Inv-stretch μ-stretch
 returns c =
@@ -209,20 +218,9 @@ returns c =
 
 returns-2 : tie.Need-returns-2 Inv-loop μ-loop Inv-stretch μ-stretch
 returns-2 c =
-    let l = c .before .before in
-    let n = longer (l .before) in
-    whole (turn (l .before) .before)
-    (over-end (n .2) (n .0) (l .loop .inv) (c .if1 .taken) (c .before .loop-test .taken))
-
-returns-3 : tie.Need-returns-3 Inv-loop μ-loop Inv-stretch μ-stretch
-returns-3 c =
-    let x = c .before .before .before .before in
-    let b = x .before .before in
-    let l = b .before .before in
-    let n = longer (l .before) in
-    whole (turn (l .before) .before)
-    (stops-end (n .2) (n .0) (l .loop .inv) (b .before .loop-test .left) (n .1) _ _ (n .4) (b .block-at3 .ensures) _
-    (x .relax .ensures) (c .if3 .taken))
+    let a = c .before .before .before .before in
+    let n = longer a in
+    whole (turn a .before) (stops-end (n .2) (n .0) (c .if1 .taken))
 
 pub fill-column-spec : {M : Type 1} → statement M
 fill-column-spec =
@@ -231,7 +229,7 @@ fill-column-spec =
     cast-block-at block-at-requires-2 (λ c. search needs) (λ c. search needs) cast-stay stay-requires stretch-holds
     (λ c. search needs) (λ c. search needs) (λ c. search needs) (λ c. search needs) join-requires (λ c. search needs)
     (λ c. search needs) cast-next (λ c. search needs) (λ c. search needs) array-read-left loop-holds
-    (λ c. search needs) (λ c. search needs) (λ c. search needs) (λ c. search needs) (λ c. search needs) loop-less
-    loop-again (λ c. search needs) (λ c. search needs) (λ c. search needs) (λ c. search needs) (λ c. search needs)
-    loop-again-2 block-at-requires-3 add-relax mul-relax relax-requires cast-if3 sub-if3 stretch-less stretch-again
-    (λ c. search needs) returns (λ c. search needs) returns-2 (λ c. search needs) returns-3)
+    (λ c. search needs) (λ c. search needs) sub-if1 sub-gain (λ c. search needs) (λ c. search needs)
+    (λ c. search needs) loop-less loop-again (λ c. search needs) (λ c. search needs) (λ c. search needs)
+    (λ c. search needs) (λ c. search needs) loop-again-2 block-at-requires-3 add-relax mul-relax relax-requires
+    stretch-less stretch-again (λ c. search needs) returns (λ c. search needs) returns-2)
