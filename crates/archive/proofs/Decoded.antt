@@ -16,7 +16,7 @@ use Rattle.theory.specs.Bools.{and-true, and-false-left, and-false-right}
 use Rattle.theory.specs.Ranges.{pick-true, pick-false}
 use Rattle.theory.specs.Put.{putWord, length-putWord, Starts, starts-none, starts-word}
 use Rattle.theory.specs.ArchiveWords.{Described}
-use Rattle.archive.specs.Links.{Linked}
+use Rattle.writer.specs.Links.{Linked}
 use Rattle.archive.specs.DecodeTable.{WrittenBy, written-by, by-nodes, Loaded, links-in, links-at}
 use Rattle.archive.specs.DecodeTable.{treeUpto, length-treeUpto, tree-decoded}
 use Rattle.archive.specs.DecodeMarks.{Lasts, MarksInput, MarksRow, marks-decoded}

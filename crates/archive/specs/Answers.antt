@@ -1,7 +1,5 @@
--- What the archive's entries promise: an answer with what is left in the lent buffers; and what the reader learns of a
--- candidate.
--- Defines written, restored, CopyJudged. Proves write-both, read-both; copy-refused to copy-same; not-archive,
--- too-many. Assumes nothing.
+-- What the reader promises: an answer with what is left in the lent buffers; and what it learns of a candidate.
+-- Defines restored, CopyJudged. Proves read-both; copy-refused to copy-same; not-archive, too-many. Assumes nothing.
 use Prim.Native.Nat.{ℕ, _≤_, _<_}
 use native.Mathlib.Omega.{arith}
 use mathlib.Core.Bool.{true, false, _&&_, true≢false}
@@ -13,9 +11,9 @@ use Rattle.model.specs.Basics.{pick, sameList}
 use Rattle.model.specs.Table.{Bytes}
 use Rattle.model.specs.Plan.{verdictOf}
 use Rattle.model.specs.Archive.{archiveOf, nodesIn, tableIn, marksIn}
-use Rattle.model.specs.Refusals.{feasibleUnfiled, refused, answerOf, Written, writeArchive, isArchive, Restored}
+use Rattle.model.specs.Refusals.{feasibleUnfiled, refused, answerOf, Written, isArchive, Restored}
 use Rattle.model.specs.Refusals.{readArchive}
-use Rattle.model.specs.Demand.{WritePromise, ReadPromise}
+use Rattle.model.specs.Demand.{ReadPromise}
 use Rattle.model.specs.declared.Answer.{Answer}
 use Rattle.model.specs.declared.Edition.{Edition}
 use Rattle.theory.specs.Bools.{never-true, both-true, and-false-right}
@@ -23,23 +21,14 @@ use Rattle.theory.specs.JudgeAnswers.{pageCount-le}
 use Rattle.theory.specs.ArchiveWords.{Described, length-archive, archive-nodes}
 use Rattle.theory.specs.ArchiveBack.{sameList-true, write-read, read-write}
 use Rattle.theory.specs.ArchiveAnswers.{writeWith, WriteDone, writer-done, writer-refused}
-use Rattle.theory.specs.PromiseArchive.{write-promise, read-promise}
-use Rattle.archive.specs.Size.{longestArchive, InRoom, fits-longest}
-
-abbrev pub written : Answer → List ℕ → Written
-written r o = record { answer = r; archive = o }
+use Rattle.theory.specs.PromiseArchive.{read-promise}
+use Rattle.writer.specs.Size.{longestArchive, InRoom, fits-longest}
+use Rattle.writer.specs.Written.{written}
 
 abbrev pub restored : Answer → List ℕ → List ℕ → Restored
 restored r t m = record { answer = r; table = t; marks = m }
 
 -- an answer and what is left, with the promise that they carry
-pub write-both : {e : Edition} → Described e → {t m out o : List ℕ} {r : Answer} → written r o ≡ writeArchive e t m out
-    → (written r o ≡ writeArchive e t m out) × WritePromise e t m out r o
-write-both d {t} {m} {out} w = (
-  w,
-  rw (ap (λ (x : Written). x .answer) w, ap (λ (x : Written). x .archive) w) (write-promise d t m out),
-)
-
 pub read-both : {e : Edition} → Described e → {a table marks t m : List ℕ} {r : Answer} → Bytes a
     → restored r t m ≡ readArchive e a table marks
     → (restored r t m ≡ readArchive e a table marks) × ReadPromise e a table marks r t m

@@ -25,7 +25,7 @@ use Rattle.theory.specs.PagesByNumber.{Page}
 use Rattle.theory.specs.Put.{length-recordsTo}
 use Rattle.theory.specs.ArchiveWords.{Described, archive-nodes, archive-pages, archive-parent}
 use Rattle.theory.specs.ArchiveBack.{read-write, archive-next, begin-back, end-back}
-use Rattle.archive.specs.Links.{nextWith, Linked, nextWith-cong}
+use Rattle.writer.specs.Links.{nextWith, Linked, nextWith-cong}
 
 -- an archive, and the tree and the plan that write it
 pub record WrittenBy (e : Edition) (a t m : List ℕ) : Type 0 where

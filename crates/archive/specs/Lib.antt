@@ -1,7 +1,4 @@
--- What the archive's code is written against.
-pub mod Size
-pub mod Links
-pub mod RecordsOf
+-- What the reader's code is written against.
 pub mod Answers
 pub mod DecodeTable
 pub mod DecodeMarks

@@ -1,11 +1,6 @@
-// The archive: its writer and its reader, in an edition. Refusals 12 and 13.
+// The archive's reader, in an edition: it writes what it decoded, and compares. Refusal 13, and 12 and 8.
 mod decode;
 mod fields;
-mod links;
 mod read;
-mod records;
-mod size;
-mod write;
 
 pub use read::read_archive;
-pub use write::write_archive;

@@ -2,16 +2,16 @@
 // that gives the very same bytes.
 use crate::decode::decode;
 use crate::fields::nodes_in;
-use crate::size::MOST_BYTES;
-use crate::size::MOST_NODES;
-use crate::size::MOST_TABLE;
-use crate::size::first_edition;
-use crate::write::write_edition;
 use model::Answer;
 use model::Edition;
 use table::check_tree;
 use table::refuse;
 use table::table_bytes;
+use writer::size::MOST_BYTES;
+use writer::size::MOST_NODES;
+use writer::size::MOST_TABLE;
+use writer::size::first_edition;
+use writer::write::write_edition;
 ghost use mathlib.Core.Path.{_≡_};
 ghost use Prim.Native.Nat.{_≤_};
 ghost use lib.ListN.{length};
@@ -19,7 +19,7 @@ ghost use Rattle.model.specs.Basics.{sameList};
 ghost use Rattle.model.specs.Archive.{firstEdition, nodesIn};
 ghost use Rattle.model.specs.Refusals.{readArchive};
 ghost use Rattle.model.specs.Demand.{ReadPromise};
-ghost use Rattle.archive.specs.Size.{InRoom};
+ghost use Rattle.writer.specs.Size.{InRoom};
 ghost use Rattle.archive.specs.Answers.{restored, CopyJudged};
 
 // Whether two strings of bytes are the same.

@@ -159,7 +159,7 @@ pub extern "C" fn balduqen_write_archive(table: &[u8], marks: &[u8], archive: &m
     ensures { λ r. ⌜ WriteFigures firstEdition (now (table .entry)) (now (marks .entry)) (now (archive .entry))
         r (now (archive .exit)) ⌝ }
 {
-    flatten(archive::write_archive(table, marks, archive))
+    flatten(writer::write_archive(table, marks, archive))
 }
 
 #[no_mangle]

@@ -2,7 +2,7 @@
 use native.Mathlib.Omega.{arith}
 use lib.ListN.{getD}
 use Rattle.model.specs.Archive.{parentIn}
-use Rattle.archive.specs.Links.{nextWith-le}
+use Rattle.writer.specs.Links.{nextWith-le}
 use Rattle.archive.specs.DecodeTable.{fitted-small}
 use Rattle.archive.proofs.Decoded.{decoded}
 use borrow.Author.Needs.{needs}

@@ -7,7 +7,7 @@ use native.Mathlib.Omega.{arith}
 use lib.ListN.{length}
 use Rattle.model.specs.Archive.{nodesIn, limitIn}
 use Rattle.theory.specs.Put.{Starts, RecordsPut, records-none, records-four}
-use Rattle.archive.specs.Size.{longestTable}
+use Rattle.writer.specs.Size.{longestTable}
 use Rattle.archive.specs.DecodeTable.{treeRow, tree-wide, tree-row, treeUpto}
 use Rattle.archive.proofs.Decoded.{tree-begin}
 use borrow.Author.Needs.{needs}

@@ -10,8 +10,9 @@ use Rattle.model.specs.declared.Answer.{Answer}
 use Rattle.model.specs.declared.Edition.{Edition}
 use Rattle.theory.specs.JudgeAnswers.{with-facts}
 use Rattle.theory.specs.ArchiveAnswers.{writeWith, write-entry}
-use Rattle.archive.specs.Size.{longestArchive, InRoom}
-use Rattle.archive.specs.Answers.{written, copy-refused, copy-long, copy-stopped, copy-differs, copy-same}
+use Rattle.writer.specs.Size.{longestArchive, InRoom}
+use Rattle.writer.specs.Written.{written}
+use Rattle.archive.specs.Answers.{copy-refused, copy-long, copy-stopped, copy-differs, copy-same}
 use Rattle.archive.proofs.ReadAnswers.{fresh-part, part-within, part-long, part-back}
 use borrow.Author.Needs.{needs}
 use Rattle.archive.proofs.read.judge_copy.Statement.{statement}

@@ -4,7 +4,7 @@ use native.Mathlib.Omega.{arith}
 use Rattle.model.specs.Refusals.{readArchive}
 use Rattle.model.specs.declared.Edition.{Edition}
 use Rattle.theory.specs.ArchiveWords.{first-described}
-use Rattle.archive.specs.Size.{InRoom, first-room}
+use Rattle.writer.specs.Size.{InRoom, first-room}
 use Rattle.archive.specs.Answers.{read-both}
 use borrow.Author.Needs.{needs}
 use Rattle.archive.proofs.read.read_archive.Statement.{statement}

@@ -9,7 +9,7 @@ use Rattle.model.specs.Table.{tableBytes}
 use Rattle.model.specs.Archive.{nodesIn, tableIn, marksIn}
 use Rattle.model.specs.Refusals.{isArchive}
 use Rattle.model.specs.declared.Edition.{Edition}
-use Rattle.archive.specs.Size.{archiveNodes, longestTable}
+use Rattle.writer.specs.Size.{archiveNodes, longestTable}
 use Rattle.archive.proofs.ReadAnswers.{known-part, reader-many, reader-none, reader-table, reader-marks}
 use Rattle.archive.proofs.ReadAnswers.{reader-done}
 use borrow.Author.Needs.{needs}

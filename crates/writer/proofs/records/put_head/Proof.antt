@@ -1,7 +1,7 @@
--- `archive::records::put_head` meets its contract. Assumes nothing.
+-- `writer::records::put_head` meets its contract. Assumes nothing.
 use borrow.Author.Needs.{needs}
-use Rattle.archive.proofs.records.put_head.Statement.{statement}
-use Rattle.archive.proofs.records.put_head.Tie as tie
+use Rattle.writer.proofs.records.put_head.Statement.{statement}
+use Rattle.writer.proofs.records.put_head.Tie as tie
 
 returns : tie.Need-returns
 returns c = cc

@@ -13,8 +13,8 @@ ghost use Rattle.model.specs.Table.{nodeCount, slots};
 ghost use Rattle.model.specs.Archive.{nextPage, archiveBytes};
 ghost use Rattle.theory.specs.Ranges.{Upto};
 ghost use Rattle.theory.specs.Put.{putWord, RecordsPut};
-ghost use Rattle.archive.specs.Size.{InRoom};
-ghost use Rattle.archive.specs.RecordsOf.{pageRow, nodeRow};
+ghost use Rattle.writer.specs.Size.{InRoom};
+ghost use Rattle.writer.specs.RecordsOf.{pageRow, nodeRow};
 
 // N, K and P, the last three words of the head.
 pub fn put_head(e: Edition, nodes: u16, limit: u16, pages: u16, out: &mut [u8])

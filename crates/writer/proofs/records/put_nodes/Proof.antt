@@ -1,4 +1,4 @@
--- `archive::records::put_nodes` meets its contract: the records of the nodes passed stand after what stood before.
+-- `writer::records::put_nodes` meets its contract: the records of the nodes passed stand after what stood before.
 -- Assumes nothing.
 use mathlib.Core.Path.{_≡_, refl, _∙_, subst}
 use Prim.Native.Nat.{_+_, _-_, _*_, _≤_}
@@ -6,11 +6,11 @@ use native.Mathlib.Omega.{arith}
 use lib.ListN.{length}
 use Rattle.model.specs.Table.{nodeCount, maxNodes}
 use Rattle.theory.specs.Put.{RecordsPut, records-none, records-four}
-use Rattle.archive.specs.Size.{mostPage, page-words}
-use Rattle.archive.specs.RecordsOf.{nodeRow, node-wide, node-row}
+use Rattle.writer.specs.Size.{mostPage, page-words}
+use Rattle.writer.specs.RecordsOf.{nodeRow, node-wide, node-row}
 use borrow.Author.Needs.{needs}
-use Rattle.archive.proofs.records.put_nodes.Statement.{statement}
-use Rattle.archive.proofs.records.put_nodes.Tie as tie
+use Rattle.writer.proofs.records.put_nodes.Statement.{statement}
+use Rattle.writer.proofs.records.put_nodes.Tie as tie
 
 abbrev Inv-loop : tie.InvT-loop
 Inv-loop table parents nexts pages out₀ nodes at₀ v₀ out at v =

@@ -1,4 +1,4 @@
--- `archive::records::put_pages` meets its contract: the records of the pages passed stand after the head. Assumes
+-- `writer::records::put_pages` meets its contract: the records of the pages passed stand after the head. Assumes
 -- nothing.
 use mathlib.Core.Path.{_≡_, refl, _∙_, subst}
 use Prim.Native.Nat.{_+_, _-_, _*_, _≤_}
@@ -6,11 +6,11 @@ use native.Mathlib.Omega.{arith}
 use lib.ListN.{length}
 use Rattle.model.specs.Table.{maxNodes}
 use Rattle.theory.specs.Put.{RecordsPut, records-none, records-four}
-use Rattle.archive.specs.Size.{mostPage, page-words}
-use Rattle.archive.specs.RecordsOf.{pageRow, page-wide, page-row, page-room}
+use Rattle.writer.specs.Size.{mostPage, page-words}
+use Rattle.writer.specs.RecordsOf.{pageRow, page-wide, page-row, page-room}
 use borrow.Author.Needs.{needs}
-use Rattle.archive.proofs.records.put_pages.Statement.{statement}
-use Rattle.archive.proofs.records.put_pages.Tie as tie
+use Rattle.writer.proofs.records.put_pages.Statement.{statement}
+use Rattle.writer.proofs.records.put_pages.Tie as tie
 
 abbrev Inv-loop : tie.InvT-loop
 Inv-loop e firsts lasts weights pages out₀ at₀ p₀ out at p =

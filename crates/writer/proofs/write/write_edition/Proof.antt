@@ -1,4 +1,4 @@
--- `archive::write::write_edition` meets its contract. Assumes nothing.
+-- `writer::write::write_edition` meets its contract. Assumes nothing.
 use mathlib.Core.List.{List}
 use mathlib.Core.Path.{_≡_, ap, ap₂, _∙_}
 use Prim.Native.Nat.{ℕ}
@@ -12,10 +12,10 @@ use Rattle.model.specs.declared.Edition.{Edition}
 use Rattle.theory.specs.PlanFeasible.{Judged}
 use Rattle.theory.specs.ArchiveAnswers.{from-refused, from-short, judged-from, from-done}
 use Rattle.judge.specs.Rows.{IsLayout}
-use Rattle.archive.specs.Answers.{written}
+use Rattle.writer.specs.Written.{written}
 use borrow.Author.Needs.{needs}
-use Rattle.archive.proofs.write.write_edition.Statement.{statement}
-use Rattle.archive.proofs.write.write_edition.Tie as tie
+use Rattle.writer.proofs.write.write_edition.Statement.{statement}
+use Rattle.writer.proofs.write.write_edition.Tie as tie
 
 -- ---- Where the judge accepts
 

@@ -20,7 +20,7 @@ use Rattle.theory.specs.Slots.{Row}
 use Rattle.theory.specs.Put.{putWord, length-putWord, Starts, starts-none, starts-word, starts-all, RecordsPut}
 use Rattle.theory.specs.Put.{length-recordsTo}
 use Rattle.theory.specs.ArchiveWords.{Described, length-nodeRecord}
-use Rattle.archive.specs.Links.{nextWith, Linked, Fit, nextWith-cong}
+use Rattle.writer.specs.Links.{nextWith, Linked, Fit, nextWith-cong}
 
 -- ---- The head
 

@@ -3,7 +3,7 @@
 use table::SLOTS;
 ghost use Prim.Native.Nat.{_<_};
 ghost use Rattle.model.specs.Table.{slots};
-ghost use Rattle.archive.specs.Links.{Linked, Fit};
+ghost use Rattle.writer.specs.Links.{Linked, Fit};
 
 pub fn link_next(keys: &[u16; SLOTS], nodes: u16) -> [u16; SLOTS]
     requires { ⌜ (nodes < slots) × Fit nodes (now keys) ⌝ }

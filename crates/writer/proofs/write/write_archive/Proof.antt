@@ -1,4 +1,4 @@
--- `archive::write::write_archive` meets its contract. Assumes nothing.
+-- `writer::write::write_archive` meets its contract. Assumes nothing.
 use mathlib.Core.Bool.{true}
 use mathlib.Core.Path.{sym, ap, subst, _∙_}
 use Rattle.model.specs.Basics.{pick}
@@ -9,11 +9,11 @@ use Rattle.model.specs.declared.Edition.{Edition}
 use Rattle.theory.specs.JudgeAnswers.{with-facts}
 use Rattle.theory.specs.ArchiveWords.{first-described}
 use Rattle.theory.specs.ArchiveAnswers.{writeFrom, write-entry}
-use Rattle.archive.specs.Size.{InRoom, first-room}
-use Rattle.archive.specs.Answers.{write-both}
+use Rattle.writer.specs.Size.{InRoom, first-room}
+use Rattle.writer.specs.Written.{write-both}
 use borrow.Author.Needs.{needs}
-use Rattle.archive.proofs.write.write_archive.Statement.{statement}
-use Rattle.archive.proofs.write.write_archive.Tie as tie
+use Rattle.writer.proofs.write.write_archive.Statement.{statement}
+use Rattle.writer.proofs.write.write_archive.Tie as tie
 
 write-edition-requires : tie.Need-write-edition-requires
 write-edition-requires c κs =

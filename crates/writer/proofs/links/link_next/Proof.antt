@@ -1,4 +1,4 @@
--- `archive::links::link_next` meets its contract: what was seen of each key so far, and the links of the nodes passed.
+-- `writer::links::link_next` meets its contract: what was seen of each key so far, and the links of the nodes passed.
 -- Assumes nothing.
 use mathlib.Core.Path.{_≡_}
 use mathlib.Core.Path.{refl}
@@ -7,10 +7,10 @@ use native.Mathlib.Omega.{arith}
 use lib.ListN.{length, getD}
 use lib.ListN.{length-set, replicate, getD-replicate}
 use Rattle.model.specs.Table.{slots}
-use Rattle.archive.specs.Links.{Seen, LinkedFrom, seen-start, seen-turn, linked-start, linked-turn}
+use Rattle.writer.specs.Links.{Seen, LinkedFrom, seen-start, seen-turn, linked-start, linked-turn}
 use borrow.Author.Needs.{needs}
-use Rattle.archive.proofs.links.link_next.Statement.{statement}
-use Rattle.archive.proofs.links.link_next.Tie as tie
+use Rattle.writer.proofs.links.link_next.Statement.{statement}
+use Rattle.writer.proofs.links.link_next.Tie as tie
 
 abbrev Inv-loop : tie.InvT-loop
 Inv-loop keys nodes seen₀ next₀ v₀ seen next v =

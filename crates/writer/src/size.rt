@@ -2,7 +2,7 @@
 use model::Edition;
 ghost use mathlib.Core.Path.{_≡_};
 ghost use Rattle.model.specs.Archive.{firstEdition, archiveBytes};
-ghost use Rattle.archive.specs.Size.{InRoom};
+ghost use Rattle.writer.specs.Size.{InRoom};
 
 // Room for the largest edition in the reader's arrays: the words of its head and of a page record, and the most nodes,
 // and so pages, of an archive.

@@ -1,14 +1,14 @@
--- `archive::write::fill_archive` meets its contract. Assumes nothing.
+-- `writer::write::fill_archive` meets its contract. Assumes nothing.
 use mathlib.Core.Path.{_∙_}
 use Prim.Native.Nat.{_<_}
 use native.Mathlib.Omega.{arith}
 use Rattle.model.specs.Table.{slots}
 use Rattle.theory.specs.JudgeAnswers.{pageCount-le}
 use Rattle.theory.specs.ArchiveBack.{judged-light}
-use Rattle.archive.specs.RecordsOf.{head-put, all-put, next-of-page, page-fits}
+use Rattle.writer.specs.RecordsOf.{head-put, all-put, next-of-page, page-fits}
 use borrow.Author.Needs.{needs}
-use Rattle.archive.proofs.write.fill_archive.Statement.{statement}
-use Rattle.archive.proofs.write.fill_archive.Tie as tie
+use Rattle.writer.proofs.write.fill_archive.Statement.{statement}
+use Rattle.writer.proofs.write.fill_archive.Tie as tie
 
 link-next-requires : tie.Need-link-next-requires
 link-next-requires c κs =

@@ -1,9 +1,9 @@
--- `archive::size::archive_bytes` meets its contract. Assumes nothing.
+-- `writer::size::archive_bytes` meets its contract. Assumes nothing.
 use native.Mathlib.Omega.{arith}
-use Rattle.archive.specs.Size.{page-words}
+use Rattle.writer.specs.Size.{page-words}
 use borrow.Author.Needs.{needs}
-use Rattle.archive.proofs.size.archive_bytes.Statement.{statement}
-use Rattle.archive.proofs.size.archive_bytes.Tie as tie
+use Rattle.writer.proofs.size.archive_bytes.Statement.{statement}
+use Rattle.writer.proofs.size.archive_bytes.Tie as tie
 
 mul-result-3 : tie.Need-mul-result-3
 mul-result-3 c =

@@ -1,10 +1,10 @@
--- `archive::records::page_after` meets its contract. Assumes nothing.
+-- `writer::records::page_after` meets its contract. Assumes nothing.
 use borrow.Author.Tests.{lt-ltb, le-ltb}
 use Rattle.model.specs.Basics.{pick}
 use Rattle.model.specs.Archive.{nextPage}
 use borrow.Author.Needs.{needs}
-use Rattle.archive.proofs.records.page_after.Statement.{statement}
-use Rattle.archive.proofs.records.page_after.Tie as tie
+use Rattle.writer.proofs.records.page_after.Statement.{statement}
+use Rattle.writer.proofs.records.page_after.Tie as tie
 
 returns : tie.Need-returns
 unfolding nextPage pick

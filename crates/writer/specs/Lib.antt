@@ -1,0 +1,5 @@
+-- What the writer's code is written against.
+pub mod Size
+pub mod Links
+pub mod RecordsOf
+pub mod Written

@@ -1,0 +1,7 @@
+// The archive's writer, in an edition. Refusal 12. What the reader takes from it is public.
+pub mod links;
+mod records;
+pub mod size;
+pub mod write;
+
+pub use write::write_archive;
