@@ -93,24 +93,14 @@ fn runs_under_limit_1() {
     });
 }
 
-/// Trees of notes only are one page of weight 0, by whichever planner.
+/// Small trees of notes only are one page of weight 0, by whichever planner.
 #[test]
 fn notes_only() {
-    for_each_table(1..=6, &[0], &[1, 2, 1024], |table| {
+    for_each_table(1..=7, &[0], &[1, 2, 1024], |table| {
         for kind in KINDS {
             assert_eq!(score(kind, table), (1, 0), "{kind:?} {table:?}");
         }
     });
-    let random = &mut Random::new(407);
-    for form in FORMS {
-        for limit in [1, 1024] {
-            let parents = random_parents(random, form, 1024);
-            let table = Table::new(limit, &parents, &[0; 1024]).bytes();
-            for kind in KINDS {
-                assert_eq!(score(kind, &table), (1, 0), "{kind:?} {form:?}");
-            }
-        }
-    }
 }
 
 /// Notes among the nodes of a tree cost nothing, also where the tree is too large for a search.

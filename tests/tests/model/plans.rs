@@ -23,7 +23,7 @@ fn told(tree: &Tree, prefixes: &BTreeSet<Vec<u8>>, marks: &[u8]) -> Answer {
 #[test]
 fn judge_of_all_marks() {
     let mut seen = Seen::default();
-    for_each_table(1..=5, &[0, 1, 3], &[3, 5], |table| {
+    let mut judge_all = |table: &[u8]| {
         let tree = read(table).expect("an accepted table");
         let mut prefixes = BTreeSet::new();
         for_each_plan(&tree, |marks| {
@@ -37,7 +37,10 @@ fn judge_of_all_marks() {
             assert_eq!(score_of_plan(&tree, marks), score, "{tree:?} {marks:?}");
             seen.add(answer);
         });
-    });
+    };
+    for_each_table(1..=5, &[1, 3], &[3, 5], &mut judge_all);
+    for_each_table(1..=4, &[0, 1, 3], &[3, 5], &mut judge_all);
+    for_each_table(5..=5, &[0, 2], &[2, 4], &mut judge_all);
     seen.expect(&[0, 10, 11], 1000);
 }
 
