@@ -16,8 +16,9 @@
  *   word 0         N, 1 to 1024
  *   word 1         K, 1 to 1024
  *   then for each node, from node 1 on, a record of four words:
- *                  weight (1 to 65535), label (1 to 65535; 0 is a lot that nobody has filed, which
- *                  only older film has), first child, next sibling
+ *                  weight (0 to 65535; 0 is a note, kept on the margin of the film), label (1 to
+ *                  65535; 0 is a lot that nobody has filed, which only older film has), first
+ *                  child, next sibling
  *
  * Nodes are numbered from 1, and 0 stands for no node. Node 1 is the root and has no sibling. The
  * children of a node are a chain: the first child, its next sibling, and so on until a 0. The order
@@ -60,7 +61,6 @@ extern "C" {
  *    2   N is 0 or over 1024                                 N
  *    3   K is 0 or over 1024                                 K
  *    4   the table's length is not 4 + 8 * N                 the right length
- *    5   a weight is 0                                       first such node
  *    6   the walk from node 1 does not meet 1, 2, .., N      nodes met in order; 0 if node 1 has a
  *                                                            sibling
  *    7   a node outweighs K                                  first such node
@@ -72,8 +72,8 @@ extern "C" {
  *   13   no tree and plan write it, also if labels may be 0  0
  *   14   a label is 0: a lot that nobody has filed           first such node
  *
- * The lowest that applies is given, with 14 between 5 and 6; balduqen_read_archive checks 13, then
- * 12, then 8.
+ * The lowest that applies is given, with 14 before 6; balduqen_read_archive checks 13, then 12,
+ * then 8. Number 5 is retired and never given: it was for a weight of 0, which is allowed now.
  */
 enum {
     BALDUQEN_ACCEPTED = 0,
@@ -81,7 +81,6 @@ enum {
     BALDUQEN_BAD_COUNT = 2,
     BALDUQEN_BAD_LIMIT = 3,
     BALDUQEN_BAD_LENGTH = 4,
-    BALDUQEN_NO_WEIGHT = 5,
     BALDUQEN_BAD_WALK = 6,
     BALDUQEN_HEAVY_NODE = 7,
     BALDUQEN_BAD_MARKS = 8,
@@ -100,18 +99,18 @@ typedef struct {
     uint32_t number, place, pages, root;
 } balduqen_answer;
 
-/* Whether the table holds a tree that can be planned. Refuses 1 to 7 and 14; 7 means that no plan at
- * all holds the tree. */
+/* Whether the table holds a tree that can be planned. Refuses 1 to 4, 6, 7 and 14; 7 means that no
+ * plan at all holds the tree. */
 balduqen_answer balduqen_read_tree(const uint8_t *table, size_t table_length);
 
-/* Whether the marks are a plan of the tree with no page over the limit. Refuses 1 to 8, 10, 11
- * and 14. */
+/* Whether the marks are a plan of the tree with no page over the limit. Refuses 1 to 4, 6 to 8, 10,
+ * 11 and 14. */
 balduqen_answer balduqen_judge(const uint8_t *table, size_t table_length,
                                const uint8_t *marks, size_t marks_length);
 
 /* The planners fill the N marks with a plan that the judge accepts, and leave every scratch word 0.
  * What either holds before is of no matter. The scratch has at least 4 * N * (K + 3) words. They
- * refuse 1 to 9 and 14, and nothing else: a tree that can be planned gets its plan. */
+ * refuse 1 to 4, 6 to 9 and 14, and nothing else: a tree that can be planned gets its plan. */
 
 /* The fewest pages of all plans and, with as many, the lightest root page. */
 balduqen_answer balduqen_plan_best(const uint8_t *table, size_t table_length,
@@ -148,8 +147,9 @@ balduqen_answer balduqen_plan_depth_first(const uint8_t *table, size_t table_len
                                           uint32_t *scratch, size_t scratch_length);
 
 /* Writes the archive of a tree and a plan. The archive buffer has exactly 6 + 8 * P + 8 * N bytes,
- * where P is the page count that the planner or the judge gave. Refuses 1 to 8, 10 to 12 and 14. With
- * the marks of balduqen_plan_best, page count and root weight on film are that planner's. */
+ * where P is the page count that the planner or the judge gave. Refuses 1 to 4, 6 to 8, 10 to 12
+ * and 14. With the marks of balduqen_plan_best, page count and root weight on film are that
+ * planner's. */
 balduqen_answer balduqen_write_archive(const uint8_t *table, size_t table_length,
                                        const uint8_t *marks, size_t marks_length,
                                        uint8_t *archive, size_t archive_length);

@@ -87,9 +87,10 @@ impl<'a> Columns<'a> {
     fn fill(&mut self, child: usize, run: &mut Run) {
         self.let_stay(child);
         run.clear();
-        // The sibling just left of the run.
+        // The sibling just left of the run. Only past the limit does no longer run fit: on reaching
+        // it, siblings that add nothing may follow.
         let mut left = child;
-        while left != 0 && run.lightest() < self.tree.limit as u32 {
+        while left != 0 && run.lightest() <= self.tree.limit as u32 {
             run.add(self.figures[left]);
             left = self.tree.before[left];
             if let Some(taken) = run.seconds_taken() {

@@ -44,25 +44,31 @@ pub struct Load {
     pub shape: Shape,
     pub nodes: usize,
     pub limit: usize,
-    /// Weights are 1 up to this.
+    /// Weights are from the one up to the other.
+    lightest: usize,
     pub heaviest: usize,
     pub table: Vec<u8>,
 }
 
 impl Load {
-    fn new(shape: Shape, nodes: usize, limit: usize, heaviest: usize) -> Load {
+    fn new(shape: Shape, nodes: usize, limit: usize, [lightest, heaviest]: [usize; 2]) -> Load {
         Load {
             shape,
             nodes,
             limit,
+            lightest,
             heaviest,
-            table: table(shape, nodes, limit, heaviest),
+            table: table(shape, nodes, limit, [lightest, heaviest]),
         }
     }
 
+    pub fn weights(&self) -> String {
+        format!("{}-{}", self.lightest, self.heaviest)
+    }
+
     pub fn name(&self) -> String {
-        let shape = self.shape.name();
-        format!("{shape}, weights 1-{}, K {}", self.heaviest, self.limit)
+        let (shape, weights) = (self.shape.name(), self.weights());
+        format!("{shape}, weights {weights}, K {}", self.limit)
     }
 }
 
@@ -72,8 +78,20 @@ pub fn loads() -> Vec<Load> {
     for shape in SHAPES {
         for limit in LIMITS {
             for heaviest in [3, limit / 4] {
-                list.push(Load::new(shape, NODES, limit, heaviest));
+                list.push(Load::new(shape, NODES, limit, [1, heaviest]));
             }
+        }
+    }
+    list
+}
+
+/// Each shape with nothing but notes of weight 0, and with weights from 0 up, where runs of more nodes
+/// than the limit come up. They are compared and not timed.
+pub fn loads_with_notes() -> Vec<Load> {
+    let mut list = vec![];
+    for shape in SHAPES {
+        for (limit, heaviest) in [(1, 0), (4, 1), (64, 3), (64, 16), (1024, 3)] {
+            list.push(Load::new(shape, NODES, limit, [0, heaviest]));
         }
     }
     list
@@ -82,7 +100,7 @@ pub fn loads() -> Vec<Load> {
 /// Each shape in all sizes, with the lowest limit and weights up to a quarter of it.
 pub fn loads_by_size() -> [[Load; SIZES.len()]; SHAPES.len()] {
     let limit = LIMITS[0];
-    SHAPES.map(|shape| SIZES.map(|nodes| Load::new(shape, nodes, limit, limit / 4)))
+    SHAPES.map(|shape| SIZES.map(|nodes| Load::new(shape, nodes, limit, [1, limit / 4])))
 }
 
 /// A linear congruential generator; a draw is the upper half of its state.
@@ -96,7 +114,7 @@ impl Draws {
     }
 }
 
-fn table(shape: Shape, nodes: usize, limit: usize, heaviest: usize) -> Vec<u8> {
+fn table(shape: Shape, nodes: usize, limit: usize, [lightest, heaviest]: [usize; 2]) -> Vec<u8> {
     let mut draws = Draws(1);
     let mut words = vec![nodes, limit];
     // The newest node of each depth, the newest of all at the end.
@@ -113,7 +131,8 @@ fn table(shape: Shape, nodes: usize, limit: usize, heaviest: usize) -> Vec<u8> {
         }
         branch.truncate(depth);
         branch.push(node);
-        words.extend([draws.up_to(heaviest), node, 0, 0]);
+        let weight = lightest + draws.up_to(heaviest - lightest + 1) - 1;
+        words.extend([weight, node, 0, 0]);
     }
     words
         .iter()

@@ -20,12 +20,14 @@ use show::Row;
 
 fn main() {
     let loads = load::loads();
-    for load in &loads {
+    let noted = load::loads_with_notes();
+    for load in loads.iter().chain(&noted) {
         for kind in KINDS {
             measure::check_agreement(load, kind);
         }
     }
-    println!("All forms agree on {} trees.", loads.len());
+    let (all, noted) = (loads.len() + noted.len(), noted.len());
+    println!("All forms agree on {all} trees, {noted} of them with weights of 0.");
 
     show::print_head();
     let mut rows = vec![];

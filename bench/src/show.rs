@@ -80,8 +80,8 @@ pub struct Row<'a> {
 impl Row<'_> {
     /// What is planned, and by whom.
     fn print_name(&self) {
-        let weights = format!("1-{}", self.load.heaviest);
-        let (shape, kind) = (self.load.shape.name(), self.kind.name());
+        let (shape, weights) = (self.load.shape.name(), self.load.weights());
+        let kind = self.kind.name();
         print!("{shape:<7}{weights:>8}{:>6}  {kind:<11}", self.load.limit);
     }
 

@@ -28,7 +28,7 @@ impl Tree {
         })
     }
 
-    /// The tree of a table, or refusals 1 to 7 in their order, with 14 between 5 and 6.
+    /// The tree of a table, or refusals 1 to 4, 14, 6 and 7, in that order.
     pub fn read(table: &[u8]) -> Result<Tree, Answer> {
         let (count, limit) = read_head(table)?;
         let column = |offset| {
@@ -44,22 +44,16 @@ impl Tree {
             last: vec![0; count + 1],
             before: vec![0; count + 1],
         };
-        if let Some(node) = tree.first_node(|weight| weight == 0) {
-            return Err(Answer::refused(5, node));
-        }
         let mut labels = column(1).enumerate().skip(1);
         if let Some((node, _)) = labels.find(|&(_, label)| label == 0) {
             return Err(Answer::refused(14, node));
         }
         tree.walk().map_err(|met| Answer::refused(6, met))?;
-        if let Some(node) = tree.first_node(|weight| weight as usize > limit) {
+        let mut nodes = 1..=count;
+        if let Some(node) = nodes.find(|&node| tree.weight[node] as usize > limit) {
             return Err(Answer::refused(7, node));
         }
         Ok(tree)
-    }
-
-    fn first_node(&self, test: impl Fn(u32) -> bool) -> Option<usize> {
-        (1..=self.count()).find(|&node| test(self.weight[node]))
     }
 
     /// Walks the chains from node 1, child before sibling, and notes the links back. An error is

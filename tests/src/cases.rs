@@ -1,5 +1,5 @@
 //! Cases A to G of document 01, its examples of refusals, and what document 02 adds: one for refusal
-//! 14, and the plans of request Two.
+//! 14, the plans of request Two, and those of trees with weights of 0.
 
 use crate::ffi;
 use crate::gen::Table;
@@ -94,8 +94,36 @@ pub fn case_g() -> Table {
     Table::new(5, &[0, 1, 2, 1, 1], &[1, 2, 3, 2, 2])
 }
 
-/// The plans that document 01 gives, and those that follow by hand from its planner steps and from
-/// those of request Two.
+/// Root 2 and children 1 0 1 under limit 2: the note between them is in the run, which has more nodes
+/// than the limit.
+pub fn note_between() -> Table {
+    Table::new(2, &[0, 1, 1, 1], &[2, 1, 0, 1])
+}
+
+/// The same with four notes.
+pub fn notes_between() -> Table {
+    Table::new(2, &[0, 1, 1, 1, 1, 1, 1], &[2, 1, 0, 0, 0, 0, 1])
+}
+
+/// Case E with two notes on either side of the middle child, and one between that child's children.
+pub fn case_e_with_notes() -> Table {
+    let parents = [0, 1, 1, 1, 1, 5, 5, 5, 1, 1, 1];
+    Table::new(5, &parents, &[5, 2, 0, 0, 1, 2, 0, 2, 0, 0, 1])
+}
+
+/// The shape of case E under limit 2, with a note in the middle: only by its second plan, which cuts
+/// both its children off, do the three children of the root come to 2.
+pub fn small_e_with_note() -> Table {
+    Table::new(2, &[0, 1, 1, 3, 3, 1], &[2, 1, 0, 1, 1, 1])
+}
+
+/// Children of weight 0 at both ends of a run and in it, those at the ends with a child of weight 1.
+pub fn notes_at_the_ends() -> Table {
+    Table::new(3, &[0, 1, 2, 1, 1, 1, 6], &[3, 0, 1, 0, 1, 0, 1])
+}
+
+/// The plans that document 01 gives, and those that follow by hand from its planner steps, from those
+/// of request Two and from the stop of request Three.
 pub fn made() -> Vec<Made> {
     let mut list = vec![];
     let mut add = |name, table: Table, kinds: &[Kind], marks: &[u8], pages, root| {
@@ -275,14 +303,183 @@ pub fn made() -> Vec<Made> {
     // Nodes 4 and 5 stay with their parent, node 6 continues that parent's run, and node 7 stays.
     let both = Table::new(5, &[0, 1, 1, 3, 3, 1, 6], &[2, 3, 1, 1, 1, 1, 1]);
     add("both", both, &QUICK, &[1, 0, 1, 0, 0, 2, 0], 2, 5);
+
+    // Nothing is cut where nothing weighs anything, under any limit.
+    for limit in [1, 500] {
+        let note = Table::new(limit, &[0], &[0]);
+        add("a note alone", note, &KINDS, &[1], 1, 0);
+        let notes = Table::new(limit, &[0, 1, 2, 2, 1], &[0; 5]);
+        add("notes alone", notes, &KINDS, &[1, 0, 0, 0, 0], 1, 0);
+    }
+    // A run of three nodes and one of six, under limit 2. Single leaves what weighs nothing.
+    let all_but_single = [Best, Level, Pair, Rightmost, DepthFirst];
+    let between = note_between();
+    add(
+        "note between",
+        between.clone(),
+        &all_but_single,
+        &[1, 1, 2, 2],
+        2,
+        2,
+    );
+    add("note between", between, &[Single], &[1, 1, 0, 1], 3, 2);
+    let between = notes_between();
+    add(
+        "notes between",
+        between.clone(),
+        &all_but_single,
+        &[1, 1, 2, 2, 2, 2, 2],
+        2,
+        2,
+    );
+    add(
+        "notes between",
+        between,
+        &[Single],
+        &[1, 1, 0, 0, 0, 0, 1],
+        3,
+        2,
+    );
+    // Node 5 follows its second plan, with its own note in a run, and so all seven children are one
+    // run. By the sum of rests it would end before node 5.
+    let noted = case_e_with_notes();
+    add(
+        "E with notes",
+        noted.clone(),
+        &[Best, Pair],
+        &[1, 1, 2, 2, 2, 1, 2, 2, 2, 2, 2],
+        3,
+        5,
+    );
+    add(
+        "E with notes",
+        noted.clone(),
+        &[Level, Single],
+        &[1, 1, 0, 0, 1, 0, 0, 0, 0, 0, 1],
+        4,
+        5,
+    );
+    add(
+        "E with notes",
+        noted.clone(),
+        &[Rightmost],
+        &[1, 1, 1, 2, 2, 0, 0, 0, 1, 2, 2],
+        4,
+        5,
+    );
+    // Node 9 fits the page of node 8, which has neither its parent nor its sibling.
+    add(
+        "E with notes",
+        noted,
+        &[DepthFirst],
+        &[1, 1, 2, 2, 2, 0, 0, 1, 1, 2, 2],
+        4,
+        5,
+    );
+    let small = small_e_with_note();
+    add(
+        "small E with a note",
+        small.clone(),
+        &[Best, Pair],
+        &[1, 1, 2, 1, 2, 2],
+        3,
+        2,
+    );
+    add(
+        "small E with a note",
+        small.clone(),
+        &of_branches,
+        &[1, 1, 1, 0, 0, 1],
+        4,
+        2,
+    );
+    add(
+        "small E with a note",
+        small,
+        &[DepthFirst],
+        &[1, 1, 2, 0, 1, 1],
+        4,
+        2,
+    );
+    // A run that begins and ends with a node of weight 0, and has one in it.
+    let ends = notes_at_the_ends();
+    add(
+        "notes at the ends",
+        ends.clone(),
+        &of_run,
+        &[1, 1, 0, 2, 2, 2, 0],
+        2,
+        3,
+    );
+    add(
+        "notes at the ends",
+        ends.clone(),
+        &[Single],
+        &[1, 1, 0, 0, 1, 1, 0],
+        4,
+        3,
+    );
+    // Node 2 adds nothing to the page of node 1, which is full.
+    add(
+        "notes at the ends",
+        ends,
+        &[DepthFirst],
+        &[1, 0, 1, 1, 2, 2, 0],
+        3,
+        3,
+    );
+    // A note first in a run, and last in one, under limit 1. Where it can stay, best lets it.
+    let first = Table::new(1, &[0, 1, 1], &[1, 0, 1]);
+    let kinds = [Best, Level, Single, DepthFirst];
+    add("note first", first.clone(), &kinds, &[1, 0, 1], 2, 1);
+    add("note first", first, &[Pair, Rightmost], &[1, 1, 2], 2, 1);
+    let last = Table::new(1, &[0, 1, 1], &[1, 1, 0]);
+    let of_rest = [Best, Level, Single];
+    add("note last", last.clone(), &of_rest, &[1, 1, 0], 2, 1);
+    let others = [Pair, Rightmost, DepthFirst];
+    add("note last", last, &others, &[1, 1, 2], 2, 1);
+    // The page is full with node 2, and the notes still go on it.
+    let full = Table::new(3, &[0, 1, 1, 1, 1], &[3, 3, 0, 0, 0]);
+    add(
+        "full and notes",
+        full.clone(),
+        &of_rest,
+        &[1, 1, 0, 0, 0],
+        2,
+        3,
+    );
+    add("full and notes", full, &others, &[1, 1, 2, 2, 2], 2, 3);
+    // The root is a note.
+    let root = Table::new(2, &[0, 1, 1, 1], &[0, 2, 0, 2]);
+    add("root note", root.clone(), &of_rest, &[1, 1, 0, 0], 2, 2);
+    let of_last = [Pair, Rightmost];
+    add("root note", root.clone(), &of_last, &[1, 0, 1, 2], 2, 2);
+    add("root note", root, &[DepthFirst], &[1, 0, 0, 1], 2, 2);
+    // Node 4 finds neither parent nor sibling on the page of node 3: a page of weight 0.
+    let alone = Table::new(1, &[0, 1, 2, 1], &[1, 1, 1, 0]);
+    add(
+        "page of a note",
+        alone.clone(),
+        &of_rest,
+        &[1, 1, 1, 0],
+        3,
+        1,
+    );
+    add(
+        "page of a note",
+        alone.clone(),
+        &of_last,
+        &[1, 1, 1, 2],
+        3,
+        1,
+    );
+    add("page of a note", alone, &[DepthFirst], &[1, 1, 1, 1], 4, 1);
     list
 }
 
 /// Tables that the tree reader refuses in document 01's examples, with number and place, and case E
 /// with a lot that nobody has filed.
 pub fn refused_tables() -> Vec<(Vec<u8>, u32, usize)> {
-    let mut light = case_e();
-    light.records[2].weight = 0;
     let mut unfiled = case_e();
     unfiled.records[2].label = 0;
     let bad_link = vec![0, 1, 0, 5, 0, 1, 0, 1, 0, 5, 0, 0];
@@ -291,7 +488,6 @@ pub fn refused_tables() -> Vec<(Vec<u8>, u32, usize)> {
         (vec![0, 0, 0, 5], 2, 0),
         (vec![0, 1, 0, 0], 3, 0),
         (vec![0, 1, 0, 5, 0], 4, 12),
-        (light.bytes(), 5, 3),
         (unfiled.bytes(), 14, 3),
         (bad_link, 6, 1),
         (
@@ -307,27 +503,52 @@ pub fn refused_tables() -> Vec<(Vec<u8>, u32, usize)> {
     ]
 }
 
+/// Tables that were refused with 5 while a weight of 0 was, with number and place since request
+/// Three: both 0 where the tree is accepted, or those of the next fault.
+pub fn once_refused_tables() -> Vec<(Vec<u8>, u32, usize)> {
+    let changed = |change: fn(&mut Table)| {
+        let mut table = case_e();
+        table.records[2].weight = 0;
+        change(&mut table);
+        table.bytes()
+    };
+    vec![
+        (changed(|_| {}), 0, 0),
+        (changed(|table| table.records[0].weight = 0), 0, 0),
+        (changed(|table| table.records[5].weight = 0), 0, 0),
+        (Table::new(5, &[0], &[0]).bytes(), 0, 0),
+        (Table::new(1, &[0, 1, 1, 3, 3, 1], &[0; 6]).bytes(), 0, 0),
+        (changed(|table| table.records[2].label = 0), 14, 3),
+        (changed(|table| table.records[4].label = 0), 14, 5),
+        (changed(|table| table.records[0].next_sibling = 2), 6, 0),
+        (changed(|table| table.records[2].first_child = 0), 6, 3),
+        (changed(|table| table.limit = 4), 7, 1),
+        (changed(|table| table.records[5].weight = 6), 7, 6),
+    ]
+}
+
 /// What the tree reader refuses, in the order of its checks: number, and place in `faulty_tables`.
-const FAULTS: [(u32, usize); 8] = [
+const FAULTS: [(u32, usize); 7] = [
     (1, 0),
     (2, 1025),
     (3, 1026),
     (4, 52),
-    (5, 4),
     (14, 3),
     (6, 5),
     (7, 2),
 ];
 
-/// Case E with every selection of one fault for each of the numbers 1 to 7 and 14, and the answer
-/// that the order of the checks leaves: number and place, both 0 without a fault.
+/// Case E with every selection of one fault for each of the numbers 1 to 4, 6, 7 and 14, without and
+/// with a weight of 0, which is none, and the answer that the order of the checks leaves: number and
+/// place, both 0 without a fault.
 pub fn faulty_tables() -> Vec<(Vec<u8>, u32, usize)> {
     let mut list = vec![];
-    for selection in 0..1 << FAULTS.len() {
+    for selection in 0..2 << FAULTS.len() {
         let has = |number: u32| {
             let place = FAULTS.iter().position(|fault| fault.0 == number);
             selection & 1 << place.expect("a fault of this number") != 0
         };
+        let has_note = selection & 1 << FAULTS.len() != 0;
         let mut table = case_e();
         if has(2) {
             table.count = 1025;
@@ -335,7 +556,7 @@ pub fn faulty_tables() -> Vec<(Vec<u8>, u32, usize)> {
         if has(3) {
             table.limit = 1026;
         }
-        if has(5) {
+        if has_note {
             table.records[3].weight = 0;
         }
         if has(14) {
@@ -375,9 +596,26 @@ pub fn refused_marks() -> Vec<(Vec<u8>, u32, usize)> {
 /// The best plan of case E.
 pub const MARKS_OF_E: [u8; 6] = [1, 1, 2, 1, 2, 2];
 
+/// The archive of `note_between` and its best plan, word by word.
+pub fn archive_of_note_between() -> Vec<u8> {
+    bytes(&[
+        4, 2, 2, // N, K, P
+        1, 1, 2, 2, // page 1
+        2, 4, 2, 0, // page 2
+        2, 1, 0, 0, // node 1
+        1, 2, 1, 3, // node 2
+        0, 3, 1, 4, // node 3
+        1, 4, 1, 0, // node 4
+    ])
+}
+
+fn bytes(words: &[u16]) -> Vec<u8> {
+    words.iter().flat_map(|word| word.to_be_bytes()).collect()
+}
+
 /// The archive of case E and its best plan, word by word.
 pub fn archive_of_e() -> Vec<u8> {
-    let words: [u16; 39] = [
+    bytes(&[
         6, 5, 3, // N, K, P
         1, 1, 5, 2, // page 1
         2, 6, 4, 3, // page 2
@@ -388,6 +626,5 @@ pub fn archive_of_e() -> Vec<u8> {
         2, 4, 3, 5, // node 4
         2, 5, 3, 0, // node 5
         1, 6, 1, 0, // node 6
-    ];
-    words.iter().flat_map(|word| word.to_be_bytes()).collect()
+    ])
 }

@@ -8,8 +8,12 @@ use std::hint::black_box;
 #[derive(Default)]
 pub struct Seen(BTreeMap<u32, usize>);
 
+/// The number that nothing gives any more: it refused a weight of 0.
+pub const RETIRED: u32 = 5;
+
 impl Seen {
     pub fn add(&mut self, answer: Answer) {
+        assert_ne!(answer.number, RETIRED);
         *self.0.entry(answer.number).or_default() += 1;
     }
 

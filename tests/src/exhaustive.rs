@@ -4,7 +4,8 @@
 //! allowed, which runs hold the tree and what each page weighs, so that they lean on no judge and no
 //! planner that they are compared with. A weight may be 0 or over the limit.
 
-use crate::model::Tree;
+use crate::gen::{all_parents, all_weights, Table};
+use crate::model::{read, Tree};
 
 /// Page count, then root weight: the smaller pair is the better plan.
 pub type Score = (usize, u32);
@@ -155,21 +156,36 @@ fn add_run(
 
 /// The score of a set of runs that holds the tree; none if a page is over the limit.
 pub fn score_of_runs(tree: &Tree, runs: &[Run]) -> Option<Score> {
-    // The page of each node, by the place of its run.
+    let page_of = pages_of_nodes(tree, runs);
+    score_of_pages(runs.len(), &page_of, &tree.weights[1..], tree.limit)
+}
+
+/// The page of each node, from node 1 on, by the place of its run.
+fn pages_of_nodes(tree: &Tree, runs: &[Run]) -> Vec<usize> {
     let mut page_of = vec![None; tree.node_count() + 1];
     for (page, &run) in runs.iter().enumerate() {
         for node in nodes_of_run(tree, run) {
             page_of[node] = Some(page);
         }
     }
-    let mut weights = vec![0; runs.len()];
     for node in tree.nodes() {
         // A parent has a lower number, so its page is settled.
         page_of[node] = page_of[node].or(page_of[tree.parents[node]]);
-        weights[page_of[node].expect("node 1 is in a run")] += tree.weights[node];
     }
-    let feasible = weights.iter().all(|&weight| weight <= tree.limit);
-    feasible.then_some((runs.len(), weights[page_of[1].expect("node 1 is in a run")]))
+    let settled = page_of.into_iter().skip(1);
+    settled
+        .map(|page| page.expect("node 1 is in a run"))
+        .collect()
+}
+
+/// The score of so many pages; pages and weights are those of the nodes, from node 1 on.
+fn score_of_pages(pages: usize, page_of: &[usize], weights: &[u32], limit: u32) -> Option<Score> {
+    let mut sums = vec![0; pages];
+    for (&page, &weight) in page_of.iter().zip(weights) {
+        sums[page] += weight;
+    }
+    let feasible = sums.iter().all(|&sum| sum <= limit);
+    feasible.then_some((pages, sums[page_of[0]]))
 }
 
 /// The best score of all sets of runs; none if no set holds the tree within the limit.
@@ -179,6 +195,63 @@ pub fn best_of_run_sets(tree: &Tree) -> Option<Score> {
         keep_smaller(&mut best, score_of_runs(tree, runs))
     });
     best
+}
+
+/// All sets of runs that hold the trees of one shape. Those that differ only in weights and limit are
+/// searched without listing the sets anew.
+pub struct RunSets {
+    /// For each set, the number of its pages and the page of each node.
+    sets: Vec<(usize, Vec<usize>)>,
+}
+
+impl RunSets {
+    pub fn of(tree: &Tree) -> RunSets {
+        let mut sets = vec![];
+        for_each_run_set(tree, |runs| {
+            sets.push((runs.len(), pages_of_nodes(tree, runs)))
+        });
+        RunSets { sets }
+    }
+
+    /// The best score of all sets with these weights, from node 1 on, and this limit; none if no set
+    /// holds the tree within it.
+    pub fn best(&self, weights: &[u32], limit: u32) -> Option<Score> {
+        let mut best = None;
+        for (pages, page_of) in &self.sets {
+            keep_smaller(&mut best, score_of_pages(*pages, page_of, weights, limit));
+        }
+        best
+    }
+}
+
+/// Calls `visit` with every table of so many nodes whose weights and limit are among these, and with
+/// the best score of all sets of runs; none where no set holds the tree within the limit.
+pub fn for_each_table_and_best(
+    counts: std::ops::RangeInclusive<usize>,
+    weights: &[u16],
+    limits: &[u16],
+    mut visit: impl FnMut(&[u8], Option<Score>),
+) {
+    for count in counts {
+        for parents in all_parents(count) {
+            let shape = Table::new(1, &parents, &vec![0; count]).bytes();
+            let sets = RunSets::of(&read(&shape).expect("an accepted table"));
+            for weights in all_weights(count, weights) {
+                let weighed: Vec<u32> = weights.iter().map(|&weight| weight.into()).collect();
+                for &limit in limits {
+                    let table = Table::new(limit, &parents, &weights).bytes();
+                    visit(&table, sets.best(&weighed, limit.into()));
+                }
+            }
+        }
+    }
+}
+
+/// The number of nodes in the longest run of a plan with allowed marks.
+pub fn longest_run(tree: &Tree, marks: &[u8]) -> usize {
+    let runs = runs_of_plan(tree, marks).into_iter();
+    let lengths = runs.map(|run| nodes_of_run(tree, run).len());
+    lengths.max().expect("node 1 is in a run")
 }
 
 /// The runs of a plan with allowed marks, in rising order.

@@ -134,7 +134,7 @@ pub fn all_parents(count: usize) -> Vec<Parents> {
 }
 
 /// Every list of so many weights from the choices.
-fn all_weights(count: usize, choices: &[u16]) -> Vec<Vec<u16>> {
+pub fn all_weights(count: usize, choices: &[u16]) -> Vec<Vec<u16>> {
     let mut all = vec![vec![]];
     for _ in 0..count {
         all = all
@@ -312,16 +312,20 @@ pub fn random_table(random: &mut Random, form: Form, count: usize, limit: usize)
     Table::new(limit as u16, &parents, &weights).with_random_labels(random)
 }
 
+/// How many of ten nodes of a table are notes of weight 0, in the one table or the other.
+const NOTES: [usize; 5] = [0, 0, 2, 5, 9];
+
 fn any_weights(random: &mut Random, count: usize, limit: usize) -> Vec<u16> {
     // The most that a weight usually is, and how often one up to the limit comes in between.
     let (usual, rare) = random.pick(&[(1, 9), (3, 9), (3, 1000), (limit / 4 + 1, 9), (limit, 9)]);
+    let notes = random.pick(&NOTES);
     let mut weight = || {
         let most = if random.once_in(rare) {
             limit
         } else {
             usual.min(limit)
         };
-        random.between(1, most) as u16
+        note_or(random, notes, most)
     };
     (0..count).map(|_| weight()).collect()
 }
@@ -330,11 +334,20 @@ fn any_weights(random: &mut Random, count: usize, limit: usize) -> Vec<u16> {
 fn comb_weights(random: &mut Random, parents: &[usize], limit: usize) -> Vec<u16> {
     let mut children = vec![0; parents.len() + 1];
     parents.iter().for_each(|&parent| children[parent] += 1);
+    let notes = random.pick(&NOTES);
     let weight = |node: usize| match children[node] >= 3 {
         true => random.between((limit - 1).max(1), limit) as u16,
-        false => random.between(1, (limit / 2).max(1)) as u16,
+        false => note_or(random, notes, (limit / 2).max(1)),
     };
     (1..=parents.len()).map(weight).collect()
+}
+
+/// A weight of 0, so many times of ten, or one from 1 to `most`.
+fn note_or(random: &mut Random, notes: usize, most: usize) -> u16 {
+    match random.between(1, 10) <= notes {
+        true => 0,
+        false => random.between(1, most) as u16,
+    }
 }
 
 /// A table of an accepted tree of any form, with up to so many nodes and up to that limit.
@@ -343,6 +356,33 @@ pub fn any_table(random: &mut Random, max_nodes: usize, max_limit: usize) -> Tab
     let form = random.pick(&FORMS);
     let (count, limit) = (random.between(1, max_nodes), random.between(1, max_limit));
     random_table(random, form, count, limit)
+}
+
+/// The tree with notes of weight 0 as further children, in front of, between and behind those of any
+/// nodes. A run takes in those between its nodes, and all others can stay: neither page count nor root
+/// weight of the best plan is another for them.
+pub fn noted(random: &mut Random, tree: &Tree) -> Table {
+    let mut nodes = vec![];
+    copy_noted(random, tree, 1, 0, &mut nodes);
+    let (parents, weights): (Parents, Vec<u16>) = nodes.into_iter().unzip();
+    Table::new(tree.limit as u16, &parents, &weights)
+}
+
+/// Adds a branch below a parent: the parent and the weight of each of its nodes.
+fn copy_noted(
+    random: &mut Random,
+    tree: &Tree,
+    node: usize,
+    parent: usize,
+    nodes: &mut Vec<(usize, u16)>,
+) {
+    nodes.push((parent, tree.weights[node] as u16));
+    let note = (nodes.len(), 0);
+    for &child in &tree.children[node] {
+        nodes.extend(vec![note; random.pick(&[0, 0, 1, 4])]);
+        copy_noted(random, tree, child, note.0, nodes);
+    }
+    nodes.extend(vec![note; random.pick(&[0, 0, 1, 4])]);
 }
 
 /// Puts one random fault, or what may be one, into a table and encodes it.

@@ -1,5 +1,6 @@
-//! Film with labels 0, kept as bytes: the library wrote it before 14 was refused, from these tables
-//! and plans and with these verdicts. No library since then can make it anew.
+//! Film kept as bytes, with the tables and plans that the library wrote it from and its verdicts: film
+//! with labels 0 from before 14 was refused, which no library since then can make anew, and film from
+//! before weights of 0 were taken, which every library since then has to make as it is.
 
 use crate::model::Answer;
 
@@ -9,7 +10,7 @@ pub struct Kept {
     pub marks: Vec<u8>,
     pub archive: Vec<u8>,
     pub verdict: Answer,
-    /// The first node with label 0.
+    /// The first node with label 0; zero if there is none.
     pub unfiled: usize,
 }
 
@@ -21,8 +22,8 @@ fn bytes(words: &str) -> Vec<u8> {
     words.flat_map(u16::to_be_bytes).collect()
 }
 
-/// Label 0 is at the only node, at one in the middle, at the last one, and at several with node 1
-/// among them. The plan of the third is the level planner's, the others are the best planner's.
+/// Film with labels 0: at the only node, at one in the middle, at the last one, and at several with
+/// node 1 among them. The plan of the third is the level planner's, the others are the best planner's.
 pub fn kept() -> [Kept; 4] {
     [
         Kept {
@@ -128,6 +129,125 @@ pub fn kept() -> [Kept; 4] {
             ),
             verdict: Answer::accepted(13, 16),
             unfiled: 1,
+        },
+    ]
+}
+
+/// Film without a label 0. The plan of the last is the rightmost planner's, the others are the best
+/// planner's.
+pub fn kept_filed() -> [Kept; 5] {
+    [
+        Kept {
+            name: "case E",
+            table: bytes(
+                "
+                0006 0005
+                0005 0001 0002 0000  0002 0002 0000 0003  0001 0003 0004 0006  0002 0004 0000 0005
+                0002 0005 0000 0000  0001 0006 0000 0000
+            ",
+            ),
+            marks: vec![1, 1, 2, 1, 2, 2],
+            archive: bytes(
+                "
+                0006 0005 0003
+                0001 0001 0005 0002  0002 0006 0004 0003  0004 0005 0004 0000
+                0005 0001 0000 0000  0002 0002 0001 0003  0001 0003 0001 0006  0002 0004 0003 0005
+                0002 0005 0003 0000  0001 0006 0001 0000
+            ",
+            ),
+            verdict: Answer::accepted(3, 5),
+            unfiled: 0,
+        },
+        Kept {
+            name: "one node of the highest limit",
+            table: bytes(
+                "
+                0001 0400
+                0400 ffff 0000 0000
+            ",
+            ),
+            marks: vec![1],
+            archive: bytes(
+                "
+                0001 0400 0001
+                0001 0001 0400 0000
+                0400 ffff 0000 0000
+            ",
+            ),
+            verdict: Answer::accepted(1, 1024),
+            unfiled: 0,
+        },
+        Kept {
+            name: "a page for each of a chain",
+            table: bytes(
+                "
+                0004 0001
+                0001 0100 0002 0000  0001 0001 0003 0000  0001 ff00 0004 0000  0001 0002 0000 0000
+            ",
+            ),
+            marks: vec![1, 1, 1, 1],
+            archive: bytes(
+                "
+                0004 0001 0004
+                0001 0001 0001 0002  0002 0002 0001 0003  0003 0003 0001 0004  0004 0004 0001 0000
+                0001 0100 0000 0000  0001 0001 0001 0000  0001 ff00 0002 0000  0001 0002 0003 0000
+            ",
+            ),
+            verdict: Answer::accepted(4, 1),
+            unfiled: 0,
+        },
+        Kept {
+            name: "sixteen nodes",
+            table: bytes(
+                "
+                0010 000c
+                0004 012c 0002 0000  0003 0011 0003 0005  0005 ffff 0000 0004  0002 0100 0000 0000
+                0006 00ff 0006 000a  0001 1234 0007 0009  0007 0008 0000 0008  0002 0009 0000 0000
+                0003 0fff 0000 0000  0001 0001 000b 000e  0009 8000 0000 000c  0004 000c 0000 000d
+                0002 004d 0000 0000  0005 0014 000f 0010  0008 0014 0000 0000  0006 0015 0000 0000
+            ",
+            ),
+            marks: vec![1, 1, 0, 0, 1, 1, 0, 0, 0, 1, 1, 0, 0, 2, 1, 0],
+            archive: bytes(
+                "
+                0010 000c 0007
+                0001 0001 000a 0002  0002 0002 000a 0003  0005 0005 0009 0004  0006 0006 000a 0005
+                000a 000e 000c 0006  000b 000b 0009 0007  000f 000f 0008 0000
+                0004 012c 0000 0010  0003 0011 0001 0003  0005 ffff 0002 0004  0002 0100 0002 0000
+                0006 00ff 0001 0009  0001 1234 0005 0007  0007 0008 0006 0008  0002 0009 0006 0000
+                0003 0fff 0005 0000  0001 0001 0001 000c  0009 8000 000a 0000  0004 000c 000a 000d
+                0002 004d 000a 000e  0005 0014 0001 0000  0008 0014 000e 0000  0006 0015 0001 0000
+            ",
+            ),
+            verdict: Answer::accepted(7, 10),
+            unfiled: 0,
+        },
+        Kept {
+            name: "sixteen nodes, runs of last children",
+            table: bytes(
+                "
+                0010 000c
+                0004 012c 0002 0000  0003 0011 0003 0005  0005 ffff 0000 0004  0002 0100 0000 0000
+                0006 00ff 0006 000a  0001 1234 0007 0009  0007 0008 0000 0008  0002 0009 0000 0000
+                0003 0fff 0000 0000  0001 0001 000b 000e  0009 8000 0000 000c  0004 000c 0000 000d
+                0002 004d 0000 0000  0005 0014 000f 0010  0008 0014 0000 0000  0006 0015 0000 0000
+            ",
+            ),
+            marks: vec![1, 1, 0, 0, 1, 1, 0, 0, 1, 1, 0, 1, 2, 1, 1, 2],
+            archive: bytes(
+                "
+                0010 000c 0009
+                0001 0001 0004 0002  0002 0002 000a 0003  0005 0005 0006 0004  0006 0006 000a 0005
+                0009 0009 0003 0006  000a 000a 000a 0007  000c 000d 0006 0008  000e 0010 000b 0009
+                000f 000f 0008 0000
+                0004 012c 0000 0000  0003 0011 0001 0003  0005 ffff 0002 0004  0002 0100 0002 0000
+                0006 00ff 0001 0000  0001 1234 0005 0007  0007 0008 0006 0008  0002 0009 0006 0000
+                0003 0fff 0005 0000  0001 0001 0001 000b  0009 8000 000a 0000  0004 000c 000a 000d
+                0002 004d 000a 0000  0005 0014 0001 0010  0008 0014 000e 0000  0006 0015 0001 0000
+            ",
+            ),
+            verdict: Answer::accepted(9, 4),
+            unfiled: 0,
         },
     ]
 }

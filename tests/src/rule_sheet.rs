@@ -162,11 +162,7 @@ fn rebuild_tree(lines: &[Line], head: &Head) -> Result<Vec<Node>, Failed> {
         });
     }
     for (n, node) in (1..).zip(&nodes) {
-        check(
-            6,
-            Place::Node(n),
-            node.weight >= 1 && node.weight <= head.limit,
-        )?;
+        check(6, Place::Node(n), node.weight <= head.limit)?;
     }
     check(7, Place::Node(1), nodes[0].parent == 0)?;
     for n in 2..=head.nodes {

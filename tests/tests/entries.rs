@@ -1,15 +1,18 @@
 //! What is asked of all entries alike, of the model's and of the library's: that they take trees of
 //! up to 1,024 nodes, that a tree of sound form is refused with 7 exactly where no set of sibling
-//! runs holds it within the limit, and that a label 0 is refused with 14 by all but the archive
-//! reader, which opens film with it as before.
+//! runs holds it within the limit, that a label 0 is refused with 14 by all but the archive reader,
+//! which opens film with it as before, and that a weight of 0 is taken by all, at any node.
 
-use balduqen_tests::cases::{case_e, Kind, KINDS};
-use balduqen_tests::check::{first_unfiled, show, with_copy, Lent, Seen};
+use balduqen_tests::cases::{
+    archive_of_note_between, case_e, note_between, once_refused_tables, Kind, KINDS,
+};
+use balduqen_tests::check::{first_unfiled, show, with_copy, Lent, Seen, RETIRED};
 use balduqen_tests::entries::{Entries, LIBRARY, MODEL};
-use balduqen_tests::exhaustive::best_of_run_sets;
+use balduqen_tests::exhaustive::{best_of_run_sets, for_each_table_and_best, Score};
 use balduqen_tests::gen::*;
-use balduqen_tests::kept::kept;
+use balduqen_tests::kept::{kept, kept_filed};
 use balduqen_tests::model::{archive_length, read_sound, scratch_length, word, Answer, MAX_NODES};
+use balduqen_tests::rule_sheet::rebuild;
 
 const HEADER: &str = include_str!("../../include/balduqen.h");
 
@@ -98,7 +101,7 @@ fn write_archive(entries: &Entries, table: &[u8], plan: &[u8], archive: usize) -
 fn table_and_archive(random: &mut Random, form: Form, count: usize, limit: usize) -> [Vec<u8>; 2] {
     let parents = random_parents(random, form, count);
     let weights: Vec<u16> = (0..count)
-        .map(|_| random.between(1, limit) as u16)
+        .map(|_| random.between(0, limit) as u16)
         .collect();
     let table = Table::new(limit as u16, &parents, &weights);
     let mut words = vec![count as u16, limit as u16, count as u16];
@@ -160,17 +163,17 @@ fn one_node_too_many(entries: &Entries) {
     }
 }
 
-/// Checks one tree of sound form, and gives the tree reader's answer.
-fn check_weight(entries: &Entries, table: &[u8]) -> Answer {
-    let tree = read_sound(table).expect("a table of sound form");
+/// Checks one tree of sound form, whose best score this is, and gives the tree reader's answer.
+fn check_weight(entries: &Entries, table: &[u8], best: Option<Score>) -> Answer {
     let asked = Asked::of(entries, table);
-    match best_of_run_sets(&tree) {
+    match best {
         Some((pages, root)) => {
             asked.expect_accepted(table);
             let best = Answer::accepted(pages, root);
             assert_eq!(asked.planners[0], best, "{}", show(table));
         }
         None => {
+            let tree = read_sound(table).expect("a table of sound form");
             let mut nodes = tree.nodes();
             let heavy = nodes.find(|&node| tree.weights[node] > tree.limit);
             asked.expect_refused(table, 7, heavy.expect("a node that outweighs the limit"));
@@ -179,15 +182,16 @@ fn check_weight(entries: &Entries, table: &[u8]) -> Answer {
     asked.read_tree
 }
 
+/// Of all weights from 0 to one above the limit, in trees of six nodes for limit 2.
 fn seven_in_all_small_trees(entries: &Entries) {
     let mut seen = Seen::default();
-    let mut check = |table: &[u8]| seen.add(check_weight(entries, table));
+    let mut check = |table: &[u8], best| seen.add(check_weight(entries, table, best));
     for limit in 1..=4 {
-        let weights: Vec<u16> = (1..=limit + 1).collect();
-        for_each_table(1..=5, &weights, &[limit], &mut check);
+        let weights: Vec<u16> = (0..=limit + 1).collect();
+        for_each_table_and_best(1..=5, &weights, &[limit], &mut check);
     }
-    for_each_table(6..=6, &[1, 2, 3], &[2], &mut check);
-    seen.expect(&[0, 7], 10000);
+    for_each_table_and_best(6..=6, &[0, 1, 2, 3], &[2], &mut check);
+    seen.expect(&[0, 7], 90_000);
 }
 
 /// One node, or two, of a weight around the limit or far above it.
@@ -200,27 +204,26 @@ fn seven_in_random_small_trees(entries: &Entries) {
         for _ in 0..2 {
             let place = random.between(0, table.records.len() - 1);
             let around = [table.limit - 1, table.limit, table.limit + 1, u16::MAX];
-            table.records[place].weight = random.pick(&around).max(1);
+            table.records[place].weight = random.pick(&around);
         }
-        seen.add(check_weight(entries, &table.bytes()));
+        let table = table.bytes();
+        let tree = read_sound(&table).expect("a table of sound form");
+        seen.add(check_weight(entries, &table, best_of_run_sets(&tree)));
     }
     seen.expect(&[0, 7], 1000);
 }
 
 /// The first refusal of a table that is well linked and has a good head.
 fn refusal_told(table: &[u8]) -> Option<(u32, usize)> {
-    let weights: Vec<usize> = table[4..].chunks(8).map(|record| word(record, 0)).collect();
-    let first = |test: &dyn Fn(usize) -> bool| {
-        let index = weights.iter().position(|&weight| test(weight))?;
-        Some(index + 1)
-    };
-    let light = first(&|weight| weight == 0).map(|node| (5, node));
+    let mut weights = table[4..].chunks(8).map(|record| word(record, 0));
+    let heavy = weights.position(|weight| weight > word(table, 1));
+    let heavy = heavy.map(|index| (7, index + 1));
     let unfiled = first_unfiled(table).map(|node| (14, node));
-    let heavy = first(&|weight| weight > word(table, 1)).map(|node| (7, node));
-    light.or(unfiled).or(heavy)
+    unfiled.or(heavy)
 }
 
-/// All labels of 0 and 1 in all small trees, also where a weight is 0 or over the limit.
+/// All labels of 0 and 1 in all small trees, also where a weight is 0, which changes nothing, or over
+/// the limit.
 fn fourteen_in_all_small_trees(entries: &Entries) {
     let mut seen = Seen::default();
     for_each_table(1..=4, &[0, 1, 2, 3], &[2], |table| {
@@ -233,7 +236,7 @@ fn fourteen_in_all_small_trees(entries: &Entries) {
             seen.add(asked.read_tree);
         });
     });
-    seen.expect(&[0, 5, 7, 14], 100);
+    seen.expect(&[0, 7, 14], 100);
 }
 
 /// All labels of 0 and 1 with all links of small tables: where a label is 0, no walk is told of.
@@ -269,8 +272,10 @@ fn fourteen_in_its_order(entries: &Entries) {
     refused(3, 1025, |table| table.limit = 1025);
     refused(4, 44, |table| table.count = 5);
     refused(4, 60, |table| table.count = 7);
-    refused(5, 3, |table| table.records[2].weight = 0);
-    refused(5, 6, |table| table.records[5].weight = 0);
+    // What was checked before it, as 5, and is no fault any more.
+    refused(14, 3, |table| table.records[2].weight = 0);
+    refused(14, 3, |table| table.records[0].weight = 0);
+    refused(14, 3, |table| table.records[5].weight = 0);
     // What is checked after it, at nodes before the label.
     refused(14, 3, |table| table.records[0].next_sibling = 2);
     refused(14, 3, |table| table.records[1].next_sibling = 0);
@@ -353,14 +358,190 @@ fn label_0_of_the_last_of_many(entries: &Entries) {
     }
 }
 
-/// The header has a name for each number and a line for each but 0, in rising order.
+/// What 5 refused is accepted, or refused by what is checked next.
+fn five_is_never_given(entries: &Entries) {
+    for (table, number, place) in once_refused_tables() {
+        let asked = Asked::of(entries, &table);
+        match number {
+            0 => asked.expect_accepted(&table),
+            _ => asked.expect_refused(&table, number, place),
+        }
+    }
+    let random = &mut Random::new(1105);
+    for _ in 0..3000 {
+        let mut table = any_table(random, 12, 12);
+        for _ in 0..random.between(1, 3) {
+            let place = random.between(0, table.records.len() - 1);
+            table.records[place].weight = 0;
+        }
+        let table = match random.once_in(2) {
+            true => table.bytes(),
+            false => damaged(random, &table),
+        };
+        // Marks and scratch of some length, where the head has none.
+        let asked = Asked::with(entries, &table, &[1; 12], 720, 198);
+        assert!(asked.all().iter().all(|answer| answer.number != RETIRED));
+    }
+}
+
+/// A tree and a plan: the judge and the writer give this verdict, the page records have these
+/// weights, and the reader and the rule sheet get table and marks back.
+fn on_film(entries: &Entries, table: &[u8], marks: &[u8], weights: &[usize]) {
+    let verdict = Answer::accepted(weights.len(), weights[0] as u32);
+    assert_eq!((entries.judge)(table, marks), verdict, "{}", show(table));
+    let mut archive = vec![7; archive_length(weights.len(), marks.len())];
+    let answer = (entries.write_archive)(table, marks, &mut archive);
+    assert_eq!(answer, verdict, "{}", show(table));
+    let written: Vec<usize> = (0..weights.len())
+        .map(|page| word(&archive, 3 + 4 * page + 2))
+        .collect();
+    assert_eq!(written, weights, "{}", show(table));
+    let answer = read_archive(entries, &archive, table, marks);
+    assert_eq!(answer, verdict, "{}", show(table));
+    let told = rebuild(&archive).expect("a sound archive");
+    assert!(told
+        .nodes
+        .iter()
+        .map(|node| node.mark)
+        .eq(marks.iter().copied()));
+    assert!(told
+        .pages
+        .iter()
+        .map(|page| page.sum)
+        .eq(weights.iter().copied()));
+}
+
+/// The judge and the writer find a page over the limit, and nothing is written.
+fn heavy_on_film(entries: &Entries, table: &[u8], marks: &[u8], page: usize) {
+    let refusal = Answer::refused(11, page);
+    assert_eq!((entries.judge)(table, marks), refusal, "{}", show(table));
+    let archive = archive_length(marks.len(), marks.len());
+    let answer = write_archive(entries, table, marks, archive);
+    assert_eq!(answer, refusal, "{}", show(table));
+}
+
+/// The film of a run with a note in it, word by word.
+fn film_with_a_note(entries: &Entries) {
+    let (table, marks) = (note_between().bytes(), [1, 1, 2, 2]);
+    on_film(entries, &table, &marks, &[2, 2]);
+    let mut archive = [7; 54];
+    (entries.write_archive)(&table, &marks, &mut archive);
+    assert_eq!(archive[..], archive_of_note_between());
+}
+
+/// Weights of 0 and 1 in every order along a run, so that notes come first, last and between: with
+/// the node before the run as a note or not, and the one after it.
+fn notes_at_every_place_of_a_run(entries: &Entries) {
+    let parents = [0, 1, 1, 1, 1, 1];
+    for bits in 0..32 {
+        let [before, first, middle, last, after] = [4, 3, 2, 1, 0].map(|bit| bits >> bit & 1);
+        // Without a note both pages are full.
+        let table = Table::new(3, &parents, &[1, before, first, middle, last, after]).bytes();
+        let weights = [1 + before + after, first + middle + last].map(usize::from);
+        on_film(entries, &table, &[1, 0, 1, 2, 2, 0], &weights);
+    }
+}
+
+/// Plans that cut notes off: pages that weigh nothing, the root page among them, alone, in runs and
+/// with notes below.
+fn pages_of_weight_0(entries: &Entries) {
+    let flat = Table::new(1, &[0, 1, 1, 1], &[1, 0, 0, 0]).bytes();
+    on_film(entries, &flat, &[1, 1, 1, 1], &[1, 0, 0, 0]);
+    on_film(entries, &flat, &[1, 1, 2, 2], &[1, 0]);
+    on_film(entries, &flat, &[1, 0, 1, 0], &[1, 0]);
+    let branch = Table::new(1, &[0, 1, 2, 2, 1], &[0, 0, 0, 1, 0]).bytes();
+    on_film(entries, &branch, &[1, 1, 1, 2, 2], &[0, 0, 1]);
+    on_film(entries, &branch, &[1, 0, 1, 1, 0], &[0, 0, 1]);
+    on_film(entries, &branch, &[1, 1, 0, 0, 1], &[0, 1, 0]);
+    on_film(entries, &branch, &[1, 0, 0, 0, 0], &[1]);
+    let notes = Table::new(1, &[0, 1, 2, 2, 1], &[0; 5]).bytes();
+    on_film(entries, &notes, &[1; 5], &[0; 5]);
+    on_film(entries, &notes, &[1, 1, 0, 0, 2], &[0, 0]);
+    on_film(entries, &notes, &[1, 0, 0, 0, 0], &[0]);
+}
+
+/// A page of exactly the limit takes any number of notes, in its run and below it, and nothing else.
+fn notes_on_full_pages(entries: &Entries) {
+    // The run is nodes 2, 4 and 6, with a child each at 2 and 4; node 7 stays with node 1.
+    let parents = [0, 1, 2, 1, 4, 1, 1];
+    let marks = [1, 1, 0, 2, 0, 2, 0];
+    let table = |weights: [u16; 7]| Table::new(3, &parents, &weights).bytes();
+    on_film(entries, &table([3, 3, 0, 0, 0, 0, 0]), &marks, &[3, 3]);
+    on_film(entries, &table([3, 0, 0, 0, 3, 0, 0]), &marks, &[3, 3]);
+    on_film(entries, &table([0, 1, 0, 2, 0, 0, 3]), &marks, &[3, 3]);
+    heavy_on_film(entries, &table([3, 3, 0, 0, 0, 1, 0]), &marks, 2);
+    heavy_on_film(entries, &table([3, 3, 1, 0, 0, 0, 0]), &marks, 2);
+    heavy_on_film(entries, &table([3, 0, 0, 0, 3, 0, 1]), &marks, 1);
+    // Long after it is full.
+    let parents = [&[0][..], &[1; 1023]].concat();
+    let mut weights = vec![0; 1024];
+    (weights[0], weights[1]) = (1, 1);
+    let mut marks = vec![2; 1024];
+    (marks[0], marks[1]) = (1, 1);
+    on_film(
+        entries,
+        &Table::new(1, &parents, &weights).bytes(),
+        &marks,
+        &[1, 1],
+    );
+    weights[1023] = 1;
+    heavy_on_film(
+        entries,
+        &Table::new(1, &parents, &weights).bytes(),
+        &marks,
+        2,
+    );
+}
+
+/// 1,024 notes in every form of tree, under the lowest limit and the highest: one page of weight 0 by
+/// every planner, and on film.
+fn notes_only(entries: &Entries) {
+    let random = &mut Random::new(1106);
+    let mut one_page = vec![0; MAX_NODES];
+    one_page[0] = 1;
+    for form in FORMS {
+        for limit in [1, 1024] {
+            let parents = random_parents(random, form, MAX_NODES);
+            let table = Table::new(limit, &parents, &[0; MAX_NODES]).bytes();
+            for kind in KINDS {
+                let mut marks = vec![7; MAX_NODES];
+                let mut scratch = vec![7; scratch_length(MAX_NODES, limit.into())];
+                let answer = (entries.planner)(kind)(&table, &mut marks, &mut scratch);
+                assert_eq!(answer, Answer::accepted(1, 0), "{kind:?} {form:?} {limit}");
+                assert_eq!(marks, one_page, "{kind:?} {form:?} {limit}");
+            }
+            on_film(entries, &table, &one_page, &[0]);
+            on_film(entries, &table, &[1; MAX_NODES], &[0; MAX_NODES]);
+        }
+    }
+}
+
+/// Film from before weights of 0 were taken is opened, too, and what is read of it is written again
+/// as it was.
+fn kept_film_is_written_again(entries: &Entries) {
+    for film in kept_filed() {
+        let answer = read_archive(entries, &film.archive, &film.table, &film.marks);
+        assert_eq!(answer, film.verdict, "{}", film.name);
+        assert_eq!((entries.read_tree)(&film.table), Answer::ACCEPTED);
+        let verdict = (entries.judge)(&film.table, &film.marks);
+        assert_eq!(verdict, film.verdict, "{}", film.name);
+        let mut again = vec![7; film.archive.len()];
+        let answer = (entries.write_archive)(&film.table, &film.marks, &mut again);
+        assert_eq!(answer, film.verdict, "{}", film.name);
+        assert_eq!(again, film.archive, "{}", film.name);
+    }
+}
+
+/// The header has a name for each number and a line for each but 0, in rising order; 5 is retired and
+/// has neither.
 #[test]
 fn numbers_of_the_header() {
     let named: Vec<(&str, &str)> = HEADER
         .lines()
         .filter_map(|line| line.trim().strip_prefix("BALDUQEN_")?.split_once(" = "))
         .collect();
-    let numbers: Vec<String> = (0..=14).map(|number: u32| number.to_string()).collect();
+    let given = (0..=14).filter(|&number| number != RETIRED);
+    let numbers: Vec<String> = given.map(|number| number.to_string()).collect();
     let of_names = named.iter().map(|(_, number)| number.trim_end_matches(','));
     assert!(of_names.eq(&numbers), "{named:?}");
     assert_eq!(named.last(), Some(&("NO_LABEL", "14")));
@@ -369,6 +550,7 @@ fn numbers_of_the_header() {
         numbers.contains(&number.to_string()).then_some(number)
     });
     assert!(listed.eq(&numbers[1..]));
+    assert!(HEADER.contains(&format!("Number {RETIRED} is retired and never given")));
 }
 
 /// The header declares the ten doors, each once.
@@ -416,7 +598,9 @@ macro_rules! tests_of_entries {
             as_many_nodes_as_may_be one_node_too_many seven_in_all_small_trees
             seven_in_random_small_trees fourteen_in_all_small_trees fourteen_before_the_walk
             fourteen_in_its_order kept_film_is_read kept_film_is_not_taken_again
-            kept_film_in_the_order_of_the_reader label_0_of_the_last_of_many
+            kept_film_in_the_order_of_the_reader label_0_of_the_last_of_many five_is_never_given
+            film_with_a_note notes_at_every_place_of_a_run pages_of_weight_0 notes_on_full_pages
+            notes_only kept_film_is_written_again
         );
     };
 }

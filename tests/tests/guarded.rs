@@ -7,7 +7,7 @@ use balduqen_tests::check::{show, Seen};
 use balduqen_tests::ffi;
 use balduqen_tests::gen::*;
 use balduqen_tests::guarded::{Guarded, Side, SIDES};
-use balduqen_tests::kept::kept;
+use balduqen_tests::kept::{kept, kept_filed};
 use balduqen_tests::model::{
     self, archive_bytes, archive_length, read, scratch_length, word, Answer, MAX_NODES,
 };
@@ -325,7 +325,7 @@ fn damaged_tables() {
         let marks = random.bytes(count);
         seen.add(hand_to_all(&damaged, &marks, table.limit.into()));
     }
-    seen.expect(&[0, 1, 2, 3, 4, 5, 6, 7, 14], 20);
+    seen.expect(&[0, 1, 2, 3, 4, 6, 7, 14], 20);
 }
 
 /// Film with labels 0 is read; what is read of it is refused by all other entries, and each leaves
@@ -342,6 +342,49 @@ fn kept_film() {
         let answer = write_archive(&film.table, &film.marks, &film.archive);
         assert_eq!(answer, refusal, "{}", film.name);
     }
+}
+
+/// Film from before weights of 0 is read and written again.
+#[test]
+fn kept_filed_film() {
+    for film in kept_filed() {
+        let answer = hand_to_reader_in_all_lengths(&film.archive, film.marks.len());
+        assert_eq!(answer, film.verdict, "{}", film.name);
+        let limit = word(&film.table, 1);
+        let answer = hand_in_all_lengths(&film.table, &film.marks, limit);
+        assert_eq!(answer, Answer::ACCEPTED, "{}", film.name);
+    }
+}
+
+/// Notes in any place, notes only, and notes in a run that has far more nodes than the limit.
+#[test]
+fn tables_of_notes() {
+    let random = &mut Random::new(1207);
+    for (table, ..) in once_refused_tables() {
+        hand_in_all_lengths(&table, &ones(word(&table, 0)), word(&table, 1));
+    }
+    for form in FORMS {
+        let parents = random_parents(random, form, MAX_NODES);
+        let table = Table::new(1, &parents, &[0; MAX_NODES]).bytes();
+        let answer = hand_in_all_lengths(&table, &ones(MAX_NODES), 1);
+        assert_eq!(answer, Answer::ACCEPTED);
+        let tree = read(&table).expect("an accepted table");
+        hand_to_reader(&archive_bytes(&tree, &ones(MAX_NODES)), MAX_NODES);
+    }
+    // Only the first child and the last weigh something, and one run goes from the one to the other.
+    let parents = [&[0][..], &[1; MAX_NODES - 1]].concat();
+    let mut weights = [0; MAX_NODES];
+    (weights[0], weights[1], weights[MAX_NODES - 1]) = (2, 1, 1);
+    let table = Table::new(2, &parents, &weights).bytes();
+    let marks = [&[1, 1][..], &[2; MAX_NODES - 2]].concat();
+    let answer = plan(
+        Kind::Best,
+        &table,
+        &marks,
+        &vec![7; scratch_length(MAX_NODES, 2)],
+    );
+    assert_eq!(answer, Answer::accepted(2, 2));
+    assert_eq!(hand_to_all(&table, &marks, 2), Answer::ACCEPTED);
 }
 
 /// The longest tables with label 0 at the last node, whose record stands against the guard.

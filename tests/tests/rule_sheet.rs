@@ -1,12 +1,14 @@
 //! The printed rule sheet, docs/RULE-SHEET.txt: its form, its examples, and that the reader written
 //! from it alone reads archives exactly as the model and the library.
 
-use balduqen_tests::cases::{archive_of_e, case_e, MARKS_OF_E};
+use balduqen_tests::cases::{
+    archive_of_e, archive_of_note_between, case_e, note_between, MARKS_OF_E,
+};
 use balduqen_tests::check::show;
 use balduqen_tests::exhaustive::{best_of_plans, for_each_plan, score_of_plan};
 use balduqen_tests::ffi;
 use balduqen_tests::gen::*;
-use balduqen_tests::kept::kept;
+use balduqen_tests::kept::{kept, kept_filed};
 use balduqen_tests::model::{
     self, archive_bytes, archive_length, judge, plan_best, read, read_as_before, scratch_length,
     word, Answer, MAX_NODES,
@@ -276,6 +278,28 @@ fn label_0() {
     assert!(archives.contains(&archive_of_two_pages()));
 }
 
+/// What the sheet says of weight 0, and that it reads film with such weights, and film from before
+/// there were any, as both readers do.
+#[test]
+fn weight_0() {
+    assert!(section(2).contains("a weight, 0 or more (0: a note on the margin of the film)"));
+    assert!(section(7).contains("Check 6     The weight of each node is at most K.\n"));
+    let film = archive_of_note_between();
+    let told = rebuild(&film).expect("a sound archive");
+    assert_told(&told, &note_between().bytes(), &[1, 1, 2, 2], &film);
+    for film in kept_filed() {
+        let told = rebuild(&film.archive).expect("a sound archive");
+        assert_told(&told, &film.table, &film.marks, &film.archive);
+    }
+    let archives = kept_filed().map(|film| film.archive);
+    for archive in archives.iter().chain([&film]) {
+        for reader in [model::read_archive, ffi::read_archive] {
+            assert!(agree(archive, reader));
+        }
+    }
+    assert!(archives.contains(&archive_of_e()));
+}
+
 /// The example of two pages with the word set anew that a section prints: first the line as it was,
 /// then a line for each change.
 fn changed_as_printed(section: &str) -> Vec<Vec<u8>> {
@@ -415,7 +439,8 @@ fn kind_of_word(place: usize, pages: usize) -> Kind {
 
 /// With another parent of node 1, check 7 fails. With another parent of another node n, no check
 /// fails only if each page has the nodes that it had. If that node has mark 0 and both parents are on
-/// one page, no check but check 8 can fail.
+/// one page, no check but check 8 can fail. If it goes to another page, the sums tell, or, where it
+/// weighs nothing, the next nodes.
 fn assert_other_parent(right: &Rebuilt, n: usize, parent: usize, told: &Result<Rebuilt, Failed>) {
     if n == 1 {
         assert_eq!(told, &Err(failed_at(7, 1)));
@@ -431,17 +456,24 @@ fn assert_other_parent(right: &Rebuilt, n: usize, parent: usize, told: &Result<R
             }
         }
         Err(failed) if node.mark == 0 && is_on_same_page => assert_eq!(failed.check, 8),
+        Err(failed) if node.weight == 0 && failed.check == 16 => {}
         Err(failed) => assert!([8, 11, 12, 14].contains(&failed.check), "{failed}"),
     }
 }
 
-/// What section 11 says of one wrong word: the checks hold with any label and with any K from the
-/// weight of the heaviest page to 1,024, can hold with another parent, and fail with any other word.
+/// What section 11 says of one wrong word: the checks hold with any label and with any K from 1 to
+/// 1,024 that is at least the weight of the heaviest page, can hold with another parent, and fail with
+/// any other word.
 #[test]
 fn one_wrong_word() {
     let random = &mut Random::new(2008);
     let mut archives = small_archives();
     archives.push(archive_of_two_pages());
+    archives.push(archive_of_note_between());
+    // A page of weight 0, of all nodes and of one.
+    let notes = Table::new(3, &[0, 1, 2, 2, 1], &[0; 5]).bytes();
+    let notes = read(&notes).expect("an accepted table");
+    archives.extend([[1, 0, 0, 0, 0], [1, 0, 1, 0, 0]].map(|marks| archive_bytes(&notes, &marks)));
     archives.extend((0..200).map(|_| random_archive(random, 8, 12)));
     let mut parents_not_found = 0;
     for archive in &archives {
@@ -457,7 +489,9 @@ fn one_wrong_word() {
                 set_word(&mut changed, place, value as u16);
                 let told = rebuild(&changed);
                 match kind_of_word(place, right.pages.len()) {
-                    Kind::Limit => assert_eq!(told.is_ok(), (heaviest..=1024).contains(&value)),
+                    Kind::Limit => {
+                        assert_eq!(told.is_ok(), (1.max(heaviest)..=1024).contains(&value))
+                    }
                     Kind::Label => assert!(told.is_ok()),
                     Kind::ParentOf(n) => {
                         assert_other_parent(&right, n, value, &told);
@@ -471,21 +505,26 @@ fn one_wrong_word() {
     assert!(parents_not_found >= 200, "{parents_not_found}");
 }
 
-/// The example of one page, with marks 0.
+/// The example of one page, with marks 0 and a weight of 0.
 #[test]
 fn example_with_mark_0() {
+    assert!(section(14).contains("children 2, 3 and 4 have weights 1, 0 and 2."));
+    assert!(section(14).contains("the sum of their weights is 2 + 1 + 0 + 2 = 5"));
     let words: [u16; 23] = [
         4, 5, 1, // N, K, P
         1, 1, 5, 0, // page 1
         2, 7, 0, 2, // node 1
         1, 7, 1, 3, // node 2
-        1, 7, 1, 4, // node 3
-        1, 7, 1, 0, // node 4
+        0, 7, 1, 4, // node 3
+        2, 7, 1, 0, // node 4
     ];
     let archive: Vec<u8> = words.iter().flat_map(|word| word.to_be_bytes()).collect();
     let told = rebuild(&archive).expect("a sound archive");
     assert_eq!(marks_of(&told), [1, 0, 0, 0]);
     assert_eq!(told.pages[0].nodes, [1, 2, 3, 4]);
+    for reader in [model::read_archive, ffi::read_archive] {
+        assert!(agree(&archive, reader));
+    }
 }
 
 /// Case E's archive with some words set anew.
@@ -601,8 +640,8 @@ fn each_check_can_fail() {
     fails(5, 0, &[&good[..], &[0]].concat());
     fails(5, 0, &changed_e(&[(0, 5)]));
     fails(5, 0, &changed_e(&[(2, 2)]));
-    fails(6, 3, &changed_e(&[(node(3, 1), 0)]));
-    fails(6, 6, &changed_e(&[(node(6, 1), 6)]));
+    fails(6, 3, &changed_e(&[(node(3, 1), 6)]));
+    fails(6, 6, &changed_e(&[(node(6, 1), 65535)]));
     fails(7, 1, &changed_e(&[(node(1, 3), 1)]));
     for (n, parent) in [(2, 0), (2, 2), (3, 3), (3, 4), (5, 2), (6, 2), (6, 7)] {
         fails(8, n, &changed_e(&[(node(n, 3), parent)]));
@@ -625,12 +664,17 @@ fn each_check_can_fail() {
     fails(14, 1, &changed_e(&[(page(1, 3), 4)]));
     fails(14, 3, &changed_e(&[(page(3, 3), 5)]));
     fails(14, 2, &changed_e(&[(node(2, 1), 3)]));
+    // A weight of 0 fails no check but that of the sum, and with the sum set right none.
+    fails(14, 2, &changed_e(&[(node(3, 1), 0)]));
+    let noted = changed_e(&[(node(3, 1), 0), (page(2, 3), 3)]);
+    assert!(agree(&noted, model::read_archive) && agree(&noted, ffi::read_archive));
     fails(15, 2, &changed_e(&[(node(2, 1), 4), (page(2, 3), 6)]));
     for (n, next) in [(1, 1), (1, 2), (2, 0), (2, 6), (3, 4), (5, 6), (6, 2)] {
         fails(16, n, &changed_e(&[(node(n, 4), next)]));
     }
     // Two failures: the lower node or page of one check, and the lower of two checks.
-    fails(6, 3, &changed_e(&[(node(3, 1), 0), (node(5, 1), 9)]));
+    fails(6, 3, &changed_e(&[(node(3, 1), 6), (node(5, 1), 9)]));
+    fails(6, 5, &changed_e(&[(node(3, 1), 0), (node(5, 1), 9)]));
     fails(8, 2, &changed_e(&[(node(2, 3), 2), (node(3, 3), 2)]));
     fails(8, 3, &changed_e(&[(node(3, 3), 3), (node(6, 3), 7)]));
     fails(10, 2, &changed_e(&[(page(2, 1), 0), (page(3, 1), 0)]));
@@ -772,12 +816,15 @@ fn small_archives() -> Vec<Vec<u8>> {
 
 /// All plans of small trees, feasible or not, and plans of trees that are refused for weight.
 fn archives_of_all_plans(visit: &mut dyn FnMut(&[u8])) {
-    for_each_table(1..=5, &[1, 2], &[2, 3, 4], |table| {
+    let mut visit_plans = |table: &[u8]| {
         let mut tree = read(table).expect("an accepted table");
         for_each_plan(&tree, |marks| visit(&archive_bytes(&tree, marks)));
         tree.limit = 1;
         visit(&archive_bytes(&tree, &vec![1; tree.node_count()]));
-    });
+    };
+    for_each_table(1..=5, &[1, 2], &[2, 3, 4], &mut visit_plans);
+    for_each_table(1..=5, &[0, 1], &[1, 2, 3], &mut visit_plans);
+    for_each_table(1..=4, &[0, 1, 2], &[2, 3], &mut visit_plans);
 }
 
 fn random_archives(visit: &mut dyn FnMut(&[u8])) {

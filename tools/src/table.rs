@@ -1,7 +1,7 @@
 //! The tree table: N, K and N records of weight, label, first child and next sibling, in words of
 //! 16 bits, high byte first.
 
-use crate::tree::{Tree, LIMITS, MAX_NODES, WEIGHTS};
+use crate::tree::{Tree, LIMITS, MAX_NODES};
 
 struct Record {
     weight: u32,
@@ -33,11 +33,6 @@ fn word(table: &[u8], index: usize) -> u32 {
 pub fn read(table: &[u8]) -> Result<Tree, String> {
     let (count, limit) = read_head(table)?;
     let records: Vec<Record> = (0..count).map(|index| record(table, index)).collect();
-    for (record, number) in records.iter().zip(1..) {
-        if !WEIGHTS.contains(&record.weight) {
-            return Err(format!("node {number} weighs {}", record.weight));
-        }
-    }
     let mut tree = Tree::new(limit);
     for (record, depth) in records.iter().zip(walk(&records)?) {
         tree.add(depth, record.weight, record.label);
@@ -163,7 +158,6 @@ mod tests {
 
     #[test]
     fn bad_nodes() {
-        assert_eq!(fault(&changed(field(3, 0), 0)), "node 3 weighs 0");
         let sibling = "node 1 has node 2 as its next sibling";
         assert_eq!(fault(&changed(field(1, 3), 2)), sibling);
         let back = "the walk goes from node 5 to node 3";
@@ -177,5 +171,14 @@ mod tests {
     #[test]
     fn a_heavy_node_is_read() {
         assert!(read(&changed(1, 4)).is_ok());
+    }
+
+    #[test]
+    fn a_note_is_read() {
+        for number in 1..=6 {
+            let tree = read(&changed(field(number, 0), 0)).expect("a tree");
+            assert_eq!(tree.node(number).weight, 0);
+            assert_eq!(write(&tree), changed(field(number, 0), 0));
+        }
     }
 }

@@ -131,6 +131,15 @@ mod tests {
     }
 
     #[test]
+    fn notes_weigh_0() {
+        let noted = "limit 1\n0 7\n  0 8\n    1 9\n  0 10\n";
+        let tree = read(noted).expect("a tree");
+        let weights: Vec<u32> = tree.numbers().map(|n| tree.node(n).weight).collect();
+        assert_eq!(weights, [0, 0, 1, 0]);
+        assert_eq!(write(&tree), noted);
+    }
+
+    #[test]
     fn bad_limits() {
         assert_eq!(fault(""), "line 1: 'limit K' is missing");
         assert_eq!(fault("limit 0\n1 1"), "line 1: limit 0 is not in 1 to 1024");
@@ -151,10 +160,10 @@ mod tests {
         assert_eq!(node("  x 1"), "line 3: weight \"x\" is not a number");
         assert_eq!(node("  1 +1"), "line 3: label \"+1\" is not a number");
         assert_eq!(node("  1 -1"), "line 3: label \"-1\" is not a number");
-        assert_eq!(node("  0 1"), "line 3: weight 0 is not in 1 to 65535");
+        assert_eq!(node("  -1 1"), "line 3: weight \"-1\" is not a number");
         assert_eq!(
             node("  65536 1"),
-            "line 3: weight 65536 is not in 1 to 65535"
+            "line 3: weight 65536 is not in 0 to 65535"
         );
         assert_eq!(
             node("  1 65536"),

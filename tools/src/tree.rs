@@ -4,7 +4,8 @@ use std::ops::RangeInclusive;
 
 pub const MAX_NODES: usize = 1024;
 pub const LIMITS: RangeInclusive<u32> = 1..=1024;
-pub const WEIGHTS: RangeInclusive<u32> = 1..=65535;
+/// 0 is a note, kept on the margin of the film.
+pub const WEIGHTS: RangeInclusive<u32> = 0..=65535;
 pub const LABELS: RangeInclusive<u32> = 0..=65535;
 
 /// A node. Parent and the sibling just before are node numbers, 0 for none.
@@ -114,7 +115,7 @@ pub mod tests {
         tree.add(0, 3, 1);
         for number in 2..=count {
             let depth = 1 + draw(tree.node(number - 1).depth);
-            tree.add(depth, 1 + draw(8) as u32, draw(65535) as u32);
+            tree.add(depth, draw(9) as u32, draw(65535) as u32);
         }
         tree
     }

@@ -42,6 +42,34 @@ fn case_e_there_and_back() {
     assert_eq!(result(&["text", "-"], &table), text);
 }
 
+/// A tree with notes of weight 0: its table, the text again, and pictures of plans, one of them with a
+/// page that weighs nothing.
+#[test]
+fn notes() {
+    let text = b"limit 2\n2 1\n  1 2\n  0 3\n  1 4\n";
+    let table = result(&["table", "-"], text);
+    let words: [u16; 18] = [4, 2, 2, 1, 2, 0, 1, 2, 0, 3, 0, 3, 0, 4, 1, 4, 0, 0];
+    let bytes: Vec<u8> = words.iter().flat_map(|word| word.to_be_bytes()).collect();
+    assert_eq!(table, bytes);
+    assert_eq!(result(&["text", "-"], &table), text);
+    let path = concat!(env!("CARGO_TARGET_TMPDIR"), "/notes.table");
+    std::fs::write(path, &table).expect("the table is written");
+    let plan = b"pages 2 root 2 limit 2\n\
+                 page 1 first 1 last 1 weight 2\n\
+                 page 2 first 2 last 4 weight 2\n";
+    let picture = result(&["svg", path, "-"], plan);
+    assert_eq!(result(&["svg", path, "-"], b"1 1 2 2\n"), picture);
+    let picture = String::from_utf8(picture).expect("a text");
+    assert!(picture.contains("<title>node 3, weight 0, label 3, page 2</title>"));
+    let plan = b"pages 4 root 2 limit 2\n\
+                 page 1 first 1 last 1 weight 2\n\
+                 page 2 first 2 last 2 weight 1\n\
+                 page 3 first 3 last 3 weight 0\n\
+                 page 4 first 4 last 4 weight 1\n";
+    let picture = result(&["svg", path, "-"], plan);
+    assert_eq!(result(&["svg", path, "-"], b"1 1 1 1\n"), picture);
+}
+
 #[test]
 fn pictures_of_case_e() {
     let picture = include_bytes!("../../docs/case-e.svg");

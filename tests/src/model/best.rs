@@ -91,7 +91,7 @@ fn entries_of_one(weight: u32, children: Vec<Child>, limit: u32, with_gains: boo
         seen,
         children,
     };
-    // A child that stays leads to an entry at a higher start.
+    // A child that stays leads to an entry at a higher start, or at the same start for fewer children.
     for start in (weight..=limit).rev() {
         let mut row = vec![Entry {
             count: 0,
@@ -132,9 +132,14 @@ fn choose(node: &Node, start: u32, row: &[Entry], runs: &[Option<u32>]) -> Entry
     };
     let stayed = start + node.children[j - 1].rest;
     if stayed <= node.limit {
+        // A child with no rest leads to this very row, which the node does not have yet.
+        let before = match stayed == start {
+            true => row[j - 1],
+            false => node.entry(stayed, j - 1),
+        };
         offer(Entry {
             choice: Choice::Stay,
-            ..node.entry(stayed, j - 1)
+            ..before
         });
     }
     for (index, run) in runs.iter().enumerate() {
@@ -152,14 +157,16 @@ fn choose(node: &Node, start: u32, row: &[Entry], runs: &[Option<u32>]) -> Entry
 }
 
 /// The runs of the last 1, 2, .. children: how many second plans each takes, or none where it is
-/// no candidate.
+/// no candidate. Stretching stops only once the lightest total, the sum of rests less the sum of
+/// gains, passes the limit (request Three; document 01 stopped on reaching it). So a run has any
+/// number of children that add nothing.
 fn runs_ending_at(children: &[Child], limit: u32) -> Vec<Option<u32>> {
     let mut runs = vec![];
     let mut lightest = 0;
     for first in (0..children.len()).rev() {
         runs.push(seconds_taken(&children[first..], limit).map(|taken| taken.len() as u32));
         lightest += children[first].rest - children[first].gain;
-        if lightest >= limit {
+        if lightest > limit {
             break;
         }
     }

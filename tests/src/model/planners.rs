@@ -1,4 +1,4 @@
-//! The six planner entries: refusals 1 to 9 and 14, the marks and the scratch left behind.
+//! The six planner entries: their refusals, with 8 and 9, the marks and the scratch left behind.
 
 use super::{best, greedy, quick, read, verdict, Answer, Tree};
 

@@ -1,4 +1,4 @@
-//! The tree table and its reader: refusals 1 to 7 and 14.
+//! The tree table and its reader: refusals 1 to 4, 6, 7 and 14.
 
 use super::Answer;
 
@@ -65,7 +65,8 @@ pub fn read_sound(table: &[u8]) -> Result<Tree, Answer> {
     }
 }
 
-/// The limit and the records of a table, or refusals 1 to 5.
+/// The limit and the records of a table, or refusals 1 to 4. A weight of 0 is like any other: 5, which
+/// refused it, is given by nothing (request Three).
 fn read_records(table: &[u8]) -> Result<(usize, Vec<Record>), Answer> {
     if table.len() < 4 {
         return Err(Answer::refused(1, 0));
@@ -82,7 +83,7 @@ fn read_records(table: &[u8]) -> Result<(usize, Vec<Record>), Answer> {
     if table.len() != length {
         return Err(Answer::refused(4, length));
     }
-    let records: Vec<Record> = (0..count)
+    let records = (0..count)
         .map(|index| Record {
             weight: word(table, 2 + 4 * index),
             label: word(table, 3 + 4 * index),
@@ -90,9 +91,6 @@ fn read_records(table: &[u8]) -> Result<(usize, Vec<Record>), Answer> {
             next_sibling: word(table, 5 + 4 * index),
         })
         .collect();
-    if let Some(index) = records.iter().position(|record| record.weight == 0) {
-        return Err(Answer::refused(5, index + 1));
-    }
     Ok((limit, records))
 }
 

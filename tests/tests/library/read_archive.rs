@@ -5,7 +5,7 @@ use balduqen_tests::check::{file_all, first_unfiled, show, with_copy, Lent, Seen
 use balduqen_tests::exhaustive::for_each_plan;
 use balduqen_tests::ffi;
 use balduqen_tests::gen::*;
-use balduqen_tests::kept::kept;
+use balduqen_tests::kept::{kept, kept_filed};
 use balduqen_tests::model::{self, archive_bytes, read, read_as_before, verdict, word, Answer};
 
 /// The library's answer, table and marks, checked against the model's. The buffers hold these bytes
@@ -72,11 +72,12 @@ fn random_archive(random: &mut Random, most: usize, limit: usize) -> (Vec<u8>, V
     (table, archive)
 }
 
-/// Case E, film with labels 0, and some random ones, most of them of up to seven nodes.
+/// Case E, film with a note, older film, and some random ones, most of them of up to seven nodes.
 fn small_archives() -> Vec<Vec<u8>> {
     let random = &mut Random::new(1001);
-    let mut archives = vec![archive_of_e()];
+    let mut archives = vec![archive_of_e(), archive_of_note_between()];
     archives.extend(kept().map(|film| film.archive));
+    archives.extend(kept_filed().map(|film| film.archive));
     for limit in [12, 100] {
         archives.extend((0..4).map(|_| random_archive(random, 7, limit).1));
     }
@@ -123,7 +124,7 @@ fn order_of_the_checks() {
 #[test]
 fn all_plans_of_small_trees() {
     let mut seen = Seen::default();
-    for_each_table(1..=5, &[1, 2], &[2, 3, 4], |table| {
+    let mut read_all = |table: &[u8]| {
         let mut tree = read(table).expect("an accepted table");
         for_each_plan(&tree, |marks| {
             let answer = read_archive(&archive_bytes(&tree, marks));
@@ -140,7 +141,10 @@ fn all_plans_of_small_trees() {
                 Answer::refused(13, 0)
             );
         }
-    });
+    };
+    for_each_table(1..=5, &[1, 2], &[2, 3, 4], &mut read_all);
+    for_each_table(1..=5, &[0, 1], &[1, 2], &mut read_all);
+    for_each_table(1..=4, &[0, 1, 2], &[2, 3], &mut read_all);
     seen.expect(&[0, 13], 1000);
 }
 
@@ -148,7 +152,7 @@ fn all_plans_of_small_trees() {
 #[test]
 fn all_labels_of_small_trees() {
     let mut seen = Seen::default();
-    for_each_table(1..=4, &[1, 2], &[3], |table| {
+    for_each_table(1..=4, &[0, 1, 2], &[3], |table| {
         for_each_labelling(table, |table| {
             let tree = read_as_before(table).expect("a table that is accepted but for labels");
             for_each_plan(&tree, |marks| {

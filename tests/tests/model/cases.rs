@@ -1,4 +1,4 @@
-//! Cases A to G of document 01 and its table of refusals.
+//! Cases A to G of document 01, its table of refusals, and the cases of document 02.
 
 use super::plan;
 use balduqen_tests::cases::*;

@@ -1,10 +1,10 @@
 //! The planners against exhaustive search and, on larger trees, against each other.
 
 use super::plan;
-use balduqen_tests::cases::{Kind, KINDS};
+use balduqen_tests::cases::*;
 use balduqen_tests::exhaustive::*;
 use balduqen_tests::gen::*;
-use balduqen_tests::model::{read, Tree};
+use balduqen_tests::model::{read, read_tree, Tree};
 
 /// A planner's score, with its answer checked against the pages weighed anew.
 pub fn score(kind: Kind, table: &[u8]) -> Score {
@@ -33,6 +33,91 @@ fn best_is_best(table: &[u8]) {
 fn best_of_all_small_trees() {
     for_each_table(1..=6, &[1, 2], &[2, 3, 4, 5, 6], best_is_best);
     for_each_table(1..=5, &[1, 2, 3, 4], &[4, 5, 6, 7], best_is_best);
+}
+
+/// All weights from 0 to 3 with the limits 1 to 3: against all sets of runs. Where a weight is over the
+/// limit there is none, and the tree is refused.
+#[test]
+fn best_of_all_small_trees_with_notes() {
+    let (mut refused, mut beyond) = (0, 0);
+    for_each_table_and_best(1..=6, &[0, 1, 2, 3], &[1, 2, 3], |table, best| {
+        let Some(best) = best else {
+            assert_eq!(read_tree(table).number, 7);
+            refused += 1;
+            return;
+        };
+        assert_eq!(score(Kind::Best, table), best, "{table:?}");
+        let tree = read(table).expect("an accepted table");
+        // A root page of weight 0 could take another page in.
+        let weight: u32 = tree.weights.iter().sum();
+        assert_eq!(best.1 == 0, weight == 0, "{table:?}");
+        let longest = longest_run(&tree, &plan(Kind::Best, table).1);
+        beyond += usize::from(longest > tree.limit as usize);
+    });
+    assert!(refused > 300_000, "{refused}");
+    // Plans of best that have a run of more nodes than the limit.
+    assert!(beyond > 500, "{beyond}");
+}
+
+/// What runs of at most as many nodes as the limit would cost, by exhaustive search: a page.
+#[test]
+fn a_cap_of_nodes_costs_a_page() {
+    for (table, pages, root, length) in [
+        (note_between(), 2, 2, 3),
+        (notes_between(), 2, 2, 6),
+        (small_e_with_note(), 3, 2, 3),
+        (notes_at_the_ends(), 2, 3, 4),
+        (case_e_with_notes(), 3, 5, 7),
+    ] {
+        let bytes = table.bytes();
+        let tree = read(&bytes).expect("an accepted table");
+        assert_eq!(score(Kind::Best, &bytes), (pages, root));
+        assert_eq!(best_of_plans(&tree), Some((pages, root)));
+        assert_eq!(longest_run(&tree, &plan(Kind::Best, &bytes).1), length);
+        // Only plans with a run of that length have so few pages.
+        let capped = |cap| best_of_plans_where(&tree, |marks| longest_run(&tree, marks) <= cap);
+        assert_eq!(capped(length), Some((pages, root)));
+        assert_eq!(capped(length - 1), Some((pages + 1, root)));
+        let limit = tree.limit as usize;
+        assert!(limit < length);
+        assert_eq!(capped(limit).map(|score| score.0), Some(pages + 1));
+    }
+}
+
+/// With limit 1, best needs no run of more than one node: what weighs nothing can stay.
+#[test]
+fn runs_under_limit_1() {
+    for_each_table(1..=7, &[0, 1], &[1], |table| {
+        let tree = read(table).expect("an accepted table");
+        assert_eq!(longest_run(&tree, &plan(Kind::Best, table).1), 1);
+    });
+}
+
+/// Small trees of notes only are one page of weight 0, by whichever planner.
+#[test]
+fn notes_only() {
+    for_each_table(1..=7, &[0], &[1, 2, 1024], |table| {
+        for kind in KINDS {
+            assert_eq!(score(kind, table), (1, 0), "{kind:?} {table:?}");
+        }
+    });
+}
+
+/// Notes among the nodes of a tree cost nothing, also where the tree is too large for a search.
+#[test]
+fn notes_cost_nothing() {
+    let random = &mut Random::new(408);
+    let mut beyond = 0;
+    for _ in 0..3000 {
+        let table = any_table(random, 40, 12).bytes();
+        let tree = read(&table).expect("an accepted table");
+        let noted = noted(random, &tree).bytes();
+        assert_eq!(score(Kind::Best, &noted), score(Kind::Best, &table));
+        let marks = plan(Kind::Best, &noted).1;
+        let noted = read(&noted).expect("an accepted table");
+        beyond += usize::from(longest_run(&noted, &marks) > noted.limit as usize);
+    }
+    assert!(beyond > 500, "{beyond}");
 }
 
 #[test]

@@ -23,7 +23,7 @@ fn told(tree: &Tree, prefixes: &BTreeSet<Vec<u8>>, marks: &[u8]) -> Answer {
 #[test]
 fn judge_of_all_marks() {
     let mut seen = Seen::default();
-    for_each_table(1..=5, &[1, 3], &[3, 5], |table| {
+    let mut judge_all = |table: &[u8]| {
         let tree = read(table).expect("an accepted table");
         let mut prefixes = BTreeSet::new();
         for_each_plan(&tree, |marks| {
@@ -37,7 +37,10 @@ fn judge_of_all_marks() {
             assert_eq!(score_of_plan(&tree, marks), score, "{tree:?} {marks:?}");
             seen.add(answer);
         });
-    });
+    };
+    for_each_table(1..=5, &[1, 3], &[3, 5], &mut judge_all);
+    for_each_table(1..=4, &[0, 1, 3], &[3, 5], &mut judge_all);
+    for_each_table(5..=5, &[0, 2], &[2, 4], &mut judge_all);
     seen.expect(&[0, 10, 11], 1000);
 }
 
@@ -88,7 +91,8 @@ fn run_sets_are_the_plans() {
     }
 }
 
-/// Also where a page weighs nothing, and where a node outweighs the limit and there is no best.
+/// Also where a page weighs nothing, and where a node outweighs the limit and there is no best. So it
+/// is, too, where the sets are listed for the shape alone and weighed later.
 #[test]
 fn best_of_run_sets_is_best_of_plans() {
     let random = &mut Random::new(302);
@@ -96,10 +100,12 @@ fn best_of_run_sets_is_best_of_plans() {
     for _ in 0..4000 {
         let table = any_table(random, 7, 12);
         let mut tree = read(&table.bytes()).expect("an accepted table");
+        let sets = RunSets::of(&tree);
         let node = random.between(1, tree.node_count());
         tree.weights[node] = random.pick(&[tree.weights[node], 0, tree.limit + 1]);
         let best = best_of_run_sets(&tree);
         assert_eq!(best, best_of_plans(&tree), "{tree:?}");
+        assert_eq!(best, sets.best(&tree.weights[1..], tree.limit), "{tree:?}");
         unheld += usize::from(best.is_none());
     }
     assert!((1000..2000).contains(&unheld), "{unheld}");

@@ -25,6 +25,8 @@ fn not_below_the_least(table: &[u8]) {
 fn least_of_all_small_trees() {
     for_each_table(1..=6, &[1, 2], &[2, 3, 4, 5, 6], not_below_the_least);
     for_each_table(1..=5, &[1, 2, 3, 4], &[4, 5, 6, 7], not_below_the_least);
+    for_each_table(1..=6, &[0, 1], &[1, 2, 3], not_below_the_least);
+    for_each_table(1..=5, &[0, 1, 2, 3], &[3, 4], not_below_the_least);
 }
 
 #[test]
@@ -106,6 +108,8 @@ fn alone_in_small_trees(kind: Kind) {
     let check = |table: &[u8]| alone_of_all_plans(kind, table);
     for_each_table(1..=6, &[1, 2], &[2, 3, 4, 5, 6], check);
     for_each_table(1..=5, &[1, 2, 3, 4], &[4, 5, 6, 7], check);
+    for_each_table(1..=6, &[0, 1], &[1, 2, 3], check);
+    for_each_table(1..=5, &[0, 1, 2, 3], &[3, 4], check);
     let random = &mut Random::new(412);
     for _ in 0..10000 {
         let most = random.pick(&[4, 6, 10, 20]);

@@ -1,6 +1,6 @@
 //! The tree reader.
 
-use balduqen_tests::cases::{case_e, faulty_tables};
+use balduqen_tests::cases::{case_e, faulty_tables, once_refused_tables};
 use balduqen_tests::check::{file_all, first_unfiled, Seen};
 use balduqen_tests::gen::*;
 use balduqen_tests::model::{read, read_as_before, read_tree, Answer};
@@ -34,7 +34,7 @@ fn tree_of_a_table() {
         let form = random.pick(&FORMS);
         let count = random.between(1, 40);
         let parents = random_parents(random, form, count);
-        let weights: Vec<u16> = (0..count).map(|_| random.between(1, 9) as u16).collect();
+        let weights: Vec<u16> = (0..count).map(|_| random.between(0, 9) as u16).collect();
         let table = Table::new(9, &parents, &weights).with_random_labels(random);
         let tree = read(&table.bytes()).expect("an accepted table");
         assert_eq!((tree.limit, tree.node_count()), (9, count));
@@ -59,8 +59,24 @@ fn tree_of_a_table() {
 
 #[test]
 fn order_of_the_checks() {
-    for (table, number, place) in faulty_tables() {
+    for (table, number, place) in faulty_tables().into_iter().chain(once_refused_tables()) {
         assert_eq!(read_tree(&table), Answer::refused(number, place));
+    }
+}
+
+/// Each weight, at any node: 0 is as good as another, and those over the limit are refused.
+#[test]
+fn every_weight() {
+    for node in 1..=6 {
+        let mut table = case_e();
+        for weight in 0..=u16::MAX {
+            table.records[node - 1].weight = weight;
+            let expected = match weight {
+                0..=5 => Answer::ACCEPTED,
+                _ => Answer::refused(7, node),
+            };
+            assert_eq!(read_tree(&table.bytes()), expected);
+        }
     }
 }
 
@@ -127,7 +143,7 @@ fn damage_reaches_every_refusal() {
         assert_eq!(read_tree(&table.bytes()), Answer::ACCEPTED);
         seen.add(read_tree(&damaged(random, &table)));
     }
-    seen.expect(&[0, 1, 2, 3, 4, 5, 6, 7, 14], 50);
+    seen.expect(&[0, 1, 2, 3, 4, 6, 7, 14], 50);
 }
 
 /// The reading without 14 takes a label 0 as it takes any other, and is the same in all else.
