@@ -23,7 +23,7 @@ use Rattle.model.specs.declared.Place.{Place}
 use Rattle.model.specs.declared.Place.the-variants.{At, Nowhere}
 use Rattle.model.specs.declared.Answer.{Answer}
 use Rattle.model.specs.declared.Edition.{Edition}
-use Rattle.theory.specs.Ranges.{at-nowhere, pick-true, pick-false, atPlace-at, atPlace-nowhere}
+use Rattle.theory.specs.Ranges.{at-nowhere, pick-true, pick-false, atPlace-at}
 use Rattle.theory.specs.Bools.{both-true, and-true}
 
 -- ---- Checks that pass
