@@ -378,7 +378,7 @@ fn five_is_never_given(entries: &Entries) {
             true => table.bytes(),
             false => damaged(random, &table),
         };
-        // Marks and scratch of some length, where the head has none.
+        // Buffers for twelve nodes and limit 12, whatever the table's head says.
         let asked = Asked::with(entries, &table, &[1; 12], 720, 198);
         assert!(asked.all().iter().all(|answer| answer.number != RETIRED));
     }
@@ -493,25 +493,27 @@ fn notes_on_full_pages(entries: &Entries) {
     );
 }
 
-/// 1,024 notes in every form of tree, under the lowest limit and the highest: one page of weight 0 by
-/// every planner, and on film.
+/// A note, two, and up to 1,024 in every form of tree, under the lowest limit and the highest: one page
+/// of weight 0 by every planner, and on film.
 fn notes_only(entries: &Entries) {
     let random = &mut Random::new(1106);
-    let mut one_page = vec![0; MAX_NODES];
-    one_page[0] = 1;
     for form in FORMS {
-        for limit in [1, 1024] {
-            let parents = random_parents(random, form, MAX_NODES);
-            let table = Table::new(limit, &parents, &[0; MAX_NODES]).bytes();
-            for kind in KINDS {
-                let mut marks = vec![7; MAX_NODES];
-                let mut scratch = vec![7; scratch_length(MAX_NODES, limit.into())];
-                let answer = (entries.planner)(kind)(&table, &mut marks, &mut scratch);
-                assert_eq!(answer, Answer::accepted(1, 0), "{kind:?} {form:?} {limit}");
-                assert_eq!(marks, one_page, "{kind:?} {form:?} {limit}");
+        for count in [1, 2, 30, MAX_NODES] {
+            for limit in [1, 1024] {
+                let parents = random_parents(random, form, count);
+                let table = Table::new(limit, &parents, &vec![0; count]).bytes();
+                let mut one_page = vec![0; count];
+                one_page[0] = 1;
+                for kind in KINDS {
+                    let mut marks = vec![7; count];
+                    let mut scratch = vec![7; scratch_length(count, limit.into())];
+                    let answer = (entries.planner)(kind)(&table, &mut marks, &mut scratch);
+                    assert_eq!(answer, Answer::accepted(1, 0), "{kind:?} {form:?} {limit}");
+                    assert_eq!(marks, one_page, "{kind:?} {form:?} {limit}");
+                }
+                on_film(entries, &table, &one_page, &[0]);
+                on_film(entries, &table, &vec![1; count], &vec![0; count]);
             }
-            on_film(entries, &table, &one_page, &[0]);
-            on_film(entries, &table, &[1; MAX_NODES], &[0; MAX_NODES]);
         }
     }
 }
