@@ -182,7 +182,7 @@ fn check_weight(entries: &Entries, table: &[u8], best: Option<Score>) -> Answer 
     asked.read_tree
 }
 
-/// Of all weights from 0 to one above the limit, in trees of six nodes for limit 2.
+/// With all weights from 0 to one above the limit; of six nodes, under limit 2.
 fn seven_in_all_small_trees(entries: &Entries) {
     let mut seen = Seen::default();
     let mut check = |table: &[u8], best| seen.add(check_weight(entries, table, best));
@@ -222,8 +222,8 @@ fn refusal_told(table: &[u8]) -> Option<(u32, usize)> {
     unfiled.or(heavy)
 }
 
-/// All labels of 0 and 1 in all small trees, also where a weight is 0, which changes nothing, or over
-/// the limit.
+/// All labels of 0 and 1 in all small trees, also where a weight is 0, which changes nothing, or
+/// over the limit.
 fn fourteen_in_all_small_trees(entries: &Entries) {
     let mut seen = Seen::default();
     for_each_table(1..=4, &[0, 1, 2, 3], &[2], |table| {
@@ -399,16 +399,10 @@ fn on_film(entries: &Entries, table: &[u8], marks: &[u8], weights: &[usize]) {
     let answer = read_archive(entries, &archive, table, marks);
     assert_eq!(answer, verdict, "{}", show(table));
     let told = rebuild(&archive).expect("a sound archive");
-    assert!(told
-        .nodes
-        .iter()
-        .map(|node| node.mark)
-        .eq(marks.iter().copied()));
-    assert!(told
-        .pages
-        .iter()
-        .map(|page| page.sum)
-        .eq(weights.iter().copied()));
+    let told_marks: Vec<u8> = told.nodes.iter().map(|node| node.mark).collect();
+    assert_eq!(told_marks, marks, "{}", show(table));
+    let sums: Vec<usize> = told.pages.iter().map(|page| page.sum).collect();
+    assert_eq!(sums, weights, "{}", show(table));
 }
 
 /// The judge and the writer find a page over the limit, and nothing is written.
@@ -460,7 +454,7 @@ fn pages_of_weight_0(entries: &Entries) {
     on_film(entries, &notes, &[1, 0, 0, 0, 0], &[0]);
 }
 
-/// A page of exactly the limit takes any number of notes, in its run and below it, and nothing else.
+/// A full page takes any number of notes, in its run and below it, and nothing else.
 fn notes_on_full_pages(entries: &Entries) {
     // The run is nodes 2, 4 and 6, with a child each at 2 and 4; node 7 stays with node 1.
     let parents = [0, 1, 2, 1, 4, 1, 1];
@@ -493,8 +487,8 @@ fn notes_on_full_pages(entries: &Entries) {
     );
 }
 
-/// A note, two, and up to 1,024 in every form of tree, under the lowest limit and the highest: one page
-/// of weight 0 by every planner, and on film.
+/// A note, two, and up to 1,024 in every form of tree, under the lowest limit and the highest: one
+/// page of weight 0 by every planner, and on film.
 fn notes_only(entries: &Entries) {
     let random = &mut Random::new(1106);
     for form in FORMS {
@@ -534,8 +528,8 @@ fn kept_film_is_written_again(entries: &Entries) {
     }
 }
 
-/// The header has a name for each number and a line for each but 0, in rising order; 5 is retired and
-/// has neither.
+/// The header has a name for each number and a line for each but 0, in rising order; 5 is retired
+/// and has neither.
 #[test]
 fn numbers_of_the_header() {
     let named: Vec<(&str, &str)> = HEADER
