@@ -4,8 +4,8 @@
 //! Where the figure leaves room, the faster reading is taken: the nodes are ordered only for an
 //! interval over the limit, as the text beside the figure says. The root weight of a nearly optimal
 //! partitioning is read off its entry less what the start was raised by; otherwise the result would
-//! not be optimal. Weights may be 0 here, so the figure's cap of K nodes an interval is left out, and
-//! an interval ends past the limit, not on reaching it.
+//! not be optimal. Weights may be 0 here, so the figure's cap of K nodes an interval is left out,
+//! and an interval ends past the limit, not on reaching it.
 
 use crate::planner::Answer;
 use crate::tree::Tree;

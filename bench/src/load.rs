@@ -85,8 +85,8 @@ pub fn loads() -> Vec<Load> {
     list
 }
 
-/// Each shape with nothing but notes of weight 0, and with weights from 0 up, where runs of more nodes
-/// than the limit come up. They are compared and not timed.
+/// Each shape with nothing but notes of weight 0, and with weights from 0 up, where runs of more
+/// nodes than the limit come up. They are compared and not timed.
 pub fn loads_with_notes() -> Vec<Load> {
     let mut list = vec![];
     for shape in SHAPES {

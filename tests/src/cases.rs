@@ -94,8 +94,8 @@ pub fn case_g() -> Table {
     Table::new(5, &[0, 1, 2, 1, 1], &[1, 2, 3, 2, 2])
 }
 
-/// Root 2 and children 1 0 1 under limit 2: the note between them is in the run, which has more nodes
-/// than the limit.
+/// Root 2 and children 1 0 1 under limit 2: the note between them is in the run, which has more
+/// nodes than the limit.
 pub fn note_between() -> Table {
     Table::new(2, &[0, 1, 1, 1], &[2, 1, 0, 1])
 }
@@ -111,19 +111,19 @@ pub fn case_e_with_notes() -> Table {
     Table::new(5, &parents, &[5, 2, 0, 0, 1, 2, 0, 2, 0, 0, 1])
 }
 
-/// The shape of case E under limit 2, with a note in the middle: only by its second plan, which cuts
-/// both its children off, do the three children of the root come to 2.
+/// The shape of case E under limit 2, with a note in the middle: only by its second plan, which
+/// cuts both its children off, do the three children of the root come to 2.
 pub fn small_e_with_note() -> Table {
     Table::new(2, &[0, 1, 1, 3, 3, 1], &[2, 1, 0, 1, 1, 1])
 }
 
-/// Children of weight 0 at both ends of a run and in it, those at the ends with a child of weight 1.
+/// Nodes of weight 0 at both ends of a run and in it; those at the ends have a child of weight 1.
 pub fn notes_at_the_ends() -> Table {
     Table::new(3, &[0, 1, 2, 1, 1, 1, 6], &[3, 0, 1, 0, 1, 0, 1])
 }
 
-/// The plans that document 01 gives, and those that follow by hand from its planner steps, from those
-/// of request Two and from the stop of request Three.
+/// The plans that document 01 gives, and those that follow by hand from its planner steps, from
+/// those of request Two and from the stop of request Three.
 pub fn made() -> Vec<Made> {
     let mut list = vec![];
     let mut add = |name, table: Table, kinds: &[Kind], marks: &[u8], pages, root| {
@@ -538,9 +538,9 @@ const FAULTS: [(u32, usize); 7] = [
     (7, 2),
 ];
 
-/// Case E with every selection of one fault for each of the numbers 1 to 4, 6, 7 and 14, without and
-/// with a weight of 0, which is none, and the answer that the order of the checks leaves: number and
-/// place, both 0 without a fault.
+/// Case E with every selection of one fault for each of the numbers 1 to 4, 6, 7 and 14, without
+/// and with a weight of 0, which is none, and the answer that the order of the checks leaves:
+/// number and place, both 0 without a fault.
 pub fn faulty_tables() -> Vec<(Vec<u8>, u32, usize)> {
     let mut list = vec![];
     for selection in 0..2 << FAULTS.len() {

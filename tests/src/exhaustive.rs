@@ -197,8 +197,8 @@ pub fn best_of_run_sets(tree: &Tree) -> Option<Score> {
     best
 }
 
-/// All sets of runs that hold the trees of one shape. Those that differ only in weights and limit are
-/// searched without listing the sets anew.
+/// All sets of runs that hold the trees of one shape. Those that differ only in weights and limit
+/// are searched without listing the sets anew.
 pub struct RunSets {
     /// For each set, the number of its pages and the page of each node.
     sets: Vec<(usize, Vec<usize>)>,
@@ -213,8 +213,8 @@ impl RunSets {
         RunSets { sets }
     }
 
-    /// The best score of all sets with these weights, from node 1 on, and this limit; none if no set
-    /// holds the tree within it.
+    /// The best score of all sets with these weights, from node 1 on, and this limit; none if no
+    /// set holds the tree within it.
     pub fn best(&self, weights: &[u32], limit: u32) -> Option<Score> {
         let mut best = None;
         for (pages, page_of) in &self.sets {
@@ -224,8 +224,8 @@ impl RunSets {
     }
 }
 
-/// Calls `visit` with every table of so many nodes whose weights and limit are among these, and with
-/// the best score of all sets of runs; none where no set holds the tree within the limit.
+/// Calls `visit` with every table of so many nodes whose weights and limit are among these, and
+/// with the best score of all sets of runs; none where no set holds the tree within the limit.
 pub fn for_each_table_and_best(
     counts: std::ops::RangeInclusive<usize>,
     weights: &[u16],

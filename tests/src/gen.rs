@@ -358,9 +358,9 @@ pub fn any_table(random: &mut Random, max_nodes: usize, max_limit: usize) -> Tab
     random_table(random, form, count, limit)
 }
 
-/// The tree with notes of weight 0 as further children, in front of, between and behind those of any
-/// nodes. A run takes in those between its nodes, and all others can stay: neither page count nor root
-/// weight of the best plan is another for them.
+/// The tree with notes of weight 0 as further children, in front of, between and behind those of
+/// any nodes. A run takes in those between its nodes, and all others can stay: neither page count
+/// nor root weight of the best plan is another for them.
 pub fn noted(random: &mut Random, tree: &Tree) -> Table {
     let mut nodes = vec![];
     copy_noted(random, tree, 1, 0, &mut nodes);

@@ -1,6 +1,6 @@
-//! Film kept as bytes, with the tables and plans that the library wrote it from and its verdicts: film
-//! with labels 0 from before 14 was refused, which no library since then can make anew, and film from
-//! before weights of 0 were taken, which every library since then has to make as it is.
+//! Film kept as bytes, with the tables and plans that the library wrote it from and its verdicts:
+//! film with labels 0 from before 14 was refused, which no library since then can make anew, and
+//! film from before weights of 0 were taken, which every library since then has to make as it is.
 
 use crate::model::Answer;
 
@@ -23,7 +23,7 @@ fn bytes(words: &str) -> Vec<u8> {
 }
 
 /// Film with labels 0: at the only node, at one in the middle, at the last one, and at several with
-/// node 1 among them. The plan of the third is the level planner's, the others are the best planner's.
+/// node 1 among them. The plan of the third is the level planner's, the others are best's.
 pub fn kept() -> [Kept; 4] {
     [
         Kept {
@@ -133,8 +133,7 @@ pub fn kept() -> [Kept; 4] {
     ]
 }
 
-/// Film without a label 0. The plan of the last is the rightmost planner's, the others are the best
-/// planner's.
+/// Film without a label 0. The plan of the last is the rightmost planner's, the others are best's.
 pub fn kept_filed() -> [Kept; 5] {
     [
         Kept {

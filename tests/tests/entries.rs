@@ -182,7 +182,7 @@ fn check_weight(entries: &Entries, table: &[u8], best: Option<Score>) -> Answer 
     asked.read_tree
 }
 
-/// Of all weights from 0 to one above the limit, in trees of six nodes for limit 2.
+/// With all weights from 0 to one above the limit; of six nodes, under limit 2.
 fn seven_in_all_small_trees(entries: &Entries) {
     let mut seen = Seen::default();
     let mut check = |table: &[u8], best| seen.add(check_weight(entries, table, best));
@@ -222,8 +222,8 @@ fn refusal_told(table: &[u8]) -> Option<(u32, usize)> {
     unfiled.or(heavy)
 }
 
-/// All labels of 0 and 1 in all small trees, also where a weight is 0, which changes nothing, or over
-/// the limit.
+/// All labels of 0 and 1 in all small trees, also where a weight is 0, which changes nothing, or
+/// over the limit.
 fn fourteen_in_all_small_trees(entries: &Entries) {
     let mut seen = Seen::default();
     for_each_table(1..=4, &[0, 1, 2, 3], &[2], |table| {
@@ -378,7 +378,7 @@ fn five_is_never_given(entries: &Entries) {
             true => table.bytes(),
             false => damaged(random, &table),
         };
-        // Marks and scratch of some length, where the head has none.
+        // Buffers for twelve nodes and limit 12, whatever the table's head says.
         let asked = Asked::with(entries, &table, &[1; 12], 720, 198);
         assert!(asked.all().iter().all(|answer| answer.number != RETIRED));
     }
@@ -399,16 +399,10 @@ fn on_film(entries: &Entries, table: &[u8], marks: &[u8], weights: &[usize]) {
     let answer = read_archive(entries, &archive, table, marks);
     assert_eq!(answer, verdict, "{}", show(table));
     let told = rebuild(&archive).expect("a sound archive");
-    assert!(told
-        .nodes
-        .iter()
-        .map(|node| node.mark)
-        .eq(marks.iter().copied()));
-    assert!(told
-        .pages
-        .iter()
-        .map(|page| page.sum)
-        .eq(weights.iter().copied()));
+    let told_marks: Vec<u8> = told.nodes.iter().map(|node| node.mark).collect();
+    assert_eq!(told_marks, marks, "{}", show(table));
+    let sums: Vec<usize> = told.pages.iter().map(|page| page.sum).collect();
+    assert_eq!(sums, weights, "{}", show(table));
 }
 
 /// The judge and the writer find a page over the limit, and nothing is written.
@@ -460,7 +454,7 @@ fn pages_of_weight_0(entries: &Entries) {
     on_film(entries, &notes, &[1, 0, 0, 0, 0], &[0]);
 }
 
-/// A page of exactly the limit takes any number of notes, in its run and below it, and nothing else.
+/// A full page takes any number of notes, in its run and below it, and nothing else.
 fn notes_on_full_pages(entries: &Entries) {
     // The run is nodes 2, 4 and 6, with a child each at 2 and 4; node 7 stays with node 1.
     let parents = [0, 1, 2, 1, 4, 1, 1];
@@ -493,25 +487,27 @@ fn notes_on_full_pages(entries: &Entries) {
     );
 }
 
-/// 1,024 notes in every form of tree, under the lowest limit and the highest: one page of weight 0 by
-/// every planner, and on film.
+/// A note, two, and up to 1,024 in every form of tree, under the lowest limit and the highest: one
+/// page of weight 0 by every planner, and on film.
 fn notes_only(entries: &Entries) {
     let random = &mut Random::new(1106);
-    let mut one_page = vec![0; MAX_NODES];
-    one_page[0] = 1;
     for form in FORMS {
-        for limit in [1, 1024] {
-            let parents = random_parents(random, form, MAX_NODES);
-            let table = Table::new(limit, &parents, &[0; MAX_NODES]).bytes();
-            for kind in KINDS {
-                let mut marks = vec![7; MAX_NODES];
-                let mut scratch = vec![7; scratch_length(MAX_NODES, limit.into())];
-                let answer = (entries.planner)(kind)(&table, &mut marks, &mut scratch);
-                assert_eq!(answer, Answer::accepted(1, 0), "{kind:?} {form:?} {limit}");
-                assert_eq!(marks, one_page, "{kind:?} {form:?} {limit}");
+        for count in [1, 2, 30, MAX_NODES] {
+            for limit in [1, 1024] {
+                let parents = random_parents(random, form, count);
+                let table = Table::new(limit, &parents, &vec![0; count]).bytes();
+                let mut one_page = vec![0; count];
+                one_page[0] = 1;
+                for kind in KINDS {
+                    let mut marks = vec![7; count];
+                    let mut scratch = vec![7; scratch_length(count, limit.into())];
+                    let answer = (entries.planner)(kind)(&table, &mut marks, &mut scratch);
+                    assert_eq!(answer, Answer::accepted(1, 0), "{kind:?} {form:?} {limit}");
+                    assert_eq!(marks, one_page, "{kind:?} {form:?} {limit}");
+                }
+                on_film(entries, &table, &one_page, &[0]);
+                on_film(entries, &table, &vec![1; count], &vec![0; count]);
             }
-            on_film(entries, &table, &one_page, &[0]);
-            on_film(entries, &table, &[1; MAX_NODES], &[0; MAX_NODES]);
         }
     }
 }
@@ -532,8 +528,8 @@ fn kept_film_is_written_again(entries: &Entries) {
     }
 }
 
-/// The header has a name for each number and a line for each but 0, in rising order; 5 is retired and
-/// has neither.
+/// The header has a name for each number and a line for each but 0, in rising order; 5 is retired
+/// and has neither.
 #[test]
 fn numbers_of_the_header() {
     let named: Vec<(&str, &str)> = HEADER

@@ -371,7 +371,7 @@ fn tables_of_notes() {
         let tree = read(&table).expect("an accepted table");
         hand_to_reader(&archive_bytes(&tree, &ones(MAX_NODES)), MAX_NODES);
     }
-    // Only the first child and the last weigh something, and one run goes from the one to the other.
+    // Of the children only the first and the last weigh something, and one run has them all.
     let parents = [&[0][..], &[1; MAX_NODES - 1]].concat();
     let mut weights = [0; MAX_NODES];
     (weights[0], weights[1], weights[MAX_NODES - 1]) = (2, 1, 1);

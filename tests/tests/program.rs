@@ -128,8 +128,8 @@ fn order_of_the_checks() {
     }
 }
 
-/// Trees with weights of 0: what was refused for them, a run of more nodes than the limit, also where
-/// it takes a second plan, and the most nodes of weight 0 that the scratch serves.
+/// Trees with weights of 0: what was refused for them, a run of more nodes than the limit, also
+/// where it takes a second plan, and the most nodes of weight 0 that the scratch serves.
 #[test]
 fn notes() {
     for (table, number, place) in once_refused_tables() {

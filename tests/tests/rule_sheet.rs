@@ -462,8 +462,8 @@ fn assert_other_parent(right: &Rebuilt, n: usize, parent: usize, told: &Result<R
 }
 
 /// What section 11 says of one wrong word: the checks hold with any label and with any K from 1 to
-/// 1,024 that is at least the weight of the heaviest page, can hold with another parent, and fail with
-/// any other word.
+/// 1,024 that is at least the weight of the heaviest page, can hold with another parent, and fail
+/// with any other word.
 #[test]
 fn one_wrong_word() {
     let random = &mut Random::new(2008);

@@ -42,8 +42,8 @@ fn case_e_there_and_back() {
     assert_eq!(result(&["text", "-"], &table), text);
 }
 
-/// A tree with notes of weight 0: its table, the text again, and pictures of plans, one of them with a
-/// page that weighs nothing.
+/// A tree with notes of weight 0: its table, the text again, and pictures of plans, one of them
+/// with a page that weighs nothing.
 #[test]
 fn notes() {
     let text = b"limit 2\n2 1\n  1 2\n  0 3\n  1 4\n";

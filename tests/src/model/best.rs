@@ -91,7 +91,7 @@ fn entries_of_one(weight: u32, children: Vec<Child>, limit: u32, with_gains: boo
         seen,
         children,
     };
-    // A child that stays leads to an entry at a higher start, or at the same start for fewer children.
+    // A child that stays leads to an entry at a higher start or, with no rest, at the same one.
     for start in (weight..=limit).rev() {
         let mut row = vec![Entry {
             count: 0,

@@ -65,8 +65,8 @@ pub fn read_sound(table: &[u8]) -> Result<Tree, Answer> {
     }
 }
 
-/// The limit and the records of a table, or refusals 1 to 4. A weight of 0 is like any other: 5, which
-/// refused it, is given by nothing (request Three).
+/// The limit and the records of a table, or refusals 1 to 4. A weight of 0 is like any other: 5,
+/// which refused it, is given by nothing (request Three).
 fn read_records(table: &[u8]) -> Result<(usize, Vec<Record>), Answer> {
     if table.len() < 4 {
         return Err(Answer::refused(1, 0));

@@ -35,8 +35,8 @@ fn best_of_all_small_trees() {
     for_each_table(1..=5, &[1, 2, 3, 4], &[4, 5, 6, 7], best_is_best);
 }
 
-/// All weights from 0 to 3 with the limits 1 to 3: against all sets of runs. Where a weight is over the
-/// limit there is none, and the tree is refused.
+/// All weights from 0 to 3 with the limits 1 to 3: against all sets of runs. Where a weight is over
+/// the limit there is none, and the tree is refused.
 #[test]
 fn best_of_all_small_trees_with_notes() {
     let (mut refused, mut beyond) = (0, 0);

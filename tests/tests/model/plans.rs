@@ -91,8 +91,8 @@ fn run_sets_are_the_plans() {
     }
 }
 
-/// Also where a page weighs nothing, and where a node outweighs the limit and there is no best. So it
-/// is, too, where the sets are listed for the shape alone and weighed later.
+/// Also where a page weighs nothing, and where a node outweighs the limit and there is no best. So
+/// it is, too, where the sets are listed for the shape alone and weighed later.
 #[test]
 fn best_of_run_sets_is_best_of_plans() {
     let random = &mut Random::new(302);
