@@ -88,8 +88,10 @@ fn all_small_trees(kind: Kind) {
     let random = &mut Random::new(802);
     let mut seen = Seen::default();
     let mut plan_one = |table: &[u8]| seen.add(plan_with_good_buffers(kind, random, table).0);
-    for_each_table(1..=6, &[1, 2, 3, 4], &[1, 2, 3, 4], &mut plan_one);
     for_each_table(1..=6, &[0, 1, 2, 3], &[1, 2, 3], &mut plan_one);
+    for_each_table(1..=6, &[1, 2, 3, 4], &[4], &mut plan_one);
+    // With a weight over every limit below 4 too.
+    for_each_table(1..=5, &[1, 4], &[1, 2, 3], &mut plan_one);
     seen.expect(&[0, 7], 1000);
 }
 
