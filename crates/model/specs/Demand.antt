@@ -135,7 +135,7 @@ pub record FirstUnfiled (t : List ℕ) (v : ℕ) : Type 0 where
 -- writer without 14 gives this very archive for them, with this answer. Where no label is 0, they are an accepted tree
 -- and a feasible plan, and so does the writer; where one is, the writer answers 14 at the first such node, and leaves
 -- its output as lent. 13 means that no table and marks write the archive with the writer without 14. On refusal both
--- buffers are as lent.
+-- buffers are as lent. 5 is never given.
 pub record ReadPromise (e : Edition) (a table marks : List ℕ) (r : Answer) (t m : List ℕ) : Type 0 where
   pub back : (u n : List ℕ) → WrittenFrom (writeUnfiled e) u n a → length table ≡ length u → length marks ≡ length n
       → (r .number ≡ 0) × (t ≡ u) × (m ≡ n)
@@ -152,3 +152,4 @@ pub record ReadPromise (e : Edition) (a table marks : List ℕ) (r : Answer) (t 
       → writeArchive e t m out ≡ record { answer = refused 14 v; archive = out }
   pub none : (r .number ≡ 13) ↔ ((u n : List ℕ) → WrittenFrom (writeUnfiled e) u n a → ⊥)
   pub kept : (r .number ≡ 0 → ⊥) → (t ≡ table) × (m ≡ marks)
+  pub five : r .number ≡ 5 → ⊥

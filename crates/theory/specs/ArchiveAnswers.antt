@@ -25,7 +25,7 @@ use Rattle.model.specs.declared.Answer.{Answer}
 use Rattle.theory.specs.Bools.{never-true, both-true}
 use Rattle.theory.specs.Ranges.{when-true, when-false, when-nowhere, atPlace-at, atPlace-nowhere}
 use Rattle.theory.specs.Checks.{Pass, pass-all, passes-both, both-pass, firstOf-pass, firstOf-stop, firstOf-all}
-use Rattle.theory.specs.Checks.{never-first, accepted-pass, mark-plain, judge-never, write-never, read-never}
+use Rattle.theory.specs.Checks.{never-first, accepted-pass, mark-plain, judge-never, write-never, read-plain}
 use Rattle.theory.specs.Checks.{Never, andThen, then-next, then-stands, then-both}
 use Rattle.theory.specs.Checks.{firstOf-append, checksWith, never-with, with-write}
 use Rattle.theory.specs.JudgeAnswers.{treeAnswer, marksAnswer, with-then}
@@ -339,7 +339,7 @@ module _ (e : Edition) (a t m : List ℕ) where
   unfolding readArchive pick
   reader-done z =
       let all : passes (readChecks e a t m) ≡ true =
-      accepted-pass (readChecks e a t m) verdictIn (read-never e a t m) z in
+      accepted-pass (readChecks e a t m) verdictIn (read-plain e a t m .0) z in
       (pass-archive all, rw (all, firstOf-all (readChecks e a t m) verdictIn all))
 
   -- on refusal the table and the marks are as lent

@@ -3,7 +3,7 @@
 -- for, and nowhere else.
 -- Defines Pass, Never, Plain, andThen, checksWith. Proves pass-all, passes-append, passes-both, both-pass;
 -- firstOf-pass, firstOf-stop, firstOf-all, firstOf-cons, firstOf-append; never-append, never-first, accepted-pass,
--- refused-fails; that no check gives 0 or 5, and that of the weights alone 7 (head-plain to read-never); then-next,
+-- refused-fails; that no check gives 0 or 5, and that of the weights alone 7 (head-plain to read-plain); then-next,
 -- then-stands, then-both, firstOf-then; what lists with 14 and without are, and what 14 adds (passes-without to
 -- node-stops). Assumes nothing.
 use Prim.Native.Nat.{ℕ}
@@ -223,9 +223,9 @@ unfolding writeChecks
 write-never e t m out = never-append 0 (judgeChecks t m) (filmChecks e t m out) (judge-never t m)
     (film-plain e t m out .0)
 
-pub read-never : (e : Edition) (a t m : List ℕ) → Never 0 (readChecks e a t m)
+pub read-plain : (e : Edition) (a t m : List ℕ) → Plain (readChecks e a t m)
 unfolding every readChecks backChecks noArchive badOutput badMarks
-read-never e a t m p = refl
+read-plain e a t m = (λ p. refl, λ p. refl, λ p. refl)
 
 -- ---- Going on from an answer
 

@@ -23,7 +23,7 @@ use Rattle.theory.specs.Checks.{passes-unfiled}
 use Rattle.theory.specs.TableFacts.{filed-nowhere, unfiled-first}
 use Rattle.theory.specs.PlanFeasible.{Judged, feasibleWith, feasible-judged, unfiled-judged, judged-verdict}
 use Rattle.theory.specs.PlanFeasible.{judged-zero, filed-feasible}
-use Rattle.theory.specs.PromiseWeight.{write-weight}
+use Rattle.theory.specs.PromiseWeight.{write-weight, read-five}
 use Rattle.theory.specs.PromisePlanner.{best-lent, best-plan, best-promise}
 use Rattle.theory.specs.ArchiveWords.{Described, length-archive, archive-nodes}
 use Rattle.theory.specs.ArchiveBack.{write-read, WritesBack, read-write, tableIn-bytes}
@@ -185,4 +185,5 @@ module _ {e : Edition} (d : Described e) (a table marks : List ℕ) where
               (never-true (isArchive e a) (λ is. h (tableIn e a) (marksIn e a) (written-again is b))))),
         );
         kept = read-kept e a table marks;
+        five = read-five e a table marks;
       }

@@ -1,7 +1,7 @@
 -- Refusal 7 of every entry is the tree reader's, and exact: demand 3's last sentence, as the entries promise it. 5 is
 -- never given.
 -- Proves weight-promise, seven-tree (checks after the tree's that never give 7 leave it to the tree's), five-tree,
--- read-weight, judge-weight, write-weight. Assumes nothing.
+-- read-weight, judge-weight, write-weight; and of the archive's reader read-five. Assumes nothing.
 use Prim.Native.Nat.{ℕ}
 use native.Mathlib.Omega.{arith}
 use mathlib.Core.Path.{_≡_, refl, sym, _∙_, ap}
@@ -9,9 +9,10 @@ use mathlib.Core.Bool.{Bool, true, false}
 use mathlib.Core.Logic.{_↔_}
 use mathlib.Core.List.{List, _++_, append-assoc}
 use Rattle.model.specs.Plan.{verdictOf}
+use Rattle.model.specs.Archive.{tableIn, marksIn}
 use Rattle.model.specs.Refusals.{Check, treeChecks, markChecks, filmChecks, judgeChecks, writeChecks, passes}
 use Rattle.model.specs.Refusals.{answerOf, accepted, firstOf, readTree, judgePlan, writeChecked}
-use Rattle.model.specs.Refusals.{writeArchive}
+use Rattle.model.specs.Refusals.{writeArchive, readChecks, readArchive}
 use Rattle.model.specs.Demand.{WeightPromise}
 use Rattle.model.specs.declared.Cause.the-variants.{BadMark, HeavyPage}
 use Rattle.model.specs.declared.Verdict.{Verdict}
@@ -19,7 +20,7 @@ use Rattle.model.specs.declared.Verdict.the-variants.{Feasible, Failed}
 use Rattle.model.specs.declared.Answer.{Answer}
 use Rattle.model.specs.declared.Edition.{Edition}
 use Rattle.theory.specs.Checks.{Never, firstOf-pass, firstOf-stop, firstOf-all, never-append, never-first}
-use Rattle.theory.specs.Checks.{plain-append, mark-plain, film-plain, tree-never-five}
+use Rattle.theory.specs.Checks.{plain-append, mark-plain, film-plain, tree-never-five, read-plain}
 use Rattle.theory.specs.RunsHeld.{refused-unheld, seven-refused}
 
 -- an entry that answers 7 just where the tree reader does, and 5 nowhere
@@ -85,3 +86,9 @@ module _ (t m : List ℕ) where
       let plain = plain-append (markChecks t m) (filmChecks e t m out) (mark-plain t m) (film-plain e t m out) in
       rw (append-assoc (treeChecks t) (markChecks t m) (filmChecks e t m out))
       (tree-weight t (markChecks t m ++ filmChecks e t m out) (verdictOf t m) (plain .1) (plain .2))
+
+pub read-five : (e : Edition) (a t m : List ℕ) → readArchive e a t m .answer .number ≡ 5 → ⊥
+unfolding readArchive
+read-five e a t m h =
+    verdict-never (verdictOf (tableIn e a) (marksIn e a)) .1
+    (never-first 5 (readChecks e a t m) _ (read-plain e a t m .2) h .1)
