@@ -247,7 +247,7 @@ abbrev child : ℕ → ℕ → Child
 child rest gain = record { rest = rest; gain = gain }
 
 -- the planners where the middle child weighs nothing, where the root does and where all do; the judge where the first
--- child does or the last; film of such a tree; and the stop, below K, at it and past it, which rests alone do not give
+-- child does or the last; and film of such a tree
 pub weightless : List Bool
 weightless =
     let film : List ℕ = archiveOf firstEdition (treeW 2 2 1 0 1) oneRun in
@@ -268,14 +268,23 @@ weightless =
     ∷ leaves (writeArchive firstEdition (treeW 2 2 1 0 1) oneRun (replicate 54 7)) film
     ∷ keeps (r .answer) (r .table) (treeW 2 2 1 0 1) 0 0
     ∷ keeps (r .answer) (r .marks) oneRun 0 0
-    ∷ not (stopsAt 2 (child 1 0 ∷ child 1 0 ∷ []))
-    ∷ stopsAt 2 (child 2 0 ∷ child 1 0 ∷ [])
-    ∷ not (stopsAt 2 (child 2 1 ∷ child 1 0 ∷ []))
     ∷ []
 
 pub weightless-hold : every computed weightless ≡ true
 unfolding computed weightless plans
 weightless-hold = refl
+
+-- where stretching stops in the limit 2: not on reaching it, but past it, by the rests less the gains
+pub stops : List Bool
+stops =
+    not (stopsAt 2 (child 1 0 ∷ child 1 0 ∷ []))
+    ∷ stopsAt 2 (child 2 0 ∷ child 1 0 ∷ [])
+    ∷ not (stopsAt 2 (child 2 1 ∷ child 1 0 ∷ []))
+    ∷ []
+
+pub stops-hold : every computed stops ≡ true
+unfolding computed stops
+stops-hold = refl
 
 -- ---- Sequences of sibling runs of E: its best plan's in any order, and those that do not hold it, or too heavy
 
