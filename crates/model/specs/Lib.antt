@@ -5,6 +5,7 @@ pub mod Plan
 pub mod Runs
 pub mod Steps
 pub mod Archive
+pub mod Decimal
 pub mod Refusals
 pub mod Demand
 pub mod Cases

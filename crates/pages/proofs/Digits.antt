@@ -9,24 +9,16 @@ use lib.ListN.{length, take}
 use lib.Dec.{ltb}
 use borrow.Author.Tests.{lt-ltb, le-ltb}
 use Rattle.io.specs.Digits.{glyph, digits, Fewest}
-use Rattle.theory.specs.Ranges.{pick-true, pick-false}
-use Rattle.pages.specs.Text.{decimalTo, decimal, item}
-use Rattle.pages.specs.Appended.{Appended, appended-then, decimal-length}
+use Rattle.model.specs.Decimal.{decimalTo, decimal}
+use Rattle.theory.specs.Decimals.{one-digit, more-digits, decimal-length}
+use Rattle.theory.specs.Appended.{Appended, appended-then}
+use Rattle.pages.specs.Text.{item}
 
 digit-is : (d : ℕ) → d < 10 → glyph d ≡ 48 + d
 digit-is d h = ap (λ b. cond b (48 + d) (87 + d)) (lt-ltb d 10 h)
 
 ten : 10 ^ 1 ≡ 10
 ten = pow-suc 10 0 ∙ ap (λ x. x * 10) (pow-zero 10)
-
-module _ (f n : ℕ) where
-  one-digit : n < 10 → decimalTo (suc f) n ≡ (48 + n) ∷ []
-  unfolding decimalTo
-  one-digit h = pick-true (ltb n 10) ((48 + n) ∷ []) (decimalTo f (n / 10) ++ ((48 + n % 10) ∷ [])) (lt-ltb n 10 h)
-
-  more-digits : 10 ≤ n → decimalTo (suc f) n ≡ decimalTo f (n / 10) ++ ((48 + n % 10) ∷ [])
-  unfolding decimalTo
-  more-digits h = pick-false (ltb n 10) ((48 + n) ∷ []) (decimalTo f (n / 10) ++ ((48 + n % 10) ∷ [])) (le-ltb n 10 h)
 
 few-big : (n j : ℕ) → Fewest 10 1 n (suc (suc j)) → 10 ^ suc j ≤ n
 few-big n j few = omega (arith, few .2 (omega arith), ap (λ i. 10 ^ i) (less j))

@@ -8,8 +8,8 @@ use lib.Seq.{length-take-le, take-at}
 use Rattle.io.specs.Counts.{Counts}
 use Rattle.model.specs.Table.{nodeCount}
 use Rattle.model.specs.Refusals.{planBest}
-use Rattle.pages.specs.Text.{scratchLent, answerLines, reportOf}
-use Rattle.pages.specs.Appended.{Filled, reportBytes}
+use Rattle.theory.specs.Appended.{Filled}
+use Rattle.pages.specs.Text.{reportBytes, scratchLent, answerLines, reportOf}
 
 take-zeros : (most n : ℕ) → n ≤ most → take n (replicate {A = ℕ} most 0) ≡ replicate n 0
 take-zeros most n h =

@@ -1,4 +1,3 @@
-pub mod Putting
 pub mod Digits
 pub mod Listed
 pub mod Lent

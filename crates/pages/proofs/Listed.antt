@@ -5,7 +5,8 @@ use mathlib.Core.Path.{_≡_, refl, _∙_, ap}
 use mathlib.Core.List.{List}
 use lib.ListN.{length}
 use Rattle.judge.specs.declared.pages.Layout.{Layout}
-use Rattle.pages.specs.Appended.{Appended, Filled, filled-first, filled-then, lineBytes}
+use Rattle.theory.specs.Appended.{Appended, Filled, filled-first, filled-then}
+use Rattle.pages.specs.Text.{lineBytes}
 use Rattle.pages.specs.Listing.{lineOf, headOf, linesTo, layoutLines, lines-start, lines-more}
 
 -- p pages are listed, up to the position at

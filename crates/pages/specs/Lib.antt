@@ -1,4 +1,3 @@
 -- What the page program writes, and what the contracts of its functions cite.
 pub mod Text
-pub mod Appended
 pub mod Listing

@@ -1,34 +1,25 @@
 -- Document 01, the page program: what it writes for the bytes that it read, as one definition. A list of numbers is a
 -- string of bytes.
-use Prim.Native.Nat.{ℕ, zero, suc, _+_, _/_, _%_}
-use Prim.Native.Char.{code}
-use Prim.Native.String.{String, [] as ε, _∷_ as _∷ˢ_}
-use mathlib.Core.List.{List, [], _∷_, _++_}
+use Prim.Native.Nat.{ℕ, _+_, _*_}
+use mathlib.Core.List.{List, _++_}
 use lib.ListN.{replicate}
-use lib.Dec.{eqb, ltb}
+use lib.Dec.{eqb}
 use Rattle.model.specs.Basics.{pick, listTo}
-use Rattle.model.specs.Table.{nodeCount, limitOf}
+use Rattle.model.specs.Decimal.{decimal, bytes}
+use Rattle.model.specs.Table.{maxNodes, nodeCount, limitOf}
 use Rattle.model.specs.Plan.{pageCount, pageWeight}
 use Rattle.model.specs.Runs.{pageRun}
 use Rattle.model.specs.Refusals.{Planned, planBest}
 
--- ---- Numbers and words
-
--- a number in decimal, of at most f digits, with no zero in front; the digit 0 is byte 48
-unfoldable pub decimalTo : ℕ → ℕ → List ℕ
-decimalTo zero n = []
-decimalTo (suc f) n = pick (ltb n 10) ((48 + n) ∷ []) (decimalTo f (n / 10) ++ ((48 + n % 10) ∷ []))
-
--- ten digits hold every number of 32 bits
-unfoldable pub decimal : ℕ → List ℕ
-decimal n = decimalTo 10 n
-
--- the bytes of a text, a byte a character
-abbrev pub bytes : String → List ℕ
-bytes ε = []
-bytes (c ∷ˢ s) = code c ∷ bytes s
-
 -- ---- Lines; each ends in one newline byte
+
+-- no line is longer
+abbrev pub lineBytes : ℕ
+lineBytes = 80
+
+-- no report is longer: a head line, and a line for each page
+abbrev pub reportBytes : ℕ
+reportBytes = lineBytes * (maxNodes + 1)
 
 -- a word and the number after it
 unfoldable pub item : List ℕ → ℕ → List ℕ

@@ -12,8 +12,8 @@ ghost use lib.ListN.{length, take};
 ghost use Rattle.io.specs.Counts.{Counts};
 ghost use Rattle.model.specs.Table.{maxNodes};
 ghost use Rattle.model.specs.Refusals.{planBest};
-ghost use Rattle.pages.specs.Text.{answerLines, reportOf};
-ghost use Rattle.pages.specs.Appended.{Filled, reportBytes};
+ghost use Rattle.theory.specs.Appended.{Filled};
+ghost use Rattle.pages.specs.Text.{reportBytes, answerLines, reportOf};
 ghost use Rattle.pages.specs.Listing.{layoutLines};
 
 // As many marks as a word can ask for: N may be anything until it is checked.

@@ -1,21 +1,9 @@
 // Text appended to the report at a position. Each function gives back the position after what it put.
+use table::put::put_text;
 ghost use Prim.Native.Nat.{_+_, _≤_};
 ghost use lib.ListN.{length};
-ghost use Rattle.pages.specs.Text.{item, headLine, pageLine, refusalLine};
-ghost use Rattle.pages.specs.Appended.{Appended, lineBytes};
-
-// A string of bytes.
-fn put_text(out: &mut [u8], at: usize, text: &[u8]) -> usize
-    requires { ⌜ at + length (now text) ≤ length (now out) ⌝ }
-    ensures { λ r. ⌜ Appended (now (out .entry)) at (now (text .entry)) (now (out .exit)) r ⌝ }
-{
-    let mut i: usize = 0;
-    while i < text.len() {
-        out[at + i] = text[i];
-        i += 1;
-    }
-    at + text.len()
-}
+ghost use Rattle.theory.specs.Appended.{Appended};
+ghost use Rattle.pages.specs.Text.{item, lineBytes, headLine, pageLine, refusalLine};
 
 // A word and the number after it.
 fn put_item(out: &mut [u8], at: usize, word: &[u8], n: u32) -> usize

@@ -21,6 +21,9 @@ pub mod SiblingsBack
 pub mod LaidByNumber
 pub mod TableEncoded
 pub mod Put
+-- Text: a position in a buffer, numbers in decimal
+pub mod Appended
+pub mod Decimals
 -- Plans: pages by number, arrays with a slot a node, the judge's answer, plans by shape, and that both say the same
 pub mod PlanPass
 pub mod Slots

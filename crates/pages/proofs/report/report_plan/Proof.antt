@@ -2,7 +2,7 @@
 use mathlib.Core.Path.{_∙_, ap}
 use native.Mathlib.Omega.{arith}
 use Rattle.planner.specs.Outcome.{FeasibleLayout}
-use Rattle.pages.specs.Appended.{filled-first}
+use Rattle.theory.specs.Appended.{filled-first}
 use Rattle.pages.specs.Listing.{layoutLines, pages-most, layout-lines, lines-refused, lines-planned}
 use borrow.Author.Needs.{needs}
 use Rattle.pages.proofs.report.report_plan.Statement.{statement}

@@ -1,7 +1,7 @@
 -- `pages::text::head_line` meets its contract. Assumes nothing.
 use native.Mathlib.Omega.{arith}
 use Rattle.pages.specs.Text.{headLine}
-use Rattle.pages.specs.Appended.{appended-then}
+use Rattle.theory.specs.Appended.{appended-then}
 use borrow.Author.Needs.{needs}
 use Rattle.pages.proofs.text.head_line.Statement.{statement}
 use Rattle.pages.proofs.text.head_line.Tie as tie

@@ -1,13 +1,13 @@
--- `pages::text::put_text` meets its contract. Assumes nothing.
+-- `table::put::put_text` meets its contract. Assumes nothing.
 use mathlib.Core.Path.{_≡_, refl, ap, _∙_}
 use Prim.Native.Nat.{_+_, _-_, _≤_}
 use native.Mathlib.Omega.{arith}
 use lib.Seq.{paste, paste-zero}
 use lib.ListN.{length, getD, set, length-set}
-use Rattle.pages.proofs.Putting.{text-turn, text-end}
+use Rattle.theory.specs.Appended.{text-turn, text-end}
 use borrow.Author.Needs.{needs}
-use Rattle.pages.proofs.text.put_text.Statement.{statement}
-use Rattle.pages.proofs.text.put_text.Tie as tie
+use Rattle.table.proofs.put.put_text.Statement.{statement}
+use Rattle.table.proofs.put.put_text.Tie as tie
 
 abbrev Inv-loop : tie.InvT-loop
 Inv-loop out₀ at text i₀ out i = (i ≤ length text) × (length out ≡ length out₀) × (out ≡ paste out₀ at text i)
