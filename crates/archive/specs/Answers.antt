@@ -91,7 +91,7 @@ module _ {e : Edition} (room : InRoom e) (a t m : List ℕ) where
       done = writer-done false e t m start (room .is) (sym number-is ∙ z)
 
       out-is : out ≡ archiveOf e t m
-      out-is = ap (λ (x : Written). x .archive) (w ∙ done .wrote)
+      out-is = ap (λ (x : Written). x .output) (w ∙ done .wrote)
 
       pub copy-differs : sameList out a ≡ false → (feasibleUnfiled t m && sameList (archiveOf e t m) a) ≡ false
       copy-differs n =

@@ -46,13 +46,13 @@ ReadFigures e a table marks f t m = FiguresOf (λ r. ReadPromise e a table marks
 
 pub record WriteLeft : Type 0 where
   pub figures : Figures
-  pub archive : List ℕ
+  pub output : List ℕ
 
 abbrev pub filled : Figures → List ℕ → WriteLeft
-filled f a = record { figures = f; archive = a }
+filled f a = record { figures = f; output = a }
 
 abbrev pub filledBy : Written → WriteLeft
-filledBy w = filled (figuresOf (w .answer)) (w .archive)
+filledBy w = filled (figuresOf (w .answer)) (w .output)
 
 pub record ReadLeft : Type 0 where
   pub figures : Figures

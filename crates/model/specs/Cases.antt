@@ -162,7 +162,7 @@ keeps a left lent n p = answers a n p && sameList left lent
 
 -- the writer accepts and leaves these bytes
 abbrev leaves : Written → List ℕ → Bool
-leaves w a = keeps (w .answer) (w .archive) a 0 0
+leaves w a = keeps (w .answer) (w .output) a 0 0
 
 abbrev bestE : List ℕ
 bestE = 1 ∷ 1 ∷ 2 ∷ 1 ∷ 2 ∷ 2 ∷ []
@@ -222,7 +222,7 @@ unfiled =
     ∷ not (refusedForWeight (unfiledF 5))
     ∷ answers (planBest (unfiledF 3) bestF (replicate 84 7) .answer) 14 2
     ∷ answers (judgePlan (unfiledF 3) bestF) 14 2
-    ∷ keeps (w .answer) (w .archive) lent 14 2
+    ∷ keeps (w .answer) (w .output) lent 14 2
     ∷ leaves (writeUnfiled firstEdition (unfiledF 3) bestF lent) film
     ∷ saysFeasible (r .answer .beside) 2 4
     ∷ keeps (r .answer) (r .table) (unfiledF 3) 0 0

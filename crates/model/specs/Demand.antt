@@ -115,7 +115,7 @@ pub record WrittenFrom (write : List ℕ → List ℕ → List ℕ → Written) 
   pub bytes : Bytes t
   pub out : List ℕ
   pub accepts : write t m out .answer .number ≡ 0
-  pub leaves : write t m out .archive ≡ a
+  pub leaves : write t m out .output ≡ a
 
 -- no label is 0
 abbrev pub Filed : List ℕ → Type 0
@@ -144,12 +144,12 @@ pub record ReadPromise (e : Edition) (a table marks : List ℕ) (r : Answer) (t 
   pub sound : r .number ≡ 0
       → (r ≡ answerOf (Feasible (pageCount t m) (pageWeight t m 1))) × (feasibleUnfiled t m ≡ true)
   pub again : r .number ≡ 0 → (out : List ℕ) → length out ≡ length a
-      → writeUnfiled e t m out ≡ record { answer = r; archive = a }
+      → writeUnfiled e t m out ≡ record { answer = r; output = a }
   pub filed : r .number ≡ 0 → Filed t
       → (feasiblePlan t m ≡ true) × ((out : List ℕ) → length out ≡ length a
-      → writeArchive e t m out ≡ record { answer = r; archive = a })
+      → writeArchive e t m out ≡ record { answer = r; output = a })
   pub unfiled : r .number ≡ 0 → (v : ℕ) → FirstUnfiled t v → (out : List ℕ)
-      → writeArchive e t m out ≡ record { answer = refused 14 v; archive = out }
+      → writeArchive e t m out ≡ record { answer = refused 14 v; output = out }
   pub none : (r .number ≡ 13) ↔ ((u n : List ℕ) → WrittenFrom (writeUnfiled e) u n a → ⊥)
   pub kept : (r .number ≡ 0 → ⊥) → (t ≡ table) × (m ≡ marks)
   pub five : r .number ≡ 5 → ⊥

@@ -234,22 +234,23 @@ planRightmost = planned rightmostMarks
 abbrev pub planDepthFirst : List ℕ → List ℕ → List ℕ → Planned
 planDepthFirst = planned depthFirstMarks
 
--- the archive writer: its answer and the output that it leaves
+-- an entry that writes: its answer and the output that it leaves
 pub record Written : Type 0 where
   pub answer : Answer
-  pub archive : List ℕ
+  pub output : List ℕ
 
--- a writer with the list of checks cs
-unfoldable pub writeChecked : List Check → Edition → List ℕ → List ℕ → List ℕ → Written
-writeChecked cs e t m out =
-    record { answer = firstOf cs (answerOf (verdictOf t m)); archive = pick (passes cs) (archiveOf e t m) out }
+-- with the list of checks cs, for a plan with this verdict, it writes these bytes
+unfoldable pub writeChecked : List Check → Verdict → List ℕ → List ℕ → Written
+writeChecked cs verdict bytes out =
+    record { answer = firstOf cs (answerOf verdict); output = pick (passes cs) bytes out }
 
+-- the archive writer
 unfoldable pub writeArchive : Edition → List ℕ → List ℕ → List ℕ → Written
-writeArchive e t m out = writeChecked (writeChecks e t m out) e t m out
+writeArchive e t m out = writeChecked (writeChecks e t m out) (verdictOf t m) (archiveOf e t m) out
 
 -- the writer without 14, which is no entry: an archive that is read is held against it
 unfoldable pub writeUnfiled : Edition → List ℕ → List ℕ → List ℕ → Written
-writeUnfiled e t m out = writeChecked (without 14 (writeChecks e t m out)) e t m out
+writeUnfiled e t m out = writeChecked (without 14 (writeChecks e t m out)) (verdictOf t m) (archiveOf e t m) out
 
 -- that writer writes this archive from the tree and the plan that it tells, within the edition's most nodes
 unfoldable pub isArchive : Edition → List ℕ → Bool

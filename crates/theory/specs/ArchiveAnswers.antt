@@ -1,206 +1,78 @@
 -- The answers of the archive's writer, with 14 or without, and of its reader, case by case, and what each tells.
 -- writeFrom is the writer that goes on from the answer of whatever judged the tree: the reader judges its tree without
 -- 14, which the writer's entry does not.
--- Defines filmAnswer, writeFrom, writeWith, WriteDone. Proves write-entry, write-done, write-kept, writer-done,
+-- Defines writeFrom, writeWith, WriteDone. Proves film-short, film-long; write-entry, write-done, write-kept, writer-done,
 -- writer-refused; unfiled-stops; read-none, read-table, read-marks, read-done, reader-done, read-thirteen. Assumes
 -- nothing.
 use Prim.Native.Nat.{ℕ, _≤_}
 use native.Mathlib.Omega.{arith}
-use mathlib.Core.Bool.{Bool, true, false, not, _&&_, true≢false}
+use mathlib.Core.Bool.{Bool, true, false, not, _&&_}
 use mathlib.Core.Path.{_≡_, refl, sym, _∙_, ap, ap₂}
 use mathlib.Core.List.{List, [], _∷_, _++_}
 use lib.ListN.{length}
-use lib.Dec.{eqb}
-use borrow.Author.Tests.{eq-eqb, ne-eqb, not-false}
-use Rattle.model.specs.Basics.{pick, when, every, sameList}
+use borrow.Author.Tests.{not-false}
+use Rattle.model.specs.Basics.{pick, every, sameList}
 use Rattle.model.specs.Table.{nodeCount, tableBytes}
 use Rattle.model.specs.Plan.{pageCount, verdictOf}
 use Rattle.model.specs.Archive.{archiveOf, archiveBytes, nodesIn, tableIn, marksIn}
-use Rattle.model.specs.Refusals.{Check, badMarks, badOutput, noArchive, markChecks, judgeChecks, filmChecks, backChecks}
+use Rattle.model.specs.Refusals.{badMarks, badOutput, noArchive, judgeChecks, filmChecks, backChecks}
 use Rattle.model.specs.Refusals.{writeChecks, readChecks, passes, answerOf, refused, firstOf, noLabel, feasibleUnfiled}
 use Rattle.model.specs.Refusals.{Written, writeChecked, writeArchive, isArchive, readArchive}
 use Rattle.model.specs.declared.Edition.{Edition}
-use Rattle.model.specs.declared.Place.the-variants.{At, Nowhere}
+use Rattle.model.specs.declared.Place.the-variants.{At}
 use Rattle.model.specs.declared.Answer.{Answer}
 use Rattle.theory.specs.Bools.{never-true, both-true}
-use Rattle.theory.specs.Ranges.{when-true, when-false, when-nowhere, atPlace-at, atPlace-nowhere}
-use Rattle.theory.specs.Checks.{Pass, pass-all, passes-both, both-pass, firstOf-pass, firstOf-stop, firstOf-all}
-use Rattle.theory.specs.Checks.{never-first, accepted-pass, mark-plain, judge-never, write-never, read-plain}
-use Rattle.theory.specs.Checks.{Never, andThen, then-next, then-stands, then-both}
-use Rattle.theory.specs.Checks.{firstOf-append, checksWith, never-with, with-write}
-use Rattle.theory.specs.JudgeAnswers.{treeAnswer, marksAnswer, with-then}
-use Rattle.theory.specs.TableFacts.{AcceptedFacts}
-use Rattle.theory.specs.PlanFeasible.{Judged, marks-judged, feasibleWith, with-judged, unfiled-judged}
+use Rattle.theory.specs.Ranges.{when-true, when-false, when-nowhere}
+use Rattle.theory.specs.Checks.{Pass, pass-all, firstOf-all, Never, never-first, accepted-pass, read-plain}
+use Rattle.theory.specs.Checks.{firstOf-append}
+use Rattle.theory.specs.JudgeAnswers.{treeAnswer}
+use Rattle.theory.specs.Outputs.{outcome, outcome-stop, outcome-next, outcome-none, unequal, equal, outputFrom}
+use Rattle.theory.specs.Outputs.{short-output, long-output, outputWith, with-entry, with-done, with-wrote, with-kept}
+use Rattle.theory.specs.PlanFeasible.{Judged, feasibleWith, with-judged, unfiled-judged}
 use Rattle.theory.specs.PlanFeasible.{judged-zero, label-stops}
 use Rattle.theory.specs.ArchiveWords.{Described, length-archive}
 use Rattle.theory.specs.ArchiveBack.{sameList-true, read-write}
 
--- ---- A list of checks: the answer, and whether all pass
-
-abbrev outcome : List Check → Answer → Answer × Bool
-outcome cs a = (firstOf cs a, passes cs)
-
-outcome-stop : (c : Check) (cs : List Check) (a : Answer) (p : ℕ) → c .place ≡ At p
-    → outcome (c ∷ cs) a ≡ (c .answer p, false)
-unfolding firstOf passes
-outcome-stop c cs a p e =
-    ap₂ (λ (x : Answer) (y : Bool). (x, y)) (atPlace-at (c .place) p (c .answer) (firstOf cs a) e)
-    (atPlace-at (c .place) p (λ q. false) (passes cs) e)
-
-outcome-next : (c : Check) (cs : List Check) (a : Answer) → c .place ≡ Nowhere → outcome (c ∷ cs) a ≡ outcome cs a
-unfolding firstOf passes
-outcome-next c cs a e =
-    ap₂ (λ (x : Answer) (y : Bool). (x, y)) (atPlace-nowhere (c .place) (c .answer) (firstOf cs a) e)
-    (atPlace-nowhere (c .place) (λ q. false) (passes cs) e)
-
-outcome-none : (a : Answer) → outcome [] a ≡ (a, true)
-unfolding firstOf passes
-outcome-none a = refl
-
--- a number that is to be n, as the checks of a length ask
-unequal : (x n : ℕ) → (x ≡ n → ⊥) → when (not (eqb x n)) n ≡ At n
-unequal x n h = when-true (not (eqb x n)) n (ap not (ne-eqb x n h))
-
-equal : (x n : ℕ) → x ≡ n → when (not (eqb x n)) n ≡ Nowhere
-equal x n h = when-false (not (eqb x n)) n (ap not (eq-eqb x n h))
-
 -- ---- The writer
 
--- the judge, going on from the tree's answer r, accepts: nothing is found in the plan, and the answer is its verdict's
-pub judged-from : (t m : List ℕ) (r j : Answer) → j ≡ andThen r (marksAnswer t m) → (r .number ≡ 0 → AcceptedFacts t)
-    → j .number ≡ 0 → Judged t m × (j ≡ answerOf (verdictOf t m))
-unfolding marksAnswer
-judged-from t m r j is facts z =
-    let both = then-both r (marksAnswer t m) (sym (ap (λ (x : Answer). x .number) is) ∙ z) in
-    let p = accepted-pass (markChecks t m) (answerOf (verdictOf t m)) (mark-plain t m .0) (both .1) in (
-      marks-judged t m (facts (both .0)) p,
-      is ∙ then-next r (marksAnswer t m) (both .0) ∙ firstOf-all (markChecks t m) (answerOf (verdictOf t m)) p,
-    )
-
 module _ (e : Edition) (t m out : List ℕ) where
-  abbrev size : ℕ
-  size = archiveBytes e (pageCount t m) (nodeCount t)
+  -- the writer that goes on from the answer of what judged the tree
+  abbrev pub writeFrom : Answer → Written
+  writeFrom = outputFrom t m (archiveOf e t m) out (filmChecks e t m out)
 
-  abbrev verdict : Answer
-  verdict = answerOf (verdictOf t m)
+  film-never : Never 0 (filmChecks e t m out) × Never 14 (filmChecks e t m out)
+  unfolding every filmChecks badOutput
+  film-never = (λ p. refl, λ p. refl)
 
-  -- the writer's answer where the judge's was acceptance
-  unfoldable pub filmAnswer : Answer
-  filmAnswer = firstOf (filmChecks e t m out) (answerOf (verdictOf t m))
+  -- 12: the output has the wrong length
+  pub film-short : (length out ≡ archiveBytes e (pageCount t m) (nodeCount t) → ⊥)
+      → refused 12 (archiveBytes e (pageCount t m) (nodeCount t))
+      ≡ firstOf (filmChecks e t m out) (answerOf (verdictOf t m))
+  unfolding filmChecks
+  film-short other = short-output _ out (answerOf (verdictOf t m)) other
 
-  film-short : (length out ≡ size → ⊥) → outcome (filmChecks e t m out) verdict ≡ (refused 12 size, false)
-  unfolding filmChecks badOutput
-  film-short other = outcome-stop (badOutput size out) [] verdict size (unequal (length out) size other)
-
-  film-long : length out ≡ size → outcome (filmChecks e t m out) verdict ≡ (verdict, true)
-  unfolding filmChecks badOutput
-  film-long fits = outcome-next (badOutput size out) [] verdict (equal (length out) size fits) ∙ outcome-none verdict
-
-  -- the writer that goes on from the answer r of what judged the tree
-  unfoldable pub writeFrom : Answer → Written
-  writeFrom r =
-      let given : Answer = andThen (andThen r (marksAnswer t m)) filmAnswer in
-      record { answer = given; archive = pick (eqb (given .number) 0) (archiveOf e t m) out }
-
-  -- as a program gives its answer, and leaves the output or the archive
-  module _ (r j : Answer) (is : j ≡ andThen r (marksAnswer t m)) where
-    from-by : (b : Bool) {s : Answer} → s ≡ andThen j filmAnswer → eqb (s .number) 0 ≡ b
-        → record { answer = s; archive = pick b (archiveOf e t m) out } ≡ writeFrom r
-    unfolding writeFrom
-    from-by b h k = rw (← is, ← h, k)
-
-    -- a refusal of the tree or of the marks
-    pub from-refused : (j .number ≡ 0 → ⊥) → record { answer = j; archive = out } ≡ writeFrom r
-    unfolding pick
-    from-refused other = from-by false (sym (then-stands j filmAnswer other)) (ne-eqb (j .number) 0 other)
-
-    -- 12: the output has the wrong length
-    pub from-short : j .number ≡ 0 → (length out ≡ archiveBytes e (pageCount t m) (nodeCount t) → ⊥)
-        → record { answer = refused 12 (archiveBytes e (pageCount t m) (nodeCount t)); archive = out } ≡ writeFrom r
-    unfolding pick filmAnswer
-    from-short z other =
-        from-by false (sym (then-next j filmAnswer z ∙ ap (λ (x : Answer × Bool). x .0) (film-short other))) refl
-
-    pub from-done : (r .number ≡ 0 → AcceptedFacts t) → j .number ≡ 0
-        → length out ≡ archiveBytes e (pageCount t m) (nodeCount t)
-        → record { answer = j; archive = archiveOf e t m } ≡ writeFrom r
-    unfolding pick filmAnswer
-    from-done facts z fits =
-        from-by true
-        (judged-from t m r j is facts z .1
-        ∙ sym (then-next j filmAnswer z ∙ ap (λ (x : Answer × Bool). x .0) (film-long fits)))
-        (eq-eqb (j .number) 0 z)
+  pub film-long : length out ≡ archiveBytes e (pageCount t m) (nodeCount t) → passes (filmChecks e t m out) ≡ true
+  unfolding filmChecks
+  film-long fits = long-output _ out fits
 
 -- ---- The writer with 14, or without
 
 module _ (filed : Bool) (e : Edition) (t m out : List ℕ) where
   abbrev pub writeWith : Written
-  writeWith = writeChecked (checksWith filed (writeChecks e t m out)) e t m out
-
-  abbrev checks : List Check
-  checks = checksWith filed (writeChecks e t m out)
-
-  abbrev judging : List Check
-  judging = checksWith filed (judgeChecks t m)
-
-  abbrev given : Answer
-  given = answerOf (verdictOf t m)
-
-  checks-never : Never 0 checks
-  checks-never = never-with 0 filed (writeChecks e t m out) (write-never e t m out)
-
-  write-feasible : passes checks ≡ true → feasibleWith filed t m ≡ true
-  write-feasible p = passes-both judging (filmChecks e t m out) (sym (ap passes (with-write filed e t m out)) ∙ p) .0
-
-  -- it accepts just where its checks pass
-  write-zero : passes checks ≡ true → firstOf checks given .number ≡ 0
-  write-zero p =
-      ap (λ (x : Answer). x .number) (firstOf-all checks given p)
-      ∙ judged-zero (with-judged filed t m (write-feasible p))
-
-  zero-passes : (b : Bool) → passes checks ≡ b → eqb (firstOf checks given .number) 0 ≡ b
-  zero-passes true p = eq-eqb _ 0 (write-zero p)
-  zero-passes false p = ne-eqb _ 0 (λ z. true≢false (sym (accepted-pass checks given checks-never z) ∙ p))
-
-  answer-then : (b : Bool) → passes judging ≡ b
-      → firstOf checks given ≡ andThen (firstOf judging given) (filmAnswer e t m out)
-  unfolding filmAnswer
-  answer-then true p =
-      ap (λ (cs : List Check). firstOf cs given) (with-write filed e t m out)
-      ∙ firstOf-pass judging (filmChecks e t m out) given p
-      ∙ sym
-      (then-next _ _
-      (ap (λ (x : Answer). x .number) (firstOf-all judging given p) ∙ judged-zero (with-judged filed t m p)))
-  answer-then false p =
-      ap (λ (cs : List Check). firstOf cs given) (with-write filed e t m out)
-      ∙ firstOf-stop judging (filmChecks e t m out) given given p
-      ∙ sym
-      (then-stands _ _
-      (λ z.
-      true≢false
-      (sym (accepted-pass judging given (never-with 0 filed (judgeChecks t m) (judge-never t m)) z) ∙ p)))
-
-  write-then : writeFrom e t m out (treeAnswer filed t) ≡ writeWith
-  unfolding writeFrom writeChecked
-  write-then = rw (← with-then filed t m, ← answer-then (passes judging) refl, zero-passes (passes checks) refl)
+  writeWith = outputWith filed t m (archiveOf e t m) out (filmChecks e t m out)
 
   -- it goes on from the tree reader's answer
   pub write-entry : {w : Written} (r : Answer) → w ≡ writeFrom e t m out r → r ≡ treeAnswer filed t → w ≡ writeWith
-  write-entry r h is = h ∙ ap (writeFrom e t m out) is ∙ write-then
+  write-entry r h is = with-entry filed t m _ out _ (film-never e t m out) r h is
 
   pub write-done : feasibleWith filed t m ≡ true → length out ≡ archiveBytes e (pageCount t m) (nodeCount t)
-      → writeWith ≡ record { answer = answerOf (verdictOf t m); archive = archiveOf e t m }
-  unfolding writeChecked pick
+      → writeWith ≡ record { answer = answerOf (verdictOf t m); output = archiveOf e t m }
   write-done f fits =
-      let all : passes checks ≡ true =
-      ap passes (with-write filed e t m out)
-      ∙ both-pass judging (filmChecks e t m out) f (ap (λ (x : Answer × Bool). x .1) (film-long e t m out fits)) in
-      rw (all, firstOf-all checks given all)
+      with-done filed t m _ out _ (film-never e t m out) f (film-long e t m out fits)
 
   -- on refusal the output is as lent
-  pub write-kept : (writeWith .answer .number ≡ 0 → ⊥) → writeWith .archive ≡ out
-  unfolding writeChecked pick
-  write-kept h = rw (never-true (passes checks) (λ p. h (write-zero p)))
+  pub write-kept : (writeWith .answer .number ≡ 0 → ⊥) → writeWith .output ≡ out
+  write-kept h = with-kept filed t m _ out _ (film-never e t m out) h
 
   -- ---- What the writer's answer tells: it wrote an archive, or none of that length is written
 
@@ -208,21 +80,14 @@ module _ (filed : Bool) (e : Edition) (t m out : List ℕ) where
     pub feasible : feasibleWith filed t m ≡ true
     pub judged : Judged t m
     pub few : nodeCount t ≤ e .most
-    pub wrote : writeWith ≡ record { answer = answerOf (verdictOf t m); archive = archiveOf e t m }
+    pub wrote : writeWith ≡ record { answer = answerOf (verdictOf t m); output = archiveOf e t m }
 
   module _ (d : Described e) where
     pub writer-done : writeWith .answer .number ≡ 0 → WriteDone
-    unfolding writeChecked pick
     writer-done z =
-        let all : passes checks ≡ true = accepted-pass checks given checks-never z in
-        let f = write-feasible all in
-        let j = with-judged filed t m f in
-        record {
-          feasible = f;
-          judged = j;
-          few = d .most t (j .tree);
-          wrote = rw (all, firstOf-all checks given all);
-        }
+        let done = with-wrote filed t m _ out _ (film-never e t m out) z in
+        let j = with-judged filed t m (done .0) in
+        record { feasible = done .0; judged = j; few = d .most t (j .tree); wrote = done .1 }
 
     pub writer-refused : (writeWith .answer .number ≡ 0 → ⊥) → (a : List ℕ) → length out ≡ length a
         → (feasibleWith filed t m && sameList (archiveOf e t m) a) ≡ false
@@ -238,10 +103,10 @@ module _ (filed : Bool) (e : Edition) (t m out : List ℕ) where
 
 -- the writer, handed a tree and a plan in which nothing but a label is refused
 pub unfiled-stops : (e : Edition) (t m out : List ℕ) → feasibleUnfiled t m ≡ true → (v : ℕ) → noLabel t .place ≡ At v
-    → writeArchive e t m out ≡ record { answer = refused 14 v; archive = out }
+    → writeArchive e t m out ≡ record { answer = refused 14 v; output = out }
 unfolding writeArchive writeChecked writeChecks pick
 unfiled-stops e t m out f v found =
-    ap₂ (λ (r : Answer) (a : List ℕ). record { answer = r; archive = a }) answer
+    ap₂ (λ (r : Answer) (a : List ℕ). record { answer = r; output = a }) answer
     (write-kept true e t m out (λ z. omega (arith, ap (λ (r : Answer). r .number) answer)))
   where
     answer : firstOf (judgeChecks t m ++ filmChecks e t m out) (answerOf (verdictOf t m)) ≡ refused 14 v

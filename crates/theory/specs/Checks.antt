@@ -18,7 +18,7 @@ use Rattle.model.specs.Refusals.{Check, accepted, refused, firstOf, passes, wit
 use Rattle.model.specs.Refusals.{shortTable, badCount, badLimit, badLength, badWalk, heavyNode, badMarks}
 use Rattle.model.specs.Refusals.{shortScratch, markRefused, pageRefused, badOutput, noArchive, noLabel}
 use Rattle.model.specs.Refusals.{headChecks, nodeChecks, weightChecks, lentChecks, markChecks, filmChecks, backChecks}
-use Rattle.model.specs.Refusals.{formChecks, treeChecks, planChecks, judgeChecks, writeChecks, readChecks}
+use Rattle.model.specs.Refusals.{formChecks, treeChecks, planChecks, judgeChecks, readChecks}
 use Rattle.model.specs.declared.Place.{Place}
 use Rattle.model.specs.declared.Place.the-variants.{At, Nowhere}
 use Rattle.model.specs.declared.Answer.{Answer}
@@ -218,11 +218,6 @@ pub judge-never : (t m : List ℕ) → Never 0 (judgeChecks t m)
 unfolding judgeChecks
 judge-never t m = never-append 0 (treeChecks t) (markChecks t m) (tree-never t) (mark-plain t m .0)
 
-pub write-never : (e : Edition) (t m out : List ℕ) → Never 0 (writeChecks e t m out)
-unfolding writeChecks
-write-never e t m out = never-append 0 (judgeChecks t m) (filmChecks e t m out) (judge-never t m)
-    (film-plain e t m out .0)
-
 pub read-plain : (e : Edition) (a t m : List ℕ) → Plain (readChecks e a t m)
 unfolding every readChecks backChecks noArchive badOutput badMarks
 read-plain e a t m = (λ p. refl, λ p. refl, λ p. refl)
@@ -329,7 +324,8 @@ unfolding pick
 never-with n true cs h = h
 never-with n false cs h = never-without n 14 cs h
 
-with-after : (filed : Bool) (cs ds : List Check) → Never 14 ds
+-- checks after those of the tree, of which none gives 14
+pub with-after : (filed : Bool) (cs ds : List Check) → Never 14 ds
     → checksWith filed (cs ++ ds) ≡ checksWith filed cs ++ ds
 unfolding pick
 with-after true cs ds h = refl
@@ -353,11 +349,6 @@ pub with-judge : (filed : Bool) (t m : List ℕ)
     → checksWith filed (judgeChecks t m) ≡ checksWith filed (treeChecks t) ++ markChecks t m
 unfolding judgeChecks markChecks badMarks markRefused pageRefused every
 with-judge filed t m = with-after filed (treeChecks t) (markChecks t m) (λ p. refl)
-
-pub with-write : (filed : Bool) (e : Edition) (t m out : List ℕ)
-    → checksWith filed (writeChecks e t m out) ≡ checksWith filed (judgeChecks t m) ++ filmChecks e t m out
-unfolding writeChecks filmChecks badOutput every
-with-write filed e t m out = with-after filed (judgeChecks t m) (filmChecks e t m out) (λ p. refl)
 
 -- nodes that pass all but 14: with no label 0 they pass, and with one the answer is 14
 module _ (t : List ℕ) (e : passes (without 14 (nodeChecks t)) ≡ true) where

@@ -43,6 +43,8 @@ pub mod RunsByMarks
 pub mod RunsOfPlan
 pub mod RunsToPlan
 pub mod RunsHeld
+-- The answers of an entry that writes an output
+pub mod Outputs
 -- The archive: its words, writing and reading back, the answers of its entries
 pub mod ArchiveWords
 pub mod ArchiveBack

@@ -11,7 +11,7 @@ use Rattle.model.specs.Table.{Bytes, nodeCount, tableBytes}
 use Rattle.model.specs.Plan.{pageCount, verdictOf}
 use Rattle.model.specs.Archive.{archiveOf, archiveBytes, nodesIn, tableIn, marksIn}
 use Rattle.model.specs.Refusals.{judgeChecks, feasiblePlan, feasibleUnfiled, answerOf, planBest, Written}
-use Rattle.model.specs.Refusals.{writeArchive, writeUnfiled, isArchive, Restored, readArchive}
+use Rattle.model.specs.Refusals.{writeChecks, writeArchive, writeUnfiled, isArchive, Restored, readArchive}
 use Rattle.model.specs.Demand.{PlanLent, LowestOnFilm, WritePromise, WrittenFrom, Filed, ReadPromise}
 use Rattle.model.specs.declared.Verdict.the-variants.{Feasible, Failed}
 use Rattle.model.specs.declared.Beside.{Beside}
@@ -52,7 +52,7 @@ module _ {e : Edition} (d : Described e) (t m out : List ℕ) where
     best-accepted : (P W : ℕ) → planBest t lent scratch .answer ≡ answerOf (Feasible P W)
         → planBest t lent scratch .marks ≡ m → length out ≡ archiveBytes e P (nodeCount t)
         → writeArchive e t m out .answer .number ≡ 0
-    unfolding writeArchive feasiblePlan pick
+    unfolding writeArchive writeChecks feasiblePlan pick
     best-accepted P W a is long =
         let f : feasiblePlan t m ≡ true = rw is at (plan-feasible (best-plan t lent scratch) lent-right) in
         let count : P ≡ pageCount t m =
@@ -62,8 +62,8 @@ module _ {e : Edition} (d : Described e) (t m out : List ℕ) where
         (write-done true e t m out f (long ∙ ap (λ n. archiveBytes e n (nodeCount t)) count))
         ∙ judged-zero (feasible-judged t m f)
 
-  pub write-promise : WritePromise e t m out (writeArchive e t m out .answer) (writeArchive e t m out .archive)
-  unfolding writeArchive pick
+  pub write-promise : WritePromise e t m out (writeArchive e t m out .answer) (writeArchive e t m out .output)
+  unfolding writeArchive writeChecks pick
   write-promise =
       record {
         accepts =
@@ -86,7 +86,7 @@ module _ {e : Edition} (d : Described e) (a table marks : List ℕ) where
     done = writer-done filed e u n (w .out) d (w .accepts)
 
     same : archiveOf e u n ≡ a
-    same = sym (ap (λ (x : Written). x .archive) (done .wrote)) ∙ w .leaves
+    same = sym (ap (λ (x : Written). x .output) (done .wrote)) ∙ w .leaves
 
     back : (tableIn e a ≡ u) × (marksIn e a ≡ n) × (isArchive e a ≡ true)
     unfolding feasibleUnfiled
@@ -115,13 +115,13 @@ module _ {e : Edition} (d : Described e) (a table marks : List ℕ) where
   writes-again : (filed : Bool) → isArchive e a ≡ true → feasibleWith filed (tableIn e a) (marksIn e a) ≡ true
       → (out : List ℕ) → length out ≡ length a
       → writeWith filed e (tableIn e a) (marksIn e a) out
-      ≡ record { answer = answerOf (verdictOf (tableIn e a) (marksIn e a)); archive = a }
+      ≡ record { answer = answerOf (verdictOf (tableIn e a) (marksIn e a)); output = a }
   writes-again filed is f out long =
       let t : List ℕ = tableIn e a in
       let m : List ℕ = marksIn e a in
       let w : WritesBack e a = read-write e a is in
       write-done filed e t m out f (long ∙ ap length (sym (w .same)) ∙ length-archive d t m)
-      ∙ ap (λ y. record { answer = answerOf (verdictOf t m); archive = y }) (w .same)
+      ∙ ap (λ y. record { answer = answerOf (verdictOf t m); output = y }) (w .same)
 
   -- what is told
   module _ (is : isArchive e a ≡ true) where
@@ -133,15 +133,15 @@ module _ {e : Edition} (d : Described e) (a table marks : List ℕ) where
 
     again-unfiled : (out : List ℕ) → length out ≡ length a
         → writeUnfiled e (tableIn e a) (marksIn e a) out
-        ≡ record { answer = answerOf (verdictOf (tableIn e a) (marksIn e a)); archive = a }
-    unfolding writeUnfiled feasibleUnfiled pick
+        ≡ record { answer = answerOf (verdictOf (tableIn e a) (marksIn e a)); output = a }
+    unfolding writeUnfiled writeChecks feasibleUnfiled pick
     again-unfiled = writes-again false is told
 
     again-filed : Filed (tableIn e a)
         → (feasiblePlan (tableIn e a) (marksIn e a) ≡ true) × ((out : List ℕ) → length out ≡ length a
         → writeArchive e (tableIn e a) (marksIn e a) out
-        ≡ record { answer = answerOf (verdictOf (tableIn e a) (marksIn e a)); archive = a })
-    unfolding writeArchive feasiblePlan pick
+        ≡ record { answer = answerOf (verdictOf (tableIn e a) (marksIn e a)); output = a })
+    unfolding writeArchive writeChecks feasiblePlan pick
     again-filed labels =
         let f = filed-feasible (tableIn e a) (marksIn e a) told (filed-nowhere (tableIn e a) labels) in
         (f, writes-again true is f)
@@ -153,7 +153,7 @@ module _ {e : Edition} (d : Described e) (a table marks : List ℕ) where
           bytes = tableIn-bytes e a b;
           out = a;
           accepts = ap (λ (x : Written). x .answer .number) again ∙ judged-zero told-judged;
-          leaves = ap (λ (x : Written). x .archive) again;
+          leaves = ap (λ (x : Written). x .output) again;
         }
 
   is-archive : read .answer .number ≡ 0 → isArchive e a ≡ true
@@ -162,7 +162,7 @@ module _ {e : Edition} (d : Described e) (a table marks : List ℕ) where
   pub read-promise : Bytes a
       → ReadPromise e a table marks (readArchive e a table marks .answer) (readArchive e a table marks .table)
       (readArchive e a table marks .marks)
-  unfolding writeArchive writeUnfiled pick
+  unfolding writeArchive writeUnfiled writeChecks pick
   read-promise b =
       record {
         back = read-back false;

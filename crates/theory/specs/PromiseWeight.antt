@@ -10,7 +10,8 @@ use mathlib.Core.Logic.{_↔_}
 use mathlib.Core.List.{List, _++_, append-assoc}
 use Rattle.model.specs.Plan.{verdictOf}
 use Rattle.model.specs.Archive.{tableIn, marksIn}
-use Rattle.model.specs.Refusals.{Check, treeChecks, markChecks, filmChecks, judgeChecks, writeChecks, passes}
+use Rattle.model.specs.Refusals.{Check, treeChecks, markChecks, filmChecks, judgeChecks, writeChecks}
+use Rattle.model.specs.Refusals.{passes}
 use Rattle.model.specs.Refusals.{answerOf, accepted, firstOf, readTree, judgePlan, writeChecked}
 use Rattle.model.specs.Refusals.{writeArchive, readChecks, readArchive}
 use Rattle.model.specs.Demand.{WeightPromise}
@@ -19,7 +20,7 @@ use Rattle.model.specs.declared.Verdict.{Verdict}
 use Rattle.model.specs.declared.Verdict.the-variants.{Feasible, Failed}
 use Rattle.model.specs.declared.Answer.{Answer}
 use Rattle.model.specs.declared.Edition.{Edition}
-use Rattle.theory.specs.Checks.{Never, firstOf-pass, firstOf-stop, firstOf-all, never-append, never-first}
+use Rattle.theory.specs.Checks.{Never, Plain, firstOf-pass, firstOf-stop, firstOf-all, never-append, never-first}
 use Rattle.theory.specs.Checks.{plain-append, mark-plain, film-plain, tree-never-five, read-plain}
 use Rattle.theory.specs.RunsHeld.{refused-unheld, seven-refused}
 
@@ -80,12 +81,17 @@ module _ (t m : List ℕ) where
   unfolding judgePlan judgeChecks
   judge-weight = tree-weight t (markChecks t m) (verdictOf t m) (mark-plain t m .1) (mark-plain t m .2)
 
+  -- an entry that checks more after the judge
+  judge-more : (cs : List Check) → Plain cs → WeightPromise t (firstOf (judgeChecks t m ++ cs) (answerOf (verdictOf t m)))
+  unfolding judgeChecks
+  judge-more cs more =
+      let plain = plain-append (markChecks t m) cs (mark-plain t m) more in
+      rw (append-assoc (treeChecks t) (markChecks t m) cs)
+      (tree-weight t (markChecks t m ++ cs) (verdictOf t m) (plain .1) (plain .2))
+
   pub write-weight : (e : Edition) (out : List ℕ) → WeightPromise t (writeArchive e t m out .answer)
-  unfolding writeArchive writeChecked writeChecks judgeChecks
-  write-weight e out =
-      let plain = plain-append (markChecks t m) (filmChecks e t m out) (mark-plain t m) (film-plain e t m out) in
-      rw (append-assoc (treeChecks t) (markChecks t m) (filmChecks e t m out))
-      (tree-weight t (markChecks t m ++ filmChecks e t m out) (verdictOf t m) (plain .1) (plain .2))
+  unfolding writeArchive writeChecked writeChecks
+  write-weight e out = judge-more (filmChecks e t m out) (film-plain e t m out)
 
 pub read-five : (e : Edition) (a t m : List ℕ) → readArchive e a t m .answer .number ≡ 5 → ⊥
 unfolding readArchive

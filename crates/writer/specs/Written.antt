@@ -11,12 +11,12 @@ use Rattle.theory.specs.ArchiveWords.{Described}
 use Rattle.theory.specs.PromiseArchive.{write-promise}
 
 abbrev pub written : Answer → List ℕ → Written
-written r o = record { answer = r; archive = o }
+written r o = record { answer = r; output = o }
 
 -- an answer and what is left, with the promise that they carry
 pub write-both : {e : Edition} → Described e → {t m out o : List ℕ} {r : Answer} → written r o ≡ writeArchive e t m out
     → (written r o ≡ writeArchive e t m out) × WritePromise e t m out r o
 write-both d {t} {m} {out} w = (
   w,
-  rw (ap (λ (x : Written). x .answer) w, ap (λ (x : Written). x .archive) w) (write-promise d t m out),
+  rw (ap (λ (x : Written). x .answer) w, ap (λ (x : Written). x .output) w) (write-promise d t m out),
 )

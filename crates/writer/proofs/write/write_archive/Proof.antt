@@ -3,7 +3,7 @@ use mathlib.Core.Bool.{true}
 use mathlib.Core.Path.{sym, ap, subst, _∙_}
 use Rattle.model.specs.Basics.{pick}
 use Rattle.model.specs.Archive.{firstEdition}
-use Rattle.model.specs.Refusals.{writeArchive}
+use Rattle.model.specs.Refusals.{writeChecks, writeArchive}
 use Rattle.model.specs.declared.Answer.{Answer}
 use Rattle.model.specs.declared.Edition.{Edition}
 use Rattle.theory.specs.JudgeAnswers.{with-facts}
@@ -23,7 +23,7 @@ write-edition-requires c κs =
     )
 
 returns : tie.Need-returns
-unfolding writeArchive pick
+unfolding writeArchive writeChecks pick
 returns c =
     let f = c .before .before .before in
     let a = f .before .before .before .before .before .before .args in

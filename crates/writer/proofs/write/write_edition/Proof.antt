@@ -10,7 +10,8 @@ use Rattle.model.specs.Refusals.{refused}
 use Rattle.model.specs.declared.Answer.{Answer}
 use Rattle.model.specs.declared.Edition.{Edition}
 use Rattle.theory.specs.PlanFeasible.{Judged}
-use Rattle.theory.specs.ArchiveAnswers.{from-refused, from-short, judged-from, from-done}
+use Rattle.theory.specs.Outputs.{judged-from, output-refused, output-stopped, output-done}
+use Rattle.theory.specs.ArchiveAnswers.{film-short, film-long}
 use Rattle.judge.specs.Rows.{IsLayout}
 use Rattle.writer.specs.Written.{written}
 use borrow.Author.Needs.{needs}
@@ -45,7 +46,7 @@ module _ (b : tie.After-archive-bytes) where
 returns : tie.Need-returns
 returns c =
     let a = c .before .before .before .before .before .before .before .args in
-    from-refused (a .e) (a .table .now) (a .marks .now) (a .out .now) (a .tree) _
+    output-refused (a .table .now) (a .marks .now) _ (a .out .now) _ (a .tree) _
     (c .before .before .before .judge-pages .ensures .0) (c .if1 .taken)
 
 returns-2 : tie.Need-returns-2
@@ -53,9 +54,12 @@ returns-2 c =
     let b = c .before .before in
     let a = b .before .before .before .before .before .before .before .before .before .before .args in
     ap (λ (x : Answer). written x (a .out .now)) (c .refuse .ensures ∙ ap (refused 12) (size-is b))
-    ∙ from-short (edition b) (table b) (marks b) (a .out .now) (a .tree) _
+    ∙ output-stopped (table b) (marks b) _ (a .out .now) _ (a .tree) _
     (b .before .before .before .before .before .before .judge-pages .ensures .0)
-    (b .before .before .before .if1 .left) (λ fits. omega (arith, c .before .if2 .taken, size-is b))
+    (b .before .before .before .if1 .left)
+    (film-short (edition b) (table b) (marks b) (a .out .now)
+    (λ fits. omega (arith, c .before .if2 .taken, size-is b)))
+    (λ z. omega arith)
 
 fill-archive-requires : tie.Need-fill-archive-requires
 fill-archive-requires c κs =
@@ -73,9 +77,10 @@ returns-3 c =
     let start = b .before .before .before .before .before .before .before .before .before .before in
     let a = start .args in
     ap (written _) (c .before .before .fill-archive .ensures)
-    ∙ from-done (edition b) (table b) (marks b) (a .out .now) (a .tree) _
+    ∙ output-done (table b) (marks b) _ (a .out .now) _ (a .tree) _
     (b .before .before .before .before .before .before .judge-pages .ensures .0) (start .pre .1)
-    (b .before .before .before .if1 .left) (c .before .before .before .before .if2 .left ∙ size-is b)
+    (b .before .before .before .if1 .left)
+    (film-long (edition b) (table b) (marks b) (a .out .now) (c .before .before .before .before .if2 .left ∙ size-is b))
 
 pub write-edition-spec : {M : Type 1} → statement M
 write-edition-spec =
