@@ -1,11 +1,11 @@
 -- Document 01, 'Trees on both sides' and the examples of 'What is refused', computed from the definitions: one result
--- for the starred cases and one for the refusals; one for the quick planners, one for trees with unfiled lots and one
--- for trees with notes that weigh nothing.
+-- for the starred cases and one for the refusals; one for the quick planners, one for trees with unfiled lots, one for
+-- trees with notes that weigh nothing and two for leader sheets.
 -- Assumes nothing.
 use mathlib.Core.Path.{_≡_, refl}
-use Prim.Native.Nat.{ℕ}
+use Prim.Native.Nat.{ℕ, _-_}
 use mathlib.Core.Bool.{Bool, true, not, _&&_}
-use mathlib.Core.List.{List, [], _∷_}
+use mathlib.Core.List.{List, [], _∷_, _++_}
 use lib.ListN.{replicate}
 use lib.Dec.{eqb}
 use Rattle.model.specs.Basics as Basics
@@ -14,15 +14,19 @@ use Rattle.model.specs.Plan as Plan
 use Rattle.model.specs.Runs as Runs
 use Rattle.model.specs.Steps as Steps
 use Rattle.model.specs.Archive as Archive
+use Rattle.model.specs.Decimal as Decimal
+use Rattle.model.specs.Sheets as Sheets
 use Rattle.model.specs.Refusals as Refusals
-use Rattle.model.specs.Basics.{every, sameList}
+use Rattle.model.specs.Basics.{listTo, every, sameList}
 use Rattle.model.specs.Table.{bytesOf, nodeCount, limitOf}
 use Rattle.model.specs.Runs.{Run, holds, withinLimit, runsOf, runCount, rootWeight}
 use Rattle.model.specs.Steps.{Child, stopsAt}
 use Rattle.model.specs.Archive.{firstEdition, archiveOf}
+use Rattle.model.specs.Decimal.{bytes}
+use Rattle.model.specs.Sheets.{sheetPages, sheetCount, lineWith, perCent, lineAt, numberIn}
 use Rattle.model.specs.Refusals.{refusedForWeight, readTree, judgePlan, planBest, planLevel, planSingle}
 use Rattle.model.specs.Refusals.{planPair, writeArchive, writeUnfiled, Written, readArchive, scratchWords}
-use Rattle.model.specs.Refusals.{Planned, planRightmost, planDepthFirst}
+use Rattle.model.specs.Refusals.{Planned, planRightmost, planDepthFirst, printSheets}
 use Rattle.model.specs.declared.Beside.{Beside}
 use Rattle.model.specs.declared.Beside.the-variants.{Given, Nothing}
 use Rattle.model.specs.declared.Verdict.the-variants.{Feasible, Failed}
@@ -78,15 +82,19 @@ unfolding Basics.pick Basics.when Basics.atPlace Basics.sumTo Basics.countTo Bas
     Archive.headWords Archive.nextPage Archive.pageRecord Archive.nextOnPage Archive.nodeRecord Archive.archiveOf
     Archive.nodesIn Archive.limitIn Archive.pagesIn Archive.pageFieldIn Archive.nodeFieldIn Archive.parentIn
     Archive.firstIn Archive.nextIn Archive.tableIn Archive.beginsIn Archive.continuesIn Archive.markIn Archive.marksIn
+    Decimal.decimalTo Sheets.field Sheets.lineWith Sheets.firstLine Sheets.lastLine Sheets.lineForPage Sheets.lineAt
+    Sheets.sheetAt Sheets.sheetsBy Sheets.sheetsOf Sheets.valueFrom Sheets.numberIn
     Refusals.shortTable Refusals.badCount Refusals.badLimit Refusals.badLength Refusals.badWalk
     Refusals.heavyNode Refusals.badMarks Refusals.shortScratch Refusals.markRefused Refusals.pageRefused
     Refusals.badOutput Refusals.noArchive Refusals.noLabel Refusals.headChecks Refusals.nodeChecks
-    Refusals.weightChecks Refusals.lentChecks Refusals.markChecks Refusals.filmChecks Refusals.backChecks
+    Refusals.weightChecks Refusals.lentChecks Refusals.markChecks Refusals.filmChecks Refusals.sheetChecks
+    Refusals.backChecks
     Refusals.formChecks Refusals.treeChecks Refusals.planChecks Refusals.judgeChecks Refusals.writeChecks
+    Refusals.printChecks
     Refusals.passes Refusals.without Refusals.soundForm Refusals.acceptedTree Refusals.refusedForWeight
     Refusals.feasiblePlan Refusals.feasibleUnfiled Refusals.firstOf Refusals.readTree Refusals.judgePlan
     Refusals.planned Refusals.writeChecked Refusals.writeArchive Refusals.writeUnfiled Refusals.isArchive
-    Refusals.readChecks Refusals.readArchive
+    Refusals.readChecks Refusals.readArchive Refusals.printSheets
 computed b = b
 
 abbrev saysFeasible : Beside → ℕ → ℕ → Bool
@@ -285,6 +293,63 @@ stops =
 pub stops-hold : every computed stops ≡ true
 unfolding computed stops
 stops-hold = refl
+
+-- ---- Leader sheets
+
+-- E's sheet: its best plan has three pages
+abbrev sheetE : List ℕ
+sheetE =
+    lineWith (bytes "PAGES      3")
+    ++ lineWith (bytes "     1     1     1     5 100")
+    ++ lineWith (bytes "     2     2     6     4  80")
+    ++ lineWith (bytes "     3     4     5     4  80")
+    ++ listTo (sheetPages - 3) (λ p. lineWith [])
+    ++ lineWith (bytes "     1")
+
+-- the judge's refusals, then 12; on refusal the output is kept
+pub printing : List Bool
+printing =
+    let lent : List ℕ = replicate 4861 7 in
+    let w = printSheets (treeE 5 1) bestE lent in
+    leaves (printSheets (treeE 5 1) bestE (replicate 4860 7)) sheetE
+    ∷ saysFeasible (printSheets (treeE 5 1) bestE (replicate 4860 7) .answer .beside) 3 5
+    ∷ keeps (w .answer) (w .output) lent 12 4860
+    ∷ answers (printSheets (treeE 4 1) bestE [] .answer) 7 1
+    ∷ answers (printSheets (treeE 5 1) (replicate 5 0) [] .answer) 8 6
+    ∷ answers (printSheets (treeE 5 1) (1 ∷ 2 ∷ 0 ∷ 0 ∷ 0 ∷ 0 ∷ []) [] .answer) 10 2
+    ∷ answers (printSheets (treeE 5 1) (1 ∷ 0 ∷ 0 ∷ 0 ∷ 0 ∷ 0 ∷ []) [] .answer) 11 1
+    ∷ eqb (numberIn sheetE 1 3 13 6) 6
+    ∷ []
+
+pub printing-hold : every computed printing ≡ true
+unfolding computed printing
+printing-hold = refl
+
+-- Lines of two sheets, of 59 pages: page p is node p by itself, of weight p less 1 in the limit 58. The page count is
+-- the plan's on both, page 58 ends the first and page 59 begins the second, and a page line after the last is blank.
+abbrev lineOf59 : ℕ → ℕ → List ℕ
+lineOf59 s l = lineAt 59 58 (λ p. record { first = p; last = p; weight = p - 1 }) s l
+
+pub twoSheets : List Bool
+twoSheets =
+    sameList (lineOf59 1 1) (lineWith (bytes "PAGES     59"))
+    ∷ sameList (lineOf59 2 1) (lineWith (bytes "PAGES     59"))
+    ∷ sameList (lineOf59 1 2) (lineWith (bytes "     1     1     1     0   0"))
+    ∷ sameList (lineOf59 1 59) (lineWith (bytes "    58    58    58    57  98"))
+    ∷ sameList (lineOf59 1 60) (lineWith (bytes "     1"))
+    ∷ sameList (lineOf59 2 2) (lineWith (bytes "    59    59    59    58 100"))
+    ∷ sameList (lineOf59 2 3) (lineWith [])
+    ∷ sameList (lineOf59 2 60) (lineWith (bytes "     2"))
+    ∷ sameList (lineWith [])
+    (replicate 80 32 ++ 10 ∷ [])
+    ∷ sameList (sheetCount 1 ∷ sheetCount 57 ∷ sheetCount 58 ∷ sheetCount 59 ∷ sheetCount 116 ∷ sheetCount 117 ∷ [])
+    (1 ∷ 1 ∷ 1 ∷ 2 ∷ 2 ∷ 3 ∷ [])
+    ∷ sameList (perCent 2 3 ∷ perCent 1023 1024 ∷ perCent 1024 1024 ∷ perCent 1 1024 ∷ []) (66 ∷ 99 ∷ 100 ∷ 0 ∷ [])
+    ∷ []
+
+pub two-sheets-hold : every computed twoSheets ≡ true
+unfolding computed twoSheets
+two-sheets-hold = refl
 
 -- ---- Sequences of sibling runs of E: its best plan's in any order, and those that do not hold it, or too heavy
 

@@ -1,7 +1,7 @@
 -- The demands in the words of their document, as the entries promise them beside their equations. Demand 3 speaks of
 -- sibling runs told from the tree alone: what the lowest plan there is means, of a planner's answer and marks and of
 -- an archive's bytes, and when a tree is refused for weight.
-use Prim.Native.Nat.{ℕ, _≤_, _<_}
+use Prim.Native.Nat.{ℕ, _*_, _≤_, _<_}
 use mathlib.Core.Path.{_≡_}
 use mathlib.Core.Bool.{true}
 use mathlib.Core.List.{List, [], _∷_}
@@ -10,8 +10,9 @@ use lib.ListN.{length}
 use Rattle.model.specs.Basics.{listTo}
 use Rattle.model.specs.Table.{Bytes, nodeCount, limitOf, labelAt}
 use Rattle.model.specs.Plan.{pageCount, pageWeight}
-use Rattle.model.specs.Runs.{Run, holds, withinLimit, runCount, rootWeight, runsOf}
+use Rattle.model.specs.Runs.{Run, holds, withinLimit, runCount, rootWeight, runsOf, pageRun}
 use Rattle.model.specs.Archive.{pagesIn, pageFieldIn, archiveBytes}
+use Rattle.model.specs.Sheets.{sheetLines, sheetBytes, sheetCount, perCent, numberIn, sheetNumber, lineNumber}
 use Rattle.model.specs.Refusals.{scratchWords, acceptedTree, feasiblePlan, feasibleUnfiled, soundForm, answerOf}
 use Rattle.model.specs.Refusals.{refused, planBest, Written, writeArchive, writeUnfiled}
 use Rattle.model.specs.declared.Answer.{Answer}
@@ -153,3 +154,26 @@ pub record ReadPromise (e : Edition) (a table marks : List ℕ) (r : Answer) (t 
   pub none : (r .number ≡ 13) ↔ ((u n : List ℕ) → WrittenFrom (writeUnfiled e) u n a → ⊥)
   pub kept : (r .number ≡ 0 → ⊥) → (t ≡ table) × (m ≡ marks)
   pub five : r .number ≡ 5 → ⊥
+
+-- ---- Leader sheets
+
+-- the line of page p, read by its columns
+pub record PageTold (t m a : List ℕ) (p : ℕ) : Type 0 where
+  pub number : numberIn a (sheetNumber p) (lineNumber p) 1 6 ≡ p
+  pub first : numberIn a (sheetNumber p) (lineNumber p) 7 6 ≡ pageRun t m p .first
+  pub last : numberIn a (sheetNumber p) (lineNumber p) 13 6 ≡ pageRun t m p .last
+  pub weight : numberIn a (sheetNumber p) (lineNumber p) 19 6 ≡ pageWeight t m p
+  pub share : numberIn a (sheetNumber p) (lineNumber p) 25 4 ≡ perCent (pageWeight t m p) (limitOf t)
+
+-- What the printer says with its answer r and the sheets a that it leaves, where it was lent the table t, the marks m
+-- and the output out. Every feasible plan it prints, with its verdict, where the output is as long as its sheets. Read
+-- by their columns, they tell each page, the plan's page count on every sheet, and the sheet's number. On refusal the
+-- output is as lent, and 7 is exact.
+pub record PrintPromise (t m out : List ℕ) (r : Answer) (a : List ℕ) : Type 0 where
+  pub accepts : feasiblePlan t m ≡ true → length out ≡ sheetBytes * sheetCount (pageCount t m)
+      → r ≡ answerOf (Feasible (pageCount t m) (pageWeight t m 1))
+  pub pages : r .number ≡ 0 → (p : ℕ) → 1 ≤ p → p ≤ pageCount t m → PageTold t m a p
+  pub sheets : r .number ≡ 0 → (s : ℕ) → 1 ≤ s → s ≤ sheetCount (pageCount t m)
+      → (numberIn a s 1 7 6 ≡ pageCount t m) × (numberIn a s sheetLines 1 6 ≡ s)
+  pub kept : (r .number ≡ 0 → ⊥) → a ≡ out
+  pub weight : WeightPromise t r

@@ -1,4 +1,4 @@
--- The definitions of document 01, a module for each heading.
+-- The definitions of documents 01 and 02, a module for each heading.
 pub mod Basics
 pub mod Table
 pub mod Plan
@@ -6,6 +6,7 @@ pub mod Runs
 pub mod Steps
 pub mod Archive
 pub mod Decimal
+pub mod Sheets
 pub mod Refusals
 pub mod Demand
 pub mod Cases

@@ -11,6 +11,7 @@ use Rattle.model.specs.Table.{Chain, treeOf}
 use Rattle.model.specs.Plan.{badMark, heavyPage, pageCount, verdictOf}
 use Rattle.model.specs.Steps.{bestMarks, levelMarks, singleMarks, pairMarks, rightmostMarks, depthFirstMarks}
 use Rattle.model.specs.Archive.{archiveOf, archiveBytes, nodesIn, tableIn, marksIn}
+use Rattle.model.specs.Sheets.{sheetBytes, sheetCount, sheetsOf}
 use Rattle.model.specs.declared.Place.{Place}
 use Rattle.model.specs.declared.Cause.the-variants.{BadMark, HeavyPage}
 use Rattle.model.specs.declared.Verdict.{Verdict}
@@ -139,6 +140,10 @@ markChecks t m = badMarks (nodeCount t) m ∷ markRefused t m ∷ pageRefused t 
 unfoldable pub filmChecks : Edition → List ℕ → List ℕ → List ℕ → List Check
 filmChecks e t m out = badOutput (archiveBytes e (pageCount t m) (nodeCount t)) out ∷ []
 
+-- the leader sheets that are to be printed
+unfoldable pub sheetChecks : List ℕ → List ℕ → List ℕ → List Check
+sheetChecks t m out = badOutput (sheetBytes * sheetCount (pageCount t m)) out ∷ []
+
 -- the buffers that an archive is read into
 unfoldable pub backChecks : ℕ → List ℕ → List ℕ → List Check
 backChecks n t m = badOutput (tableBytes n) t ∷ badMarks n m ∷ []
@@ -157,6 +162,9 @@ judgeChecks t m = treeChecks t ++ markChecks t m
 
 unfoldable pub writeChecks : Edition → List ℕ → List ℕ → List ℕ → List Check
 writeChecks e t m out = judgeChecks t m ++ filmChecks e t m out
+
+unfoldable pub printChecks : List ℕ → List ℕ → List ℕ → List Check
+printChecks t m out = judgeChecks t m ++ sheetChecks t m out
 
 -- no check of the list applies
 unfoldable pub passes : List Check → Bool
@@ -274,3 +282,7 @@ readArchive e a t m =
       table = pick (passes (readChecks e a t m)) (tableIn e a) t;
       marks = pick (passes (readChecks e a t m)) (marksIn e a) m;
     }
+
+-- the printer of leader sheets
+unfoldable pub printSheets : List ℕ → List ℕ → List ℕ → Written
+printSheets t m out = writeChecked (printChecks t m out) (verdictOf t m) (sheetsOf t m) out
