@@ -18,7 +18,7 @@ use Rattle.model.specs.Refusals.{Check, accepted, refused, firstOf, passes, wit
 use Rattle.model.specs.Refusals.{shortTable, badCount, badLimit, badLength, badWalk, heavyNode, badMarks}
 use Rattle.model.specs.Refusals.{shortScratch, markRefused, pageRefused, badOutput, noArchive, noLabel}
 use Rattle.model.specs.Refusals.{headChecks, nodeChecks, weightChecks, lentChecks, markChecks, filmChecks, backChecks}
-use Rattle.model.specs.Refusals.{formChecks, treeChecks, planChecks, judgeChecks, readChecks}
+use Rattle.model.specs.Refusals.{sheetChecks, formChecks, treeChecks, planChecks, judgeChecks, readChecks}
 use Rattle.model.specs.declared.Place.{Place}
 use Rattle.model.specs.declared.Place.the-variants.{At, Nowhere}
 use Rattle.model.specs.declared.Answer.{Answer}
@@ -197,6 +197,10 @@ mark-plain t m = (λ p. refl, λ p. refl, λ p. refl)
 pub film-plain : (e : Edition) (t m out : List ℕ) → Plain (filmChecks e t m out)
 unfolding every filmChecks badOutput
 film-plain e t m out = (λ p. refl, λ p. refl, λ p. refl)
+
+pub sheet-plain : (t m out : List ℕ) → Plain (sheetChecks t m out)
+unfolding every sheetChecks badOutput
+sheet-plain t m out = (λ p. refl, λ p. refl, λ p. refl)
 
 pub form-plain : (t : List ℕ) → Plain (formChecks t)
 unfolding formChecks

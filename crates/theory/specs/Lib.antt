@@ -49,6 +49,9 @@ pub mod Outputs
 pub mod ArchiveWords
 pub mod ArchiveBack
 pub mod ArchiveAnswers
+-- Leader sheets: their lines, and reading them by columns
+pub mod SheetLines
+pub mod SheetsRead
 -- Gains taken off: all planners; single and pair
 pub mod Reduce
 pub mod ReduceCount
@@ -72,3 +75,4 @@ pub mod PromiseWeight
 pub mod PromisePlanner
 pub mod ArchiveLowest
 pub mod PromiseArchive
+pub mod PromiseSheets

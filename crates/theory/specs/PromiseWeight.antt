@@ -1,7 +1,7 @@
 -- Refusal 7 of every entry is the tree reader's, and exact: demand 3's last sentence, as the entries promise it. 5 is
 -- never given.
 -- Proves weight-promise, seven-tree (checks after the tree's that never give 7 leave it to the tree's), five-tree,
--- read-weight, judge-weight, write-weight; and of the archive's reader read-five. Assumes nothing.
+-- read-weight, judge-weight, write-weight, print-weight; and of the archive's reader read-five. Assumes nothing.
 use Prim.Native.Nat.{ℕ}
 use native.Mathlib.Omega.{arith}
 use mathlib.Core.Path.{_≡_, refl, sym, _∙_, ap}
@@ -10,10 +10,10 @@ use mathlib.Core.Logic.{_↔_}
 use mathlib.Core.List.{List, _++_, append-assoc}
 use Rattle.model.specs.Plan.{verdictOf}
 use Rattle.model.specs.Archive.{tableIn, marksIn}
-use Rattle.model.specs.Refusals.{Check, treeChecks, markChecks, filmChecks, judgeChecks, writeChecks}
-use Rattle.model.specs.Refusals.{passes}
+use Rattle.model.specs.Refusals.{Check, treeChecks, markChecks, filmChecks, sheetChecks, judgeChecks, writeChecks}
+use Rattle.model.specs.Refusals.{printChecks, passes}
 use Rattle.model.specs.Refusals.{answerOf, accepted, firstOf, readTree, judgePlan, writeChecked}
-use Rattle.model.specs.Refusals.{writeArchive, readChecks, readArchive}
+use Rattle.model.specs.Refusals.{writeArchive, printSheets, readChecks, readArchive}
 use Rattle.model.specs.Demand.{WeightPromise}
 use Rattle.model.specs.declared.Cause.the-variants.{BadMark, HeavyPage}
 use Rattle.model.specs.declared.Verdict.{Verdict}
@@ -21,7 +21,7 @@ use Rattle.model.specs.declared.Verdict.the-variants.{Feasible, Failed}
 use Rattle.model.specs.declared.Answer.{Answer}
 use Rattle.model.specs.declared.Edition.{Edition}
 use Rattle.theory.specs.Checks.{Never, Plain, firstOf-pass, firstOf-stop, firstOf-all, never-append, never-first}
-use Rattle.theory.specs.Checks.{plain-append, mark-plain, film-plain, tree-never-five, read-plain}
+use Rattle.theory.specs.Checks.{plain-append, mark-plain, film-plain, sheet-plain, tree-never-five, read-plain}
 use Rattle.theory.specs.RunsHeld.{refused-unheld, seven-refused}
 
 -- an entry that answers 7 just where the tree reader does, and 5 nowhere
@@ -92,6 +92,10 @@ module _ (t m : List ℕ) where
   pub write-weight : (e : Edition) (out : List ℕ) → WeightPromise t (writeArchive e t m out .answer)
   unfolding writeArchive writeChecked writeChecks
   write-weight e out = judge-more (filmChecks e t m out) (film-plain e t m out)
+
+  pub print-weight : (out : List ℕ) → WeightPromise t (printSheets t m out .answer)
+  unfolding printSheets writeChecked printChecks
+  print-weight out = judge-more (sheetChecks t m out) (sheet-plain t m out)
 
 pub read-five : (e : Edition) (a t m : List ℕ) → readArchive e a t m .answer .number ≡ 5 → ⊥
 unfolding readArchive

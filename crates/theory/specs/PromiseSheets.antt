@@ -1,0 +1,139 @@
+-- What the printer of leader sheets promises beside its equation (print-promise): every feasible plan is printed, and
+-- the sheets, read by their columns, tell it. Every number of a feasible plan fits its field (pages-fit, sheets-fit).
+-- Defines printFrom. Proves sheet-short, sheet-long, print-entry besides. Assumes nothing.
+use Prim.Native.Nat.{ℕ, _*_, _^_, _≤_, _<_}
+use native.Mathlib.Omega.{arith}
+use native.Mathlib.Nat.{div-le-of-le-mul}
+use mathlib.Core.Bool.{true, _&&_}
+use mathlib.Core.Path.{_≡_, refl, sym, _∙_, ap}
+use mathlib.Core.List.{List}
+use lib.ListN.{length}
+use lib.Dec.{eqb, ltb}
+use borrow.Author.Tests.{ltb-false}
+use Rattle.model.specs.Basics.{pick, every}
+use Rattle.model.specs.Table.{maxNodes, nodeCount, limitOf}
+use Rattle.model.specs.Plan.{begins, hasMark, inRun, pageOf, pageCount, pageWeight, heavyPage, verdictOf}
+use Rattle.model.specs.Runs.{pageRun}
+use Rattle.model.specs.Sheets.{sheetBytes, sheetCount, pageAt, perCent, sheetsOf}
+use Rattle.model.specs.Refusals.{badOutput, sheetChecks, printChecks, passes, answerOf, refused, firstOf, readTree}
+use Rattle.model.specs.Refusals.{feasiblePlan, Written, printSheets}
+use Rattle.model.specs.Demand.{PageTold, PrintPromise}
+use Rattle.model.specs.declared.Answer.{Answer}
+use Rattle.theory.specs.Ranges.{firstTo-nowhere, lastTo-le}
+use Rattle.theory.specs.Checks.{Never}
+use Rattle.theory.specs.JudgeAnswers.{with-labels, pageCount-le}
+use Rattle.theory.specs.PlanFeasible.{Judged, feasible-judged, judged-verdict}
+use Rattle.theory.specs.PagesByNumber.{lastOnPage, first-found, last-found}
+use Rattle.theory.specs.Outputs.{outputFrom, short-output, long-output, with-entry, with-done, with-wrote, with-kept}
+use Rattle.theory.specs.SheetsRead.{sheet-numbers, PageFits, tells-number, tells-first, tells-last, tells-weight}
+use Rattle.theory.specs.SheetsRead.{tells-share}
+use Rattle.theory.specs.PromiseWeight.{print-weight}
+
+-- ---- Every number of a feasible plan fits its field
+
+-- the whole per cent of a weight within the limit
+pub share-most : (weight limit : ℕ) → weight ≤ limit → perCent weight limit ≤ 100
+share-most weight limit within = div-le-of-le-mul limit (omega arith)
+
+module _ {t m : List ℕ} (j : Judged t m) where
+  pages-most : pageCount t m ≤ maxNodes
+  pages-most = omega (arith, pageCount-le t m, j .tree .sound .count-high)
+
+  module _ (p : ℕ) (low : 1 ≤ p) (high : p ≤ pageCount t m) where
+    pub within-limit : pageWeight t m p ≤ limitOf t
+    unfolding heavyPage
+    within-limit =
+        ltb-false (limitOf t) (pageWeight t m p)
+        (firstTo-nowhere (pageCount t m) (λ q. ltb (limitOf t) (pageWeight t m q)) (j .light) p low high)
+
+    run-most : (pageRun t m p .first ≤ nodeCount t) × (pageRun t m p .last ≤ nodeCount t)
+    unfolding lastOnPage
+    run-most =
+        let s = j .tree .sound in (
+          omega (
+            arith,
+            first-found s m (j .marked) p low high,
+            lastTo-le (nodeCount t) (λ u. eqb (pageOf t m u) p && hasMark m begins u),
+          ),
+          omega (
+            arith,
+            last-found s m (j .marked) p low high,
+            lastTo-le (nodeCount t) (λ u. eqb (pageOf t m u) p && inRun m u),
+          ),
+        )
+
+    pub pages-fit : PageFits (pageCount t m) (limitOf t) (pageAt t m) p
+    pages-fit =
+        let count = j .tree .sound .count-high in
+        record {
+          number = omega (arith, pages-most);
+          first = omega (arith, run-most .0, count);
+          last = omega (arith, run-most .1, count);
+          weight = omega (arith, within-limit, j .tree .sound .limit-high);
+          share = omega (arith, share-most _ _ within-limit);
+        }
+
+  pub sheets-fit : (s : ℕ) → s ≤ sheetCount (pageCount t m) → (pageCount t m < 10 ^ 6) × (s < 10 ^ 6)
+  sheets-fit s high = (omega (arith, pages-most), omega (arith, pages-most))
+
+-- ---- The printer's answers
+
+module _ (t m out : List ℕ) where
+  -- the printer that goes on from the answer of what judged the tree
+  abbrev pub printFrom : Answer → Written
+  printFrom = outputFrom t m (sheetsOf t m) out (sheetChecks t m out)
+
+  sheet-never : Never 0 (sheetChecks t m out) × Never 14 (sheetChecks t m out)
+  unfolding every sheetChecks badOutput
+  sheet-never = (λ p. refl, λ p. refl)
+
+  -- 12: the output has the wrong length
+  pub sheet-short : (length out ≡ sheetBytes * sheetCount (pageCount t m) → ⊥)
+      → refused 12 (sheetBytes * sheetCount (pageCount t m))
+      ≡ firstOf (sheetChecks t m out) (answerOf (verdictOf t m))
+  unfolding sheetChecks
+  sheet-short other = short-output _ out (answerOf (verdictOf t m)) other
+
+  pub sheet-long : length out ≡ sheetBytes * sheetCount (pageCount t m) → passes (sheetChecks t m out) ≡ true
+  unfolding sheetChecks
+  sheet-long fits = long-output _ out fits
+
+  pub print-entry : {w : Written} (r : Answer) → w ≡ printFrom r → r ≡ readTree t → w ≡ printSheets t m out
+  unfolding printSheets printChecks pick
+  print-entry r h is = with-entry true t m (sheetsOf t m) out _ sheet-never r h (is ∙ sym (with-labels t))
+
+  -- ---- The promise
+
+  wrote : printSheets t m out .answer .number ≡ 0
+      → (feasiblePlan t m ≡ true) × (printSheets t m out ≡ record { answer = answerOf (verdictOf t m); output = sheetsOf t m })
+  unfolding printSheets printChecks feasiblePlan pick
+  wrote z = with-wrote true t m (sheetsOf t m) out _ sheet-never z
+
+  pages-told : Judged t m → (p : ℕ) → 1 ≤ p → p ≤ pageCount t m → PageTold t m (sheetsOf t m) p
+  unfolding sheetsOf
+  pages-told j p low high =
+      let fits = pages-fit j p low high in
+      record {
+        number = tells-number _ _ (pageAt t m) p low high fits;
+        first = tells-first _ _ (pageAt t m) p low high fits;
+        last = tells-last _ _ (pageAt t m) p low high fits;
+        weight = tells-weight _ _ (pageAt t m) p low high fits;
+        share = tells-share _ _ (pageAt t m) p low high fits;
+      }
+
+  pub print-promise : PrintPromise t m out (printSheets t m out .answer) (printSheets t m out .output)
+  unfolding printSheets printChecks feasiblePlan sheetsOf pick
+  print-promise =
+      record {
+        accepts =
+            λ f fits.
+            ap (λ (w : Written). w .answer) (with-done true t m (sheetsOf t m) out _ sheet-never f (sheet-long fits))
+            ∙ ap answerOf (judged-verdict (feasible-judged t m f));
+        pages = λ z. rw (wrote z .1) (pages-told (feasible-judged t m (wrote z .0)));
+        sheets =
+            λ z s low high.
+            let fits = sheets-fit (feasible-judged t m (wrote z .0)) s high in
+            rw (wrote z .1) (sheet-numbers (pageCount t m) (limitOf t) (pageAt t m) s low high (fits .0) (fits .1));
+        kept = with-kept true t m (sheetsOf t m) out _ sheet-never;
+        weight = print-weight t m out;
+      }
