@@ -4,6 +4,7 @@ use mathlib.Core.List.{List}
 use Prim.Native.Nat.{ℕ}
 use Rattle.model.specs.Refusals.{Planned, Written, Restored}
 use Rattle.model.specs.Demand.{WeightPromise, PlanPromise, BestPromise, QuickPromise, WritePromise, ReadPromise}
+use Rattle.model.specs.Demand.{PrintPromise}
 use Rattle.model.specs.declared.Answer.{Answer}
 use Rattle.model.specs.declared.Edition.{Edition}
 use Rattle.embed.specs.declared.Figures.{Figures}
@@ -40,6 +41,9 @@ QuickFigures t f = FiguresOf (λ r. QuickPromise t r) f
 
 abbrev pub WriteFigures : Edition → List ℕ → List ℕ → List ℕ → Figures → List ℕ → Type 0
 WriteFigures e t m out f archive = FiguresOf (λ r. WritePromise e t m out r archive) f
+
+abbrev pub PrintFigures : List ℕ → List ℕ → List ℕ → Figures → List ℕ → Type 0
+PrintFigures t m out f sheets = FiguresOf (λ r. PrintPromise t m out r sheets) f
 
 abbrev pub ReadFigures : Edition → List ℕ → List ℕ → List ℕ → Figures → List ℕ → List ℕ → Type 0
 ReadFigures e a table marks f t m = FiguresOf (λ r. ReadPromise e a table marks r t m) f

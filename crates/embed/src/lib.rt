@@ -5,10 +5,11 @@ use model::Verdict;
 ghost use mathlib.Core.Path.{_≡_};
 ghost use Rattle.model.specs.Archive.{firstEdition};
 ghost use Rattle.model.specs.Refusals.{readTree, judgePlan, planBest, planLevel, planSingle, planPair, writeArchive};
-ghost use Rattle.model.specs.Refusals.{planRightmost, planDepthFirst, readArchive};
+ghost use Rattle.model.specs.Refusals.{planRightmost, planDepthFirst, readArchive, printSheets};
 ghost use Rattle.embed.specs.Figures.{figuresBy, figuresOf};
 ghost use Rattle.embed.specs.Left.{WeightFigures, left, leftBy, PlanFigures, BestFigures, QuickFigures};
-ghost use Rattle.embed.specs.Left.{filled, filledBy, WriteFigures, refilled, refilledBy, ReadFigures};
+ghost use Rattle.embed.specs.Left.{filled, filledBy, WriteFigures, PrintFigures, refilled, refilledBy};
+ghost use Rattle.embed.specs.Left.{ReadFigures};
 
 // A number and a place, and the verdict's page count and root weight, both 0 unless the number is 0.
 #[repr(C)]
@@ -174,4 +175,14 @@ pub extern "C" fn balduqen_read_archive(
         r (now (table .exit)) (now (marks .exit)) ⌝ }
 {
     flatten(archive::read_archive(archive, table, marks))
+}
+
+#[no_mangle]
+pub extern "C" fn balduqen_print_sheets(table: &[u8], marks: &[u8], out: &mut [u8]) -> Figures
+    ensures { λ r. ⌜ filled r (now (out .exit))
+        ≡ filledBy (printSheets (now (table .entry)) (now (marks .entry)) (now (out .entry))) ⌝ }
+    ensures { λ r. ⌜ PrintFigures (now (table .entry)) (now (marks .entry)) (now (out .entry))
+        r (now (out .exit)) ⌝ }
+{
+    flatten(sheets::print_sheets(table, marks, out))
 }
