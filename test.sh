@@ -91,8 +91,8 @@ add_one readme "$?"
 (cd bench && CARGO_TARGET_DIR=../target/bench cargo build --release --offline)
 add_one bench "$?"
 
-in_rust tests tests/entries.rs=38 tests/guarded.rs=18 tests/library.rs=116 tests/model.rs=46 tests/program.rs=16 tests/rule_sheet.rs=38 \
-  tests/stack.rs=2 tests/threads.rs=1
+in_rust tests tests/entries.rs=40 tests/guarded.rs=18 tests/library.rs=132 tests/model.rs=54 tests/program.rs=16 tests/rule_sheet.rs=38 \
+  tests/sheet_reader.rs=9 tests/stack.rs=2 tests/threads.rs=1
 in_rust tools src/main.rs=28 tests/commands.rs=5 tests/must_fail_logs.rs=3
 
 echo "$passed passed, $failed failed"

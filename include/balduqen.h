@@ -1,5 +1,5 @@
-/* libembed.a: reads tree tables, plans how a tree is laid on pages, judges plans, and writes and
- * reads the archive.
+/* libembed.a: reads tree tables, plans how a tree is laid on pages, judges plans, writes and reads
+ * the archive, and prints plans as leader sheets.
  *
  * What a caller must see to. A buffer is lent as a pointer and a length. The pointer is valid for
  * that many elements, aligned for them, and not null, also where the length is 0. A buffer that a
@@ -30,6 +30,18 @@
  *
  * The archive of a tree and a plan of P pages has 6 + 8 * P + 8 * N bytes: N, K, P, the page
  * records and the node records. docs/RULE-SHEET.txt tells it byte by byte, with examples.
+ *
+ * The leader sheets of a plan of P pages have 58 pages each, the last one up to 58. A sheet is 60
+ * lines, and a line 80 columns and a newline (byte 10), so a sheet has 4860 bytes:
+ *
+ *   line 1         PAGES in columns 1 to 5, and P in 7 to 12: on every sheet that of the plan
+ *   lines 2 to 59  a page each: its number in columns 1 to 6, its first node in 7 to 12, its last
+ *                  sibling in 13 to 18, its weight in 19 to 24, and the whole per cent that this is
+ *                  of K, rounded down, in 25 to 28
+ *   line 60        the number of the sheet, from 1, in columns 1 to 6
+ *
+ * Numbers are decimal, without zeros in front, and end in the last of their columns. All else is
+ * blanks (byte 32), and so are the lines after the last page. examples/case_e.sheet is one.
  */
 #ifndef BALDUQEN_H
 #define BALDUQEN_H
@@ -49,10 +61,12 @@ extern "C" {
  * balduqen_write_archive 43, the planners and the judge 27, balduqen_read_tree 3. */
 #define BALDUQEN_STACK 98304
 
-/* Buffer lengths: bytes of a table, 32-bit words of a planner's scratch, bytes of an archive. */
+/* Buffer lengths: bytes of a table, 32-bit words of a planner's scratch, bytes of an archive and of
+ * leader sheets. */
 #define BALDUQEN_TABLE_LENGTH(nodes) (4 + 8 * (size_t)(nodes))
 #define BALDUQEN_SCRATCH_LENGTH(nodes, limit) (4 * (size_t)(nodes) * ((size_t)(limit) + 3))
 #define BALDUQEN_ARCHIVE_LENGTH(pages, nodes) (6 + 8 * (size_t)(pages) + 8 * (size_t)(nodes))
+#define BALDUQEN_SHEETS_LENGTH(pages) (4860 * (((size_t)(pages) + 57) / 58))
 
 /* Number 0 and place 0 are acceptance. Any other number is a refusal:
  *
@@ -161,6 +175,14 @@ balduqen_answer balduqen_write_archive(const uint8_t *table, size_t table_length
 balduqen_answer balduqen_read_archive(const uint8_t *archive, size_t archive_length,
                                       uint8_t *table, size_t table_length,
                                       uint8_t *marks, size_t marks_length);
+
+/* Prints a plan as leader sheets: any plan that the judge accepts, whoever made it. The buffer has
+ * exactly 4860 bytes for each sheet, BALDUQEN_SHEETS_LENGTH of the page count that the planner or
+ * the judge gave; what it holds before is of no matter. Refuses 1 to 4, 6 to 8, 10 to 12 and 14, as
+ * balduqen_write_archive does. */
+balduqen_answer balduqen_print_sheets(const uint8_t *table, size_t table_length,
+                                      const uint8_t *marks, size_t marks_length,
+                                      uint8_t *sheets, size_t sheets_length);
 
 #ifdef __cplusplus
 }

@@ -1,12 +1,11 @@
-//! The planners of the proved library behind its C interface.
+//! The planners and the leader sheets of the proved library behind its C interface.
 
-use crate::planner::{Kind, Planner};
+use crate::planner::{Answer, Kind, Planner};
 
 /// A slice goes as a pointer and then a length. Each call hands over slices that live through it,
 /// which is what makes the unsafe block sound.
 macro_rules! planner {
     ($entry:ident) => {{
-        use crate::planner::Answer;
         extern "C" {
             fn $entry(
                 table: *const u8,
@@ -42,5 +41,29 @@ pub fn planner(kind: Kind) -> Planner {
         Kind::Pair => planner!(balduqen_plan_pair),
         Kind::Level => planner!(balduqen_plan_level),
         Kind::Best => planner!(balduqen_plan_best),
+    }
+}
+
+/// The library's sheets.
+pub fn print_sheets(table: &[u8], marks: &[u8], sheets: &mut [u8]) -> Answer {
+    extern "C" {
+        fn balduqen_print_sheets(
+            table: *const u8,
+            table_length: usize,
+            marks: *const u8,
+            marks_length: usize,
+            sheets: *mut u8,
+            sheets_length: usize,
+        ) -> Answer;
+    }
+    unsafe {
+        balduqen_print_sheets(
+            table.as_ptr(),
+            table.len(),
+            marks.as_ptr(),
+            marks.len(),
+            sheets.as_mut_ptr(),
+            sheets.len(),
+        )
     }
 }

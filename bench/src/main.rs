@@ -1,5 +1,6 @@
 //! The planners of the proved library beside the same steps in plain Rust and beside the report's
-//! DHW: on the same trees, in the same run, as ratios. Nothing passes or fails by its time.
+//! DHW, and its leader sheets beside plain Rust: on the same trees, in the same run, as ratios.
+//! Nothing passes or fails by its time.
 //!
 //! `rt staticlib embed` writes the library; `cargo run --release` in this folder then prints the table.
 
@@ -12,11 +13,12 @@ mod measure;
 mod plain;
 mod planner;
 mod quick;
+mod sheets;
 mod show;
 mod tree;
 
 use planner::{KINDS, QUICK};
-use show::Row;
+use show::{Row, SheetRow};
 
 fn main() {
     let loads = load::loads();
@@ -51,4 +53,17 @@ fn main() {
             }));
         }
     }
+
+    show::print_head_of_sheets();
+    let mut rows = vec![];
+    for load in &loads {
+        rows.push(measure::plans(load).map(|plan| {
+            measure::check_sheets(load, &plan);
+            let times = measure::sheet_times(load, &plan);
+            let row = SheetRow { load, plan, times };
+            row.print();
+            row
+        }));
+    }
+    show::print_worst_of_sheets(&rows);
 }

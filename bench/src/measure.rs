@@ -1,9 +1,11 @@
-//! Runs all forms of a planner on a tree: first they must agree, then they are timed.
+//! Runs all forms of a planner on a tree, and both forms of the leader sheets of a plan: first they
+//! must agree, then they are timed.
 
 use crate::clock::time;
 use crate::dhw::{self, Entries};
 use crate::load::Load;
 use crate::planner::{scratch_words, Answer, Kind, Planner};
+use crate::sheets::{self, sheets_bytes, Printer};
 use crate::{library, plain};
 use std::hint::black_box;
 use std::time::Duration;
@@ -102,16 +104,26 @@ pub fn check_agreement(load: &Load, kind: Kind) {
 /// The time of each form, in the order of `FORMS`; none where it is not tried.
 pub type Times = [Option<Duration>; FORMS.len()];
 
-/// The forms take turns, so that a change in the machine's speed falls on all of them. Each is lent
-/// the buffers as the one before left them, with the scratch cleared.
+/// Each form is lent the buffers as the one before left them, with the scratch cleared.
 pub fn times(load: &Load, kind: Kind) -> Times {
     let mut buffers = Buffers::soiled(load);
     buffers.scratch.fill(0);
-    let mut samples = FORMS.map(|_| Samples::default());
+    let is_tried = |form: Form| form.is_tried(load, kind);
+    in_turns(FORMS, is_tried, |form| form.run(load, kind, &mut buffers))
+}
+
+/// The time of each form; none where it is not tried. The forms take turns, so that a change in the
+/// machine's speed falls on all of them.
+fn in_turns<F: Copy, T, const N: usize>(
+    forms: [F; N],
+    is_tried: impl Fn(F) -> bool,
+    mut run: impl FnMut(F) -> T,
+) -> [Option<Duration>; N] {
+    let mut samples = forms.map(|_| Samples::default());
     for _ in 0..MOST {
-        for (form, samples) in FORMS.into_iter().zip(&mut samples) {
-            if form.is_tried(load, kind) && samples.are_few() {
-                samples.0.push(time(|| form.run(load, kind, &mut buffers)));
+        for (form, samples) in forms.into_iter().zip(&mut samples) {
+            if is_tried(form) && samples.are_few() {
+                samples.0.push(time(|| run(form)));
             }
         }
     }
@@ -136,4 +148,54 @@ impl Samples {
         self.0.sort();
         self.0.get(self.0.len() / 2).copied()
     }
+}
+
+/// The library's sheets, and those in plain Rust.
+const PRINTERS: [Printer; 2] = [library::print_sheets, sheets::print];
+
+/// A plan whose sheets are printed.
+pub struct Plan {
+    pub name: &'static str,
+    pub marks: Vec<u8>,
+    pub pages: usize,
+}
+
+/// The plan with the most pages, and the one with the fewest.
+pub fn plans(load: &Load) -> [Plan; 2] {
+    let mut buffers = Buffers::soiled(load);
+    let best = buffers.run(plain::planner(Kind::Best), load);
+    [
+        Plan {
+            name: "a node each",
+            marks: vec![1; load.nodes],
+            pages: load.nodes,
+        },
+        Plan {
+            name: "best",
+            marks: buffers.marks,
+            pages: best.pages as usize,
+        },
+    ]
+}
+
+/// Panics unless both forms print the same.
+pub fn check_sheets(load: &Load, plan: &Plan) {
+    let place = format!("{}: sheets of {}", load.name(), plan.name);
+    let [library, plain] = PRINTERS.map(|print| {
+        let mut sheets = vec![0xa5; sheets_bytes(plan.pages)];
+        let answer = print(&load.table, &plan.marks, &mut sheets);
+        assert_eq!(answer.number, 0, "{place}: the plan is refused");
+        (answer, sheets)
+    });
+    assert!(library == plain, "{place}: the sheets differ");
+}
+
+/// The time of the library's sheets, and of those in plain Rust.
+pub fn sheet_times(load: &Load, plan: &Plan) -> [Option<Duration>; 2] {
+    let mut sheets = vec![0xa5; sheets_bytes(plan.pages)];
+    in_turns(
+        PRINTERS,
+        |_| true,
+        |print| print(&load.table, &plan.marks, &mut sheets),
+    )
 }

@@ -1,5 +1,7 @@
 //! The form of a planner, which the library and the plain ones share.
 
+use crate::tree::Page;
+
 /// The four words that the library gives back: number and place, page count and root weight.
 #[repr(C)]
 #[derive(Clone, Copy, Debug, Default, PartialEq, Eq)]
@@ -11,6 +13,15 @@ pub struct Answer {
 }
 
 impl Answer {
+    /// Acceptance of a plan with these pages.
+    pub fn accepted(pages: &[Page]) -> Answer {
+        Answer {
+            pages: pages.len() as u32,
+            root: pages[0].weight,
+            ..Answer::default()
+        }
+    }
+
     pub fn refused(number: u32, place: usize) -> Answer {
         Answer {
             number,

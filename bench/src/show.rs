@@ -1,8 +1,10 @@
-//! The table of times and ratios, the worst ratios, and the quick planners' times by size.
+//! The table of times and ratios, the worst ratios, the quick planners' times by size, and the
+//! table of the leader sheets.
 
 use crate::load::{Load, SIZES};
-use crate::measure::{Form, Times};
+use crate::measure::{Form, Plan, Times};
 use crate::planner::{Kind, KINDS};
+use std::time::Duration;
 
 const NOTES: &str = "\
 Processor times in milliseconds, the median of several rounds in which the forms take turns.
@@ -53,18 +55,28 @@ const RATIOS: [Ratio; 5] = [
 
 impl Ratio {
     fn of(&self, times: &Times) -> Option<f64> {
-        let [one, other] = self.forms.map(|form| times[form as usize]);
-        Some(one?.as_secs_f64() / other?.as_secs_f64())
+        quotient(self.forms.map(|form| times[form as usize]))
     }
 }
 
-fn print_names() {
-    print!("{:<7}{:>8}{:>6}  {:<11}", "tree", "weights", "K", "planner");
+fn quotient([one, other]: [Option<Duration>; 2]) -> Option<f64> {
+    Some(one?.as_secs_f64() / other?.as_secs_f64())
+}
+
+/// The heads of the columns that `print_name` fills.
+fn print_names(what: &str) {
+    print!("{:<7}{:>8}{:>6}  {what:<11}", "tree", "weights", "K");
+}
+
+/// The tree, and what is done with it.
+fn print_name(load: &Load, what: &str) {
+    let (shape, weights) = (load.shape.name(), load.weights());
+    print!("{shape:<7}{weights:>8}{:>6}  {what:<11}", load.limit);
 }
 
 pub fn print_head() {
     println!("{NOTES}");
-    print_names();
+    print_names("planner");
     for name in NAMES.into_iter().chain(RATIOS.map(|ratio| ratio.name)) {
         print!("{name:>10}");
     }
@@ -78,15 +90,8 @@ pub struct Row<'a> {
 }
 
 impl Row<'_> {
-    /// What is planned, and by whom.
-    fn print_name(&self) {
-        let (shape, weights) = (self.load.shape.name(), self.load.weights());
-        let kind = self.kind.name();
-        print!("{shape:<7}{weights:>8}{:>6}  {kind:<11}", self.load.limit);
-    }
-
     pub fn print(&self) {
-        self.print_name();
+        print_name(self.load, self.kind.name());
         for time in self.times {
             print_figure(time.map(|time| 1000.0 * time.as_secs_f64()), 3);
         }
@@ -110,18 +115,21 @@ pub fn print_worst(rows: &[Row]) {
     for ratio in &RATIOS {
         for kind in KINDS {
             let of_kind = rows.iter().filter(|row| row.kind == kind);
-            let mut figures: Vec<(f64, &Row)> = of_kind
-                .filter_map(|row| Some((ratio.of(&row.times)?, row)))
-                .collect();
-            figures.sort_by(|one, other| one.0.total_cmp(&other.0));
-            if ratio.high_is_worse {
-                figures.reverse();
-            }
-            if let [(worst, row), .., (best, _)] = &figures[..] {
-                let (name, kind, place) = (ratio.name, kind.name(), row.load.name());
-                println!("{name:<10} {kind:<11} worst {worst:.2} ({place}), best {best:.2}");
-            }
+            let figures = of_kind.filter_map(|row| Some((ratio.of(&row.times)?, row.load)));
+            let name = format!("{:<10} {:<11}", ratio.name, kind.name());
+            print_ends(&name, figures.collect(), ratio.high_is_worse);
         }
+    }
+}
+
+/// The worst of some figures, with its tree, and the best beside it; nothing where there is none.
+fn print_ends(name: &str, mut figures: Vec<(f64, &Load)>, high_is_worse: bool) {
+    figures.sort_by(|one, other| one.0.total_cmp(&other.0));
+    if high_is_worse {
+        figures.reverse();
+    }
+    if let [(worst, load), .., (best, _)] = &figures[..] {
+        println!("{name} worst {worst:.2} ({}), best {best:.2}", load.name());
     }
 }
 
@@ -146,7 +154,7 @@ pub fn print_head_by_size() {
         print!("{name:>30}");
     }
     println!();
-    print_names();
+    print_names("planner");
     for _ in BY_SIZE {
         for nodes in SIZES {
             print!("{nodes:>10}");
@@ -157,7 +165,7 @@ pub fn print_head_by_size() {
 
 /// The rows of one tree and planner in all sizes, as one line.
 pub fn print_by_size(rows: &[Row; SIZES.len()]) {
-    rows[0].print_name();
+    print_name(rows[0].load, rows[0].kind.name());
     for (_, form, is_by_node) in BY_SIZE {
         for row in rows {
             let time = row.times[form as usize].map(|time| time.as_secs_f64());
@@ -168,4 +176,49 @@ pub fn print_by_size(rows: &[Row; SIZES.len()]) {
         }
     }
     println!();
+}
+
+const NOTES_OF_SHEETS: &str = "\
+The leader sheets of a plan with a page for each node, and of best's plan: times in microseconds.
+lib: the proved library. Rust: the same in plain Rust. Both read and check the table, judge the plan
+and write every byte of the sheets.
+";
+
+pub fn print_head_of_sheets() {
+    println!("\n{NOTES_OF_SHEETS}");
+    print_names("plan");
+    for name in ["pages", "lib", "Rust", "lib/Rust"] {
+        print!("{name:>10}");
+    }
+    println!();
+}
+
+pub struct SheetRow<'a> {
+    pub load: &'a Load,
+    pub plan: Plan,
+    /// Of the library, and of plain Rust.
+    pub times: [Option<Duration>; 2],
+}
+
+impl SheetRow<'_> {
+    pub fn print(&self) {
+        print_name(self.load, self.plan.name);
+        print!("{:>10}", self.plan.pages);
+        for time in self.times {
+            print_figure(time.map(|time| 1e6 * time.as_secs_f64()), 1);
+        }
+        print_figure(quotient(self.times), 2);
+        println!();
+    }
+}
+
+/// The worst ratio for each plan.
+pub fn print_worst_of_sheets(rows: &[[SheetRow; 2]]) {
+    println!();
+    for index in 0..2 {
+        let of_plan = rows.iter().map(|rows| &rows[index]);
+        let figures = of_plan.filter_map(|row| Some((quotient(row.times)?, row.load)));
+        let name = format!("lib/Rust   sheets, {:<11}", rows[0][index].plan.name);
+        print_ends(&name, figures.collect(), true);
+    }
 }

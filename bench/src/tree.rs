@@ -1,4 +1,4 @@
-//! A tree read from its table, and the figures of a plan.
+//! A tree read from its table, and the pages and the figures of a plan.
 
 use crate::planner::Answer;
 use std::iter::{once, successors};
@@ -14,6 +14,13 @@ pub struct Tree {
     pub last: Vec<usize>,
     pub next: Vec<usize>,
     pub before: Vec<usize>,
+}
+
+/// A page: its run from first node to last sibling, and its weight.
+pub struct Page {
+    pub first: u32,
+    pub last: u32,
+    pub weight: u32,
 }
 
 impl Tree {
@@ -88,28 +95,35 @@ impl Tree {
     /// The judge's answer for marks that are allowed and within the limit; panics at others, since
     /// no planner makes them.
     pub fn judge(&self, marks: &[u8]) -> Answer {
+        Answer::accepted(&self.pages(marks))
+    }
+
+    /// The pages of such marks, by number.
+    pub fn pages(&self, marks: &[u8]) -> Vec<Page> {
         let mut page = vec![0; self.count() + 1];
-        let mut weights = vec![];
+        let mut pages: Vec<Page> = vec![];
         for node in 1..=self.count() {
             page[node] = match marks[node - 1] {
                 0 if node > 1 => page[self.parent[node]],
                 1 => {
-                    weights.push(0);
-                    weights.len() - 1
+                    pages.push(Page {
+                        first: node as u32,
+                        last: node as u32,
+                        weight: 0,
+                    });
+                    pages.len() - 1
                 }
                 2 if self.before[node] != 0 && marks[self.before[node] - 1] != 0 => {
-                    page[self.before[node]]
+                    let page = page[self.before[node]];
+                    pages[page].last = node as u32;
+                    page
                 }
                 mark => panic!("node {node} has mark {mark}"),
             };
-            weights[page[node]] += self.weight[node];
+            pages[page[node]].weight += self.weight[node];
         }
-        assert!(weights.iter().all(|&weight| weight as usize <= self.limit));
-        Answer {
-            pages: weights.len() as u32,
-            root: weights[0],
-            ..Answer::default()
-        }
+        assert!(pages.iter().all(|page| page.weight as usize <= self.limit));
+        pages
     }
 }
 

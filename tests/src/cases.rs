@@ -613,6 +613,9 @@ fn bytes(words: &[u16]) -> Vec<u8> {
     words.iter().flat_map(|word| word.to_be_bytes()).collect()
 }
 
+/// The leader sheet of case E and its best plan, as a file that neither model nor library made.
+pub const SHEET_OF_E: &[u8] = include_bytes!("../../examples/case_e.sheet");
+
 /// The archive of case E and its best plan, word by word.
 pub fn archive_of_e() -> Vec<u8> {
     bytes(&[

@@ -1,6 +1,8 @@
 //! Helpers for checks.
 
-use crate::model::Answer;
+use crate::exhaustive::{page_weights, runs_of_plan};
+use crate::model::{Answer, Tree};
+use crate::sheet_reader::read_sheets;
 use std::collections::BTreeMap;
 use std::hint::black_box;
 
@@ -66,6 +68,38 @@ pub fn with_copy<T>(input: &[u8], call: impl FnOnce(&[u8]) -> T) -> T {
         show(input)
     );
     result
+}
+
+/// Panics at the first line in which sheets are not as they should be.
+pub fn assert_same_sheets(sheets: &[u8], expected: &[u8]) {
+    let text = String::from_utf8_lossy;
+    for (index, (line, expected)) in sheets.chunks(81).zip(expected.chunks(81)).enumerate() {
+        let (sheet, number) = (index / 60 + 1, index % 60 + 1);
+        let (is, should_be) = (text(line), text(expected));
+        assert!(
+            line == expected,
+            "sheet {sheet}, line {number} is {is:?} and should be {should_be:?}"
+        );
+    }
+    assert_eq!(sheets.len(), expected.len());
+}
+
+/// Panics unless the sheets, read by their columns alone, tell the pages of this plan. What these
+/// are is taken from the exhaustive search, which has its own way to find them.
+pub fn assert_sheets_tell(sheets: &[u8], tree: &Tree, marks: &[u8]) {
+    let printed = read_sheets(sheets).unwrap_or_else(|failed| panic!("{failed}: {tree:?}"));
+    let (runs, weights) = (runs_of_plan(tree, marks), page_weights(tree, marks));
+    assert_eq!(printed.count, runs.len(), "{tree:?} {marks:?}");
+    assert_eq!(printed.pages.len(), runs.len(), "{tree:?} {marks:?}");
+    let limit = tree.limit as usize;
+    for (page, (run, weight)) in printed.pages.iter().zip(runs.into_iter().zip(weights)) {
+        let told = (page.first_node, page.last_sibling);
+        assert_eq!(told, run, "{page:?}: {tree:?} {marks:?}");
+        assert_eq!(page.weight, weight as usize, "{page:?}: {tree:?} {marks:?}");
+        // So many hundredths of the limit are in the weight, and one more is not.
+        let whole = page.per_cent * limit..(page.per_cent + 1) * limit;
+        assert!(whole.contains(&(100 * page.weight)), "{page:?}, K {limit}");
+    }
 }
 
 /// A lent buffer with a margin on both sides that a callee must leave alone.

@@ -11,6 +11,7 @@ pub struct Entries {
     pub planner: fn(Kind) -> Planner,
     pub write_archive: fn(&[u8], &[u8], &mut [u8]) -> Answer,
     pub read_archive: fn(&[u8], &mut [u8], &mut [u8]) -> Answer,
+    pub print_sheets: fn(&[u8], &[u8], &mut [u8]) -> Answer,
 }
 
 pub const MODEL: Entries = Entries {
@@ -19,6 +20,7 @@ pub const MODEL: Entries = Entries {
     planner: Kind::model,
     write_archive: model::write_archive,
     read_archive: model::read_archive,
+    print_sheets: model::print_sheets,
 };
 
 pub const LIBRARY: Entries = Entries {
@@ -27,4 +29,5 @@ pub const LIBRARY: Entries = Entries {
     planner: Kind::library,
     write_archive: ffi::write_archive,
     read_archive: ffi::read_archive,
+    print_sheets: ffi::print_sheets,
 };

@@ -111,3 +111,29 @@ pub fn read_archive(archive: &[u8], table: &mut [u8], marks: &mut [u8]) -> Answe
         )
     }
 }
+
+pub fn print_sheets(table: &[u8], marks: &[u8], sheets: &mut [u8]) -> Answer {
+    extern "C" {
+        fn balduqen_print_sheets(
+            table: *const u8,
+            table_length: usize,
+            marks: *const u8,
+            marks_length: usize,
+            sheets: *mut u8,
+            sheets_length: usize,
+        ) -> Answer;
+    }
+    let (table, table_length) = (table.as_ptr(), table.len());
+    let (marks, marks_length) = (marks.as_ptr(), marks.len());
+    let (sheets, sheets_length) = (sheets.as_mut_ptr(), sheets.len());
+    unsafe {
+        balduqen_print_sheets(
+            table,
+            table_length,
+            marks,
+            marks_length,
+            sheets,
+            sheets_length,
+        )
+    }
+}

@@ -428,10 +428,30 @@ pub fn flipped(random: &mut Random, mut bytes: Vec<u8>) -> Vec<u8> {
 
 /// Marks that are all allowed, with about as many runs as the tree has nodes over `rare`.
 pub fn random_plan(random: &mut Random, tree: &Tree, rare: usize) -> Vec<u8> {
+    plan_that_begins(random, tree, |random, _| random.once_in(rare))
+}
+
+/// Marks that are all allowed, with exactly so many runs. Any node can begin one.
+pub fn plan_of_pages(random: &mut Random, tree: &Tree, pages: usize) -> Vec<u8> {
+    assert!((1..=tree.node_count()).contains(&pages));
+    let mut more = pages - 1;
+    plan_that_begins(random, tree, |random, node| {
+        let begins = random.between(node, tree.node_count()) < node + more;
+        more -= usize::from(begins);
+        begins
+    })
+}
+
+/// Marks that are all allowed, with a run begun where the test says so.
+fn plan_that_begins(
+    random: &mut Random,
+    tree: &Tree,
+    mut begins: impl FnMut(&mut Random, usize) -> bool,
+) -> Vec<u8> {
     let mut marks: Vec<u8> = vec![1];
     for node in tree.nodes().skip(1) {
         let follows_run = tree.before[node].is_some_and(|sibling| marks[sibling - 1] != 0);
-        let mark = if random.once_in(rare) {
+        let mark = if begins(random, node) {
             1
         } else if follows_run && random.once_in(2) {
             2

@@ -1,4 +1,4 @@
-//! A model of document 01 with requests One to Three of document 02: every entry with its answers
+//! A model of document 01 with requests One to Four of document 02: every entry with its answers
 //! and the buffers it leaves behind.
 //!
 //! It follows the documents' words closely and is not meant to be fast. The entries have the same
@@ -10,6 +10,7 @@ mod greedy;
 mod plan;
 mod planners;
 mod quick;
+mod sheets;
 mod tree;
 
 pub use archive::{archive_bytes, archive_length, read_archive, write_archive};
@@ -17,6 +18,7 @@ pub use plan::{judge, pages, verdict, Page};
 pub use planners::{
     plan_best, plan_depth_first, plan_level, plan_pair, plan_rightmost, plan_single, scratch_length,
 };
+pub use sheets::{print_sheets, sheets_bytes, sheets_length};
 pub use tree::{read, read_as_before, read_sound, read_tree, word, Tree, MAX_LIMIT, MAX_NODES};
 
 /// A number and a place, and the verdict beside them where a plan is given or made and accepted.

@@ -11,8 +11,13 @@ use balduqen_tests::entries::{Entries, LIBRARY, MODEL};
 use balduqen_tests::exhaustive::{best_of_run_sets, for_each_table_and_best, Score};
 use balduqen_tests::gen::*;
 use balduqen_tests::kept::{kept, kept_filed};
-use balduqen_tests::model::{archive_length, read_sound, scratch_length, word, Answer, MAX_NODES};
+use balduqen_tests::model::{
+    archive_length, read_sound, scratch_length, sheets_length, word, Answer, MAX_LIMIT, MAX_NODES,
+};
 use balduqen_tests::rule_sheet::rebuild;
+use balduqen_tests::sheet_reader::read_sheets;
+use std::io::Write;
+use std::process::{Command, Stdio};
 
 const HEADER: &str = include_str!("../../include/balduqen.h");
 
@@ -23,6 +28,15 @@ struct Asked {
     /// In the order of `KINDS`.
     planners: [Answer; KINDS.len()],
     write_archive: Answer,
+    print_sheets: Answer,
+}
+
+/// The lengths of the buffers that the entries fill, marks apart: words of a scratch, bytes of an
+/// archive and of sheets.
+struct Lengths {
+    scratch: usize,
+    archive: usize,
+    sheets: usize,
 }
 
 impl Asked {
@@ -30,33 +44,37 @@ impl Asked {
     /// for each node where it asks for one.
     fn of(entries: &Entries, table: &[u8]) -> Asked {
         let (count, limit) = (word(table, 0), word(table, 1));
-        let (scratch, archive) = (scratch_length(count, limit), archive_length(count, count));
-        Asked::with(entries, table, &vec![1; count], scratch, archive)
+        let lengths = Lengths {
+            scratch: scratch_length(count, limit),
+            archive: archive_length(count, count),
+            sheets: sheets_length(count),
+        };
+        Asked::with(entries, table, &vec![1; count], &lengths)
     }
 
-    /// Each gets this plan where it asks for one, as many marks to fill, a scratch of so many words
-    /// and an archive of so many bytes.
-    fn with(entries: &Entries, table: &[u8], plan: &[u8], scratch: usize, archive: usize) -> Asked {
+    /// Each gets this plan where it asks for one, as many marks to fill, and other buffers of these
+    /// lengths.
+    fn with(entries: &Entries, table: &[u8], plan: &[u8], lengths: &Lengths) -> Asked {
         let marks = plan.len();
         Asked {
             read_tree: with_copy(table, entries.read_tree),
             judge: with_copy(table, |table| {
                 with_copy(plan, |plan| (entries.judge)(table, plan))
             }),
-            planners: KINDS.map(|kind| make_plan(entries, kind, table, marks, scratch)),
-            write_archive: write_archive(entries, table, plan, archive),
+            planners: KINDS.map(|kind| make_plan(entries, kind, table, marks, lengths.scratch)),
+            write_archive: fill(entries.write_archive, table, plan, lengths.archive),
+            print_sheets: fill(entries.print_sheets, table, plan, lengths.sheets),
         }
     }
 
     fn all(&self) -> Vec<Answer> {
-        let mut all = vec![self.read_tree, self.judge, self.write_archive];
-        all.extend(self.planners);
-        all
+        let of_plan = [self.judge, self.write_archive, self.print_sheets];
+        [&[self.read_tree][..], &of_plan, &self.planners].concat()
     }
 
     fn expect_refused(&self, table: &[u8], number: u32, place: usize) {
         let refusal = Answer::refused(number, place);
-        assert_eq!(self.all(), [refusal; 3 + KINDS.len()], "{}", show(table));
+        assert_eq!(self.all(), [refusal; 4 + KINDS.len()], "{}", show(table));
     }
 
     /// The verdicts of the planners are not looked at.
@@ -65,6 +83,7 @@ impl Asked {
         assert_eq!(self.read_tree, Answer::ACCEPTED, "{}", show(table));
         assert_eq!(self.judge, of_ones, "{}", show(table));
         assert_eq!(self.write_archive, of_ones, "{}", show(table));
+        assert_eq!(self.print_sheets, of_ones, "{}", show(table));
         let planned = self.planners.iter().all(Answer::is_accepted);
         assert!(planned, "{:?}: {}", self.planners, show(table));
     }
@@ -84,15 +103,17 @@ fn make_plan(entries: &Entries, kind: Kind, table: &[u8], marks: usize, scratch:
     answer
 }
 
-fn write_archive(entries: &Entries, table: &[u8], plan: &[u8], archive: usize) -> Answer {
-    let on_entry = vec![7; archive];
-    let mut archive = Lent::new(&on_entry, 0xa5);
+/// An entry that fills a buffer from a table and a plan: the archive's writer or the printer of
+/// sheets.
+type Filler = fn(&[u8], &[u8], &mut [u8]) -> Answer;
+
+fn fill(entry: Filler, table: &[u8], plan: &[u8], length: usize) -> Answer {
+    let on_entry = vec![7; length];
+    let mut lent = Lent::new(&on_entry, 0xa5);
     let answer = with_copy(table, |table| {
-        with_copy(plan, |plan| {
-            (entries.write_archive)(table, plan, archive.slice())
-        })
+        with_copy(plan, |plan| entry(table, plan, lent.slice()))
     });
-    assert_eq!(archive.content() == on_entry, !answer.is_accepted());
+    assert_eq!(lent.content() == on_entry, !answer.is_accepted());
     answer
 }
 
@@ -298,6 +319,7 @@ fn kept_film_is_not_taken_again(entries: &Entries) {
         let count = film.marks.len();
         let scratch = scratch_length(count, word(&film.table, 1));
         let archive = film.archive.len();
+        let sheets = sheets_length(film.verdict.pages as usize);
         // The plan of the film, one page for all, which is mostly too heavy, marks that are not
         // allowed, and other lengths.
         let mut one_page = vec![0; count];
@@ -306,8 +328,18 @@ fn kept_film_is_not_taken_again(entries: &Entries) {
         plans.extend([0, count - 1, count + 1].map(|length| vec![1; length]));
         for plan in &plans {
             for scratch in [0, scratch - 1, scratch] {
-                for archive in [0, archive - 1, archive, archive + 1] {
-                    let asked = Asked::with(entries, &film.table, plan, scratch, archive);
+                for (archive, sheets) in [
+                    (0, 0),
+                    (archive - 1, sheets - 1),
+                    (archive, sheets),
+                    (archive + 1, sheets + 1),
+                ] {
+                    let lengths = Lengths {
+                        scratch,
+                        archive,
+                        sheets,
+                    };
+                    let asked = Asked::with(entries, &film.table, plan, &lengths);
                     asked.expect_refused(&film.table, 14, film.unfiled);
                 }
             }
@@ -379,13 +411,18 @@ fn five_is_never_given(entries: &Entries) {
             false => damaged(random, &table),
         };
         // Buffers for twelve nodes and limit 12, whatever the table's head says.
-        let asked = Asked::with(entries, &table, &[1; 12], 720, 198);
+        let lengths = Lengths {
+            scratch: 720,
+            archive: 198,
+            sheets: 4860,
+        };
+        let asked = Asked::with(entries, &table, &[1; 12], &lengths);
         assert!(asked.all().iter().all(|answer| answer.number != RETIRED));
     }
 }
 
-/// A tree and a plan: the judge and the writer give this verdict, the page records have these
-/// weights, and the reader and the rule sheet get table and marks back.
+/// A tree and a plan: the judge, the writer and the printer give this verdict, the page records and
+/// the sheets have these weights, and the reader and the rule sheet get table and marks back.
 fn on_film(entries: &Entries, table: &[u8], marks: &[u8], weights: &[usize]) {
     let verdict = Answer::accepted(weights.len(), weights[0] as u32);
     assert_eq!((entries.judge)(table, marks), verdict, "{}", show(table));
@@ -403,14 +440,25 @@ fn on_film(entries: &Entries, table: &[u8], marks: &[u8], weights: &[usize]) {
     assert_eq!(told_marks, marks, "{}", show(table));
     let sums: Vec<usize> = told.pages.iter().map(|page| page.sum).collect();
     assert_eq!(sums, weights, "{}", show(table));
+    let mut sheets = vec![7; sheets_length(weights.len())];
+    let answer = (entries.print_sheets)(table, marks, &mut sheets);
+    assert_eq!(answer, verdict, "{}", show(table));
+    let told = read_sheets(&sheets).expect("sound sheets");
+    let printed: Vec<usize> = told.pages.iter().map(|page| page.weight).collect();
+    assert_eq!(printed, weights, "{}", show(table));
+    let limit = word(table, 1);
+    let per_cents = told.pages.iter().map(|page| page.per_cent);
+    assert!(per_cents.eq(weights.iter().map(|weight| 100 * weight / limit)));
 }
 
-/// The judge and the writer find a page over the limit, and nothing is written.
+/// The judge, the writer and the printer find a page over the limit, and nothing is written.
 fn heavy_on_film(entries: &Entries, table: &[u8], marks: &[u8], page: usize) {
     let refusal = Answer::refused(11, page);
     assert_eq!((entries.judge)(table, marks), refusal, "{}", show(table));
     let archive = archive_length(marks.len(), marks.len());
-    let answer = write_archive(entries, table, marks, archive);
+    let answer = fill(entries.write_archive, table, marks, archive);
+    assert_eq!(answer, refusal, "{}", show(table));
+    let answer = fill(entries.print_sheets, table, marks, sheets_length(2));
     assert_eq!(answer, refusal, "{}", show(table));
 }
 
@@ -549,7 +597,7 @@ fn numbers_of_the_header() {
     assert!(HEADER.contains(&format!("Number {RETIRED} is retired and never given")));
 }
 
-/// The header declares the ten doors, each once.
+/// The header declares the eleven doors, each once.
 #[test]
 fn functions_of_the_header() {
     let declared: Vec<&str> = HEADER
@@ -571,8 +619,82 @@ fn functions_of_the_header() {
         "plan_depth_first",
         "write_archive",
         "read_archive",
+        "print_sheets",
     ];
     assert_eq!(declared, doors);
+}
+
+/// Has a C compiler look at declarations after the header.
+fn compile(declarations: &str) {
+    let mut compiler = Command::new("gcc")
+        .args(["-std=c11", "-Wall", "-Wextra", "-Werror", "-fsyntax-only"])
+        .args(["-I../include", "-x", "c", "-"])
+        .stdin(Stdio::piped())
+        .spawn()
+        .expect("a C compiler");
+    let mut input = compiler.stdin.take().expect("its input");
+    let source = format!("#include \"balduqen.h\"\n{declarations}");
+    input.write_all(source.as_bytes()).expect("a source");
+    drop(input);
+    assert!(compiler.wait().expect("its end").success());
+}
+
+/// As a C compiler reads them, the header's macros for lengths give what the entries ask for.
+#[test]
+fn lengths_of_the_header() {
+    let mut asserts = String::new();
+    let mut agree = |text: &str, length: usize| {
+        asserts += &format!("_Static_assert({text} == {length}, \"{text}\");\n");
+    };
+    let ends = [1, 2, 6, 57, 58, 59, 116, 117, 1023, 1024];
+    for count in ends {
+        agree(&format!("BALDUQEN_TABLE_LENGTH({count})"), 4 + 8 * count);
+        for other in ends {
+            let text = format!("BALDUQEN_SCRATCH_LENGTH({count}, {other})");
+            agree(&text, scratch_length(count, other));
+            let text = format!("BALDUQEN_ARCHIVE_LENGTH({other}, {count})");
+            agree(&text, archive_length(other, count));
+        }
+    }
+    for pages in 1..=MAX_NODES {
+        let text = format!("BALDUQEN_SHEETS_LENGTH({pages})");
+        agree(&text, sheets_length(pages));
+    }
+    // What is handed to a macro need not be a single number.
+    agree("BALDUQEN_SHEETS_LENGTH(1 ? 58 : 59)", 4860);
+    agree("BALDUQEN_SHEETS_LENGTH(59) / 2", 4860);
+    agree("BALDUQEN_MAX_NODES", MAX_NODES);
+    agree("BALDUQEN_MAX_LIMIT", MAX_LIMIT);
+    compile(&asserts);
+}
+
+/// The header declares what the tests call: a C compiler takes the same declarations again, and
+/// would not take others.
+#[test]
+fn declarations_of_the_header() {
+    let (read, filled, scratch) = ("const uint8_t *", "uint8_t *", "uint32_t *");
+    let mut again = String::new();
+    let mut declare = |name: &str, buffers: &[&str]| {
+        let list = buffers.join(", size_t, ");
+        again += &format!("balduqen_answer balduqen_{name}({list}, size_t);\n");
+    };
+    declare("read_tree", &[read]);
+    declare("judge", &[read, read]);
+    for kind in [
+        "best",
+        "level",
+        "single",
+        "pair",
+        "rightmost",
+        "depth_first",
+    ] {
+        declare(&format!("plan_{kind}"), &[read, filled, scratch]);
+    }
+    declare("write_archive", &[read, read, filled]);
+    declare("read_archive", &[read, filled, filled]);
+    declare("print_sheets", &[read, read, filled]);
+    again += "_Static_assert(sizeof(balduqen_answer) == 16, \"four words\");\n";
+    compile(&again);
 }
 
 macro_rules! tests_of_entries {

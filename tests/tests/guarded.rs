@@ -9,7 +9,8 @@ use balduqen_tests::gen::*;
 use balduqen_tests::guarded::{Guarded, Side, SIDES};
 use balduqen_tests::kept::{kept, kept_filed};
 use balduqen_tests::model::{
-    self, archive_bytes, archive_length, read, scratch_length, word, Answer, MAX_NODES,
+    self, archive_bytes, archive_length, read, scratch_length, sheets_length, word, Answer,
+    MAX_NODES,
 };
 use std::env;
 use std::os::unix::process::ExitStatusExt;
@@ -71,6 +72,20 @@ fn write_archive(table: &[u8], marks: &[u8], archive: &[u8]) -> Answer {
     expected
 }
 
+fn print_sheets(table: &[u8], marks: &[u8], sheets: &[u8]) -> Answer {
+    let mut model_sheets = sheets.to_vec();
+    let expected = model::print_sheets(table, marks, &mut model_sheets);
+    for side in SIDES {
+        let table = Guarded::read_only(table, side);
+        let marks = Guarded::read_only(marks, side);
+        let mut sheets = Guarded::new(sheets, side);
+        let answer = ffi::print_sheets(table.content(), marks.content(), sheets.slice());
+        assert_eq!(answer, expected, "{}", show(table.content()));
+        assert!(sheets.content() == model_sheets);
+    }
+    expected
+}
+
 fn read_archive(archive: &[u8], table: &[u8], marks: &[u8]) -> Answer {
     let (mut model_table, mut model_marks) = (table.to_vec(), marks.to_vec());
     let expected = model::read_archive(archive, &mut model_table, &mut model_marks);
@@ -90,8 +105,9 @@ fn read_archive(archive: &[u8], table: &[u8], marks: &[u8]) -> Answer {
 fn hand_to_all(table: &[u8], marks: &[u8], limit: usize) -> Answer {
     let verdict = judge(table, marks);
     plan_of_each_kind(table, marks, &vec![7; scratch_length(marks.len(), limit)]);
-    let length = archive_length(verdict.pages as usize, marks.len());
-    write_archive(table, marks, &vec![7; length]);
+    let pages = verdict.pages as usize;
+    write_archive(table, marks, &vec![7; archive_length(pages, marks.len())]);
+    print_sheets(table, marks, &vec![7; sheets_length(pages)]);
     read_tree(table)
 }
 
@@ -109,6 +125,7 @@ fn hand_in_all_lengths(table: &[u8], marks: &[u8], limit: usize) -> Answer {
         judge(table, &marks);
         plan_of_each_kind(table, &marks, &scratch);
         write_archive(table, &marks, &vec![7; archive_length(length, length)]);
+        print_sheets(table, &marks, &vec![7; sheets_length(length)]);
     }
     for length in other_lengths(scratch.len()) {
         plan_of_each_kind(table, marks, &vec![7; length]);
@@ -116,6 +133,9 @@ fn hand_in_all_lengths(table: &[u8], marks: &[u8], limit: usize) -> Answer {
     let pages = model::judge(table, marks).pages as usize;
     for length in other_lengths(archive_length(pages, marks.len())) {
         write_archive(table, marks, &vec![7; length]);
+    }
+    for length in other_lengths(sheets_length(pages.max(1))) {
+        print_sheets(table, marks, &vec![7; length]);
     }
     hand_to_all(table, marks, limit)
 }

@@ -8,5 +8,7 @@ mod planners;
 mod read_archive;
 #[path = "library/read_tree.rs"]
 mod read_tree;
+#[path = "library/sheets.rs"]
+mod sheets;
 #[path = "library/write_archive.rs"]
 mod write_archive;

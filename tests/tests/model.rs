@@ -11,6 +11,8 @@ mod planners;
 mod plans;
 #[path = "model/quick.rs"]
 mod quick;
+#[path = "model/sheets.rs"]
+mod sheets;
 #[path = "model/tree.rs"]
 mod tree;
 

@@ -5,7 +5,7 @@
 use balduqen_tests::cases::KINDS;
 use balduqen_tests::entries::LIBRARY;
 use balduqen_tests::gen::*;
-use balduqen_tests::model::{archive_length, scratch_length, Answer, MAX_NODES};
+use balduqen_tests::model::{archive_length, scratch_length, sheets_length, Answer, MAX_NODES};
 use balduqen_tests::stack::stack_used;
 use std::hint::black_box;
 
@@ -49,6 +49,9 @@ fn every_entry() {
             let mut back = vec![0; table.len()];
             let read = LIBRARY.read_archive;
             within_stack("read", || read(&archive, &mut back, &mut marks));
+            let mut sheets = vec![0; sheets_length(judged.pages as usize)];
+            let print = LIBRARY.print_sheets;
+            within_stack("print", || print(&table, &marks, &mut sheets));
         }
     }
 }

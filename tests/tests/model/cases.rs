@@ -35,21 +35,25 @@ fn tables_refused_by_every_entry() {
             assert_eq!(kind.model()(&table, &mut marks, &mut scratch), refusal);
             assert_eq!((marks, scratch), ([7; 2], [7; 2]));
         }
-        let mut archive = [7; 2];
-        assert_eq!(write_archive(&table, &[], &mut archive), refusal);
-        assert_eq!(archive, [7; 2]);
+        for fill in [write_archive, print_sheets] {
+            let mut filled = [7; 2];
+            assert_eq!(fill(&table, &[], &mut filled), refusal);
+            assert_eq!(filled, [7; 2]);
+        }
     }
 }
 
 #[test]
-fn marks_refused_by_judge_and_writer() {
+fn marks_refused_by_judge_writer_and_printer() {
     let table = case_e().bytes();
     for (marks, number, place) in refused_marks() {
         let refusal = Answer::refused(number, place);
         assert_eq!(judge(&table, &marks), refusal);
-        let mut archive = [7; 2];
-        assert_eq!(write_archive(&table, &marks, &mut archive), refusal);
-        assert_eq!(archive, [7; 2]);
+        for fill in [write_archive, print_sheets] {
+            let mut filled = [7; 2];
+            assert_eq!(fill(&table, &marks, &mut filled), refusal);
+            assert_eq!(filled, [7; 2]);
+        }
     }
 }
 
