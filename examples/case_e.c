@@ -1,4 +1,5 @@
-/* Plans case E, writes its archive, lists the pages off the archive's bytes and reads it back.
+/* Plans case E, writes its archive, lists the pages off the archive's bytes, reads it back and prints
+ * the first lines of its leader sheet.
  *
  *   gcc -std=c11 -Wall -Wextra -Werror -Iinclude examples/case_e.c -o case_e LIB/libembed.a
  *
@@ -14,6 +15,7 @@ enum { NODES = 6, LIMIT = 5 };
 enum { TABLE = BALDUQEN_TABLE_LENGTH(NODES), SCRATCH = BALDUQEN_SCRATCH_LENGTH(NODES, LIMIT) };
 /* Every plan fits, since none has more pages than nodes. */
 enum { MOST_ARCHIVE = BALDUQEN_ARCHIVE_LENGTH(NODES, NODES) };
+enum { MOST_SHEETS = BALDUQEN_SHEETS_LENGTH(NODES), LINE = 81 };
 
 /* N and K, then weight, label, first child and next sibling of each node. */
 static const uint8_t table[TABLE] = {
@@ -80,6 +82,19 @@ static bool read_back(const uint8_t *archive, size_t length, const uint8_t *mark
     return same_table && same_marks && same_verdict("read", planned, read.pages, read.root);
 }
 
+/* The leader sheet's line 1 and the lines of its pages; a plan of so few pages has one sheet. */
+static bool print_sheet(const uint8_t *marks, balduqen_answer planned)
+{
+    uint8_t sheets[MOST_SHEETS] = {0};
+    size_t length = BALDUQEN_SHEETS_LENGTH(planned.pages);
+    balduqen_answer printed = balduqen_print_sheets(table, TABLE, marks, NODES, sheets, length);
+    if (!accepted("print", printed) ||
+        !same_verdict("print", planned, printed.pages, printed.root))
+        return false;
+    fwrite(sheets, LINE, 1 + planned.pages, stdout);
+    return true;
+}
+
 static bool run(void)
 {
     uint8_t marks[NODES] = {0};
@@ -97,7 +112,7 @@ static bool run(void)
         return false;
 
     list_pages(archive);
-    return read_back(archive, length, marks, planned);
+    return read_back(archive, length, marks, planned) && print_sheet(marks, planned);
 }
 
 int main(void)

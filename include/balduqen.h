@@ -58,7 +58,8 @@ extern "C" {
 #define BALDUQEN_MAX_LIMIT 1024
 
 /* The bytes of stack that a call uses at most, on x86-64. As measured: balduqen_read_archive 76 KiB,
- * balduqen_write_archive 43, the planners and the judge 27, balduqen_read_tree 3. */
+ * balduqen_write_archive 43, balduqen_print_sheets 39, the planners 37, the judge 27,
+ * balduqen_read_tree 3. */
 #define BALDUQEN_STACK 98304
 
 /* Buffer lengths: bytes of a table, 32-bit words of a planner's scratch, bytes of an archive and of
