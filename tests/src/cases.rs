@@ -4,7 +4,8 @@
 use crate::ffi;
 use crate::gen::Table;
 use crate::model::{
-    plan_best, plan_depth_first, plan_level, plan_pair, plan_rightmost, plan_single, Planner,
+    plan_best, plan_depth_first, plan_level, plan_pair, plan_rightmost, plan_single, word, Answer,
+    Planner,
 };
 
 #[derive(Clone, Copy, Debug, PartialEq, Eq)]
@@ -591,6 +592,38 @@ pub fn refused_marks() -> Vec<(Vec<u8>, u32, usize)> {
         (vec![1, 2, 0, 0, 0, 0], 10, 2),
         (vec![1, 0, 0, 0, 0, 0], 11, 1),
     ]
+}
+
+/// Each of `faulty_tables` with marks that have a fault and with E's best plan, which has none, and
+/// the judge's answer: E's verdict where nothing is wrong, also where node 4 is a note.
+pub fn faulty_plans() -> Vec<(Vec<u8>, &'static [u8], Answer)> {
+    let plans: [(&[u8], Answer); 5] = [
+        (&[9, 9, 9, 9, 9], Answer::refused(8, 6)),
+        (&[1, 0, 0, 0, 0, 0, 0], Answer::refused(8, 6)),
+        (&[1, 0, 0, 0, 0, 3], Answer::refused(10, 6)),
+        (&[1, 0, 0, 0, 0, 0], Answer::refused(11, 1)),
+        (&MARKS_OF_E, Answer::accepted(3, 5)),
+    ];
+    let of_table = |(table, number, place): (Vec<u8>, u32, usize)| {
+        plans.map(|(marks, of_marks)| match number {
+            0 => (table.clone(), marks, of_marks),
+            _ => (table.clone(), marks, Answer::refused(number, place)),
+        })
+    };
+    faulty_tables().into_iter().flat_map(of_table).collect()
+}
+
+/// Each of `once_refused_tables` with a page for each node, and the judge's answer.
+pub fn once_refused_plans() -> Vec<(Vec<u8>, Vec<u8>, Answer)> {
+    let of_table = |(table, number, place): (Vec<u8>, u32, usize)| {
+        let marks = vec![1; word(&table, 0)];
+        let answer = match number {
+            0 => Answer::accepted(marks.len(), word(&table, 2) as u32),
+            _ => Answer::refused(number, place),
+        };
+        (table, marks, answer)
+    };
+    once_refused_tables().into_iter().map(of_table).collect()
 }
 
 /// The best plan of case E.

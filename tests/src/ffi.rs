@@ -60,31 +60,30 @@ planner!(plan_best, balduqen_plan_best);
 planner!(plan_rightmost, balduqen_plan_rightmost);
 planner!(plan_depth_first, balduqen_plan_depth_first);
 
-pub fn write_archive(table: &[u8], marks: &[u8], archive: &mut [u8]) -> Answer {
-    extern "C" {
-        fn balduqen_write_archive(
-            table: *const u8,
-            table_length: usize,
-            marks: *const u8,
-            marks_length: usize,
-            archive: *mut u8,
-            archive_length: usize,
-        ) -> Answer;
-    }
-    let (table, table_length) = (table.as_ptr(), table.len());
-    let (marks, marks_length) = (marks.as_ptr(), marks.len());
-    let (archive, archive_length) = (archive.as_mut_ptr(), archive.len());
-    unsafe {
-        balduqen_write_archive(
-            table,
-            table_length,
-            marks,
-            marks_length,
-            archive,
-            archive_length,
-        )
-    }
+/// An entry that judges a plan and fills a buffer.
+macro_rules! writer {
+    ($name:ident, $entry:ident) => {
+        pub fn $name(table: &[u8], marks: &[u8], out: &mut [u8]) -> Answer {
+            extern "C" {
+                fn $entry(
+                    table: *const u8,
+                    table_length: usize,
+                    marks: *const u8,
+                    marks_length: usize,
+                    out: *mut u8,
+                    out_length: usize,
+                ) -> Answer;
+            }
+            let (table, table_length) = (table.as_ptr(), table.len());
+            let (marks, marks_length) = (marks.as_ptr(), marks.len());
+            let (out, out_length) = (out.as_mut_ptr(), out.len());
+            unsafe { $entry(table, table_length, marks, marks_length, out, out_length) }
+        }
+    };
 }
+
+writer!(write_archive, balduqen_write_archive);
+writer!(print_sheets, balduqen_print_sheets);
 
 pub fn read_archive(archive: &[u8], table: &mut [u8], marks: &mut [u8]) -> Answer {
     extern "C" {
@@ -108,32 +107,6 @@ pub fn read_archive(archive: &[u8], table: &mut [u8], marks: &mut [u8]) -> Answe
             table_length,
             marks,
             marks_length,
-        )
-    }
-}
-
-pub fn print_sheets(table: &[u8], marks: &[u8], sheets: &mut [u8]) -> Answer {
-    extern "C" {
-        fn balduqen_print_sheets(
-            table: *const u8,
-            table_length: usize,
-            marks: *const u8,
-            marks_length: usize,
-            sheets: *mut u8,
-            sheets_length: usize,
-        ) -> Answer;
-    }
-    let (table, table_length) = (table.as_ptr(), table.len());
-    let (marks, marks_length) = (marks.as_ptr(), marks.len());
-    let (sheets, sheets_length) = (sheets.as_mut_ptr(), sheets.len());
-    unsafe {
-        balduqen_print_sheets(
-            table,
-            table_length,
-            marks,
-            marks_length,
-            sheets,
-            sheets_length,
         )
     }
 }

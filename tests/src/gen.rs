@@ -463,6 +463,14 @@ fn plan_that_begins(
     marks
 }
 
+/// A feasible plan or, once in four, any allowed marks.
+pub fn any_plan(random: &mut Random, tree: &Tree) -> Vec<u8> {
+    match random.once_in(4) {
+        true => random_plan(random, tree, 3),
+        false => feasible_plan(random, tree),
+    }
+}
+
 /// A feasible plan: random marks, with cuts added until no page is over the limit.
 pub fn feasible_plan(random: &mut Random, tree: &Tree) -> Vec<u8> {
     let rare = random.pick(&[1, 2, 5, 50]);

@@ -39,12 +39,7 @@ fn cases() {
     for (table, number, place) in refused_tables() {
         assert_eq!(judge(&table, &[]), Answer::refused(number, place));
     }
-    for (table, number, place) in once_refused_tables() {
-        let marks = vec![1; word(&table, 0)];
-        let expected = match number {
-            0 => Answer::accepted(marks.len(), word(&table, 2) as u32),
-            _ => Answer::refused(number, place),
-        };
+    for (table, marks, expected) in once_refused_plans() {
         assert_eq!(judge(&table, &marks), expected);
     }
 }
@@ -52,19 +47,8 @@ fn cases() {
 /// Case E with a fault for any selection of the numbers 1 to 4, 6 to 8, 10, 11 and 14.
 #[test]
 fn order_of_the_checks() {
-    for (table, number, place) in faulty_tables() {
-        for (marks, of_marks, place_of_marks) in [
-            (&[9, 9, 9, 9, 9][..], 8, 6),
-            (&[1, 0, 0, 0, 0, 0, 0][..], 8, 6),
-            (&[1, 0, 0, 0, 0, 3][..], 10, 6),
-            (&[1, 0, 0, 0, 0, 0][..], 11, 1),
-        ] {
-            let refusal = match number {
-                0 => Answer::refused(of_marks, place_of_marks),
-                _ => Answer::refused(number, place),
-            };
-            assert_eq!(judge(&table, marks), refusal);
-        }
+    for (table, marks, expected) in faulty_plans() {
+        assert_eq!(judge(&table, marks), expected);
     }
 }
 

@@ -92,27 +92,15 @@ fn cases() {
 /// last, and what is refused is refused whatever the buffer's length.
 #[test]
 fn order_of_the_checks() {
-    for (table, number, place) in faulty_tables() {
-        for (marks, of_marks, place_of_marks) in [
-            (&[9, 9, 9, 9, 9][..], 8, 6),
-            (&[1, 0, 0, 0, 0, 3][..], 10, 6),
-            (&[1, 0, 0, 0, 0, 0][..], 11, 1),
-            (&MARKS_OF_E[..], 12, 4860),
-        ] {
-            let refusal = match number {
-                0 => Answer::refused(of_marks, place_of_marks),
-                _ => Answer::refused(number, place),
-            };
-            for length in other_lengths(4860) {
-                assert_eq!(print_sheets(&table, marks, &pattern(length)).0, refusal);
-            }
-            // The verdict is that of case E also where node 4 is a note.
-            let expected = match refusal.number {
-                12 => Answer::accepted(3, 5),
-                _ => refusal,
-            };
-            assert_eq!(print_sheets(&table, marks, &pattern(4860)).0, expected);
+    for (table, marks, judged) in faulty_plans() {
+        let refusal = match judged.number {
+            0 => Answer::refused(12, 4860),
+            _ => judged,
+        };
+        for length in other_lengths(4860) {
+            assert_eq!(print_sheets(&table, marks, &pattern(length)).0, refusal);
         }
+        assert_eq!(print_sheets(&table, marks, &pattern(4860)).0, judged);
     }
     for (table, number, place) in refused_tables() {
         for length in [0, 4860] {
@@ -121,12 +109,7 @@ fn order_of_the_checks() {
         }
     }
     // Trees that were refused while a weight of 0 was are printed, if nothing else is wrong.
-    for (table, number, place) in once_refused_tables() {
-        let marks = vec![1; word(&table, 0)];
-        let expected = match number {
-            0 => Answer::accepted(marks.len(), word(&table, 2) as u32),
-            _ => Answer::refused(number, place),
-        };
+    for (table, marks, expected) in once_refused_plans() {
         assert_eq!(print_sheets(&table, &marks, &pattern(4860)).0, expected);
     }
 }
@@ -311,10 +294,7 @@ fn random_plans() {
         let limit = random.pick(&[3, 60, 1024]);
         let table = any_table(random, most, limit).bytes();
         let tree = read(&table).expect("an accepted table");
-        let marks = match random.once_in(4) {
-            true => random_plan(random, &tree, 3),
-            false => feasible_plan(random, &tree),
-        };
+        let marks = any_plan(random, &tree);
         let length = right_length(&table, &marks);
         let length = random.pick(&[length, length, length - 1, length + 81, length + 4860]);
         let on_entry = random.bytes(length);

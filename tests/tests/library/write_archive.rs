@@ -54,20 +54,13 @@ fn case_e_and_its_plan() {
 /// Case E with a fault for any selection of the numbers 1 to 4, 6 to 8, 10, 11, 12 and 14.
 #[test]
 fn order_of_the_checks() {
-    for (table, number, place) in faulty_tables() {
-        for (marks, of_marks, place_of_marks) in [
-            (&[9, 9, 9, 9, 9][..], 8, 6),
-            (&[1, 0, 0, 0, 0, 3][..], 10, 6),
-            (&[1, 0, 0, 0, 0, 0][..], 11, 1),
-            (&MARKS_OF_E[..], 12, 78),
-        ] {
-            let refusal = match number {
-                0 => Answer::refused(of_marks, place_of_marks),
-                _ => Answer::refused(number, place),
-            };
-            for length in [0, 77] {
-                assert_eq!(write_archive(&table, marks, &vec![7; length]).0, refusal);
-            }
+    for (table, marks, judged) in faulty_plans() {
+        let refusal = match judged.number {
+            0 => Answer::refused(12, 78),
+            _ => judged,
+        };
+        for (length, expected) in [(0, refusal), (77, refusal), (78, judged)] {
+            assert_eq!(write_archive(&table, marks, &vec![7; length]).0, expected);
         }
     }
     for (table, number, place) in refused_tables() {
@@ -77,12 +70,7 @@ fn order_of_the_checks() {
         );
     }
     // Trees that were refused while a weight of 0 was are written, if nothing else is wrong.
-    for (table, number, place) in once_refused_tables() {
-        let marks = vec![1; word(&table, 0)];
-        let expected = match number {
-            0 => Answer::accepted(marks.len(), word(&table, 2) as u32),
-            _ => Answer::refused(number, place),
-        };
+    for (table, marks, expected) in once_refused_plans() {
         let length = archive_length(marks.len(), marks.len());
         assert_eq!(write_archive(&table, &marks, &vec![7; length]).0, expected);
     }
@@ -127,10 +115,7 @@ fn random_plans() {
         let most = if round % 50 == 0 { 1024 } else { 30 };
         let table = any_table(random, most, 60).bytes();
         let tree = read(&table).expect("an accepted table");
-        let marks = match random.once_in(4) {
-            true => random_plan(random, &tree, 3),
-            false => feasible_plan(random, &tree),
-        };
+        let marks = any_plan(random, &tree);
         let length = right_length(&table, &marks);
         let length = random.pick(&[length, length, length - 1, length + 1, length - 8]);
         let archive = random.bytes(length);
