@@ -1,9 +1,9 @@
 -- The answers of the archive's writer, with 14 or without, and of its reader, case by case, and what each tells.
 -- writeFrom is the writer that goes on from the answer of whatever judged the tree: the reader judges its tree without
 -- 14, which the writer's entry does not.
--- Defines writeFrom, writeWith, WriteDone. Proves film-short, film-long; write-entry, write-done, write-kept, writer-done,
--- writer-refused; unfiled-stops; read-none, read-table, read-marks, read-done, reader-done, read-thirteen. Assumes
--- nothing.
+-- Defines writeFrom, writeWith, WriteDone. Proves film-short, film-long; write-entry, write-done, write-kept,
+-- writer-done, writer-refused; unfiled-stops; read-none, read-table, read-marks, read-done, reader-done,
+-- read-thirteen. Assumes nothing.
 use Prim.Native.Nat.{ℕ, _≤_}
 use native.Mathlib.Omega.{arith}
 use mathlib.Core.Bool.{Bool, true, false, not, _&&_}
@@ -27,7 +27,8 @@ use Rattle.theory.specs.Checks.{Pass, pass-all, firstOf-all, Never, neve
 use Rattle.theory.specs.Checks.{firstOf-append}
 use Rattle.theory.specs.JudgeAnswers.{treeAnswer}
 use Rattle.theory.specs.Outputs.{outcome, outcome-stop, outcome-next, outcome-none, unequal, equal, outputFrom}
-use Rattle.theory.specs.Outputs.{short-output, long-output, outputWith, with-entry, with-done, with-wrote, with-kept}
+use Rattle.theory.specs.Outputs.{short-output, long-output, outputWith, with-entry, with-done, with-wrote}
+use Rattle.theory.specs.Outputs.{with-kept}
 use Rattle.theory.specs.PlanFeasible.{Judged, feasibleWith, with-judged, unfiled-judged}
 use Rattle.theory.specs.PlanFeasible.{judged-zero, label-stops}
 use Rattle.theory.specs.ArchiveWords.{Described, length-archive}

@@ -24,7 +24,8 @@ use Rattle.theory.specs.Checks.{Never}
 use Rattle.theory.specs.JudgeAnswers.{with-labels, pageCount-le}
 use Rattle.theory.specs.PlanFeasible.{Judged, feasible-judged, judged-verdict}
 use Rattle.theory.specs.PagesByNumber.{lastOnPage, first-found, last-found}
-use Rattle.theory.specs.Outputs.{outputFrom, short-output, long-output, with-entry, with-done, with-wrote, with-kept}
+use Rattle.theory.specs.Outputs.{outputFrom, short-output, long-output, with-entry, with-done, with-wrote}
+use Rattle.theory.specs.Outputs.{with-kept}
 use Rattle.theory.specs.SheetsRead.{sheet-numbers, PageFits, tells-number, tells-first, tells-last, tells-weight}
 use Rattle.theory.specs.SheetsRead.{tells-share}
 use Rattle.theory.specs.PromiseWeight.{print-weight}
@@ -80,7 +81,7 @@ module _ {t m : List ℕ} (j : Judged t m) where
 
 module _ (t m out : List ℕ) where
   -- the printer that goes on from the answer of what judged the tree
-  abbrev pub printFrom : Answer → Written
+  abbrev printFrom : Answer → Written
   printFrom = outputFrom t m (sheetsOf t m) out (sheetChecks t m out)
 
   sheet-never : Never 0 (sheetChecks t m out) × Never 14 (sheetChecks t m out)
@@ -105,7 +106,8 @@ module _ (t m out : List ℕ) where
   -- ---- The promise
 
   wrote : printSheets t m out .answer .number ≡ 0
-      → (feasiblePlan t m ≡ true) × (printSheets t m out ≡ record { answer = answerOf (verdictOf t m); output = sheetsOf t m })
+      → (feasiblePlan t m ≡ true)
+      × (printSheets t m out ≡ record { answer = answerOf (verdictOf t m); output = sheetsOf t m })
   unfolding printSheets printChecks feasiblePlan pick
   wrote z = with-wrote true t m (sheetsOf t m) out _ sheet-never z
 

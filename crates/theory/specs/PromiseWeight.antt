@@ -82,7 +82,8 @@ module _ (t m : List ℕ) where
   judge-weight = tree-weight t (markChecks t m) (verdictOf t m) (mark-plain t m .1) (mark-plain t m .2)
 
   -- an entry that checks more after the judge
-  judge-more : (cs : List Check) → Plain cs → WeightPromise t (firstOf (judgeChecks t m ++ cs) (answerOf (verdictOf t m)))
+  judge-more : (cs : List Check) → Plain cs
+      → WeightPromise t (firstOf (judgeChecks t m ++ cs) (answerOf (verdictOf t m)))
   unfolding judgeChecks
   judge-more cs more =
       let plain = plain-append (markChecks t m) cs (mark-plain t m) more in

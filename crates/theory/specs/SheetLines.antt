@@ -13,9 +13,9 @@ use lib.Dec.{eqb, ltb, leb}
 use borrow.Author.Tests.{ne-eqb, eqb-false, ltb-true, ltb-false, leb-true, le-leb, lt-leb}
 use Rattle.model.specs.Basics.{pick}
 use Rattle.model.specs.Decimal.{decimalTo, bytes}
-use Rattle.model.specs.Sheets.{columns, lineLength, sheetLines, sheetPages, sheetBytes, sheetCount, blank, blanks, field}
-use Rattle.model.specs.Sheets.{lineWith, firstLine, lastLine, PageFigures, perCent, lineForPage, lineAt, sheetAt, sheetsBy}
-use Rattle.model.specs.Sheets.{valueFrom}
+use Rattle.model.specs.Sheets.{columns, lineLength, sheetLines, sheetPages, sheetBytes, sheetCount, blank, blanks}
+use Rattle.model.specs.Sheets.{field, lineWith, firstLine, lastLine, PageFigures, perCent, lineForPage, lineAt}
+use Rattle.model.specs.Sheets.{sheetAt, sheetsBy, valueFrom}
 use Rattle.theory.specs.Ranges.{Upto, pick-true, pick-false, pick-both, listTo-cong}
 use Rattle.theory.specs.Decimals.{no-digits, one-digit, more-digits, digits-most}
 use Rattle.theory.specs.Put.{length-recordsTo}

@@ -11,8 +11,8 @@ use lib.Seq.{length-take-le, take-all, take-append-le, drop-append-le, drop-at, 
 use Rattle.model.specs.Basics.{listTo}
 use Rattle.model.specs.Decimal.{bytes}
 use Rattle.model.specs.Sheets.{columns, lineLength, sheetLines, sheetBytes, sheetCount, blanks, field}
-use Rattle.model.specs.Sheets.{lineWith, firstLine, lastLine, PageFigures, perCent, lineForPage, lineAt, sheetAt, sheetsBy}
-use Rattle.model.specs.Sheets.{valueFrom, numberIn, sheetNumber, lineNumber}
+use Rattle.model.specs.Sheets.{lineWith, firstLine, lastLine, PageFigures, perCent, lineForPage, lineAt, sheetAt}
+use Rattle.model.specs.Sheets.{sheetsBy, valueFrom, numberIn, sheetNumber, lineNumber}
 use Rattle.theory.specs.Put.{length-recordsTo, getD-recordsTo}
 use Rattle.theory.specs.SheetLines.{length-field, value-field, length-more, length-lineAt, length-sheetAt}
 use Rattle.theory.specs.SheetLines.{first-line, last-line, page-line}
