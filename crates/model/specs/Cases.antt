@@ -23,7 +23,7 @@ use Rattle.model.specs.Runs.{Run, holds, withinLimit, runsOf, runCount, 
 use Rattle.model.specs.Steps.{Child, stopsAt}
 use Rattle.model.specs.Archive.{firstEdition, archiveOf}
 use Rattle.model.specs.Decimal.{bytes}
-use Rattle.model.specs.Sheets.{sheetPages, sheetCount, lineWith, perCent, lineAt, numberIn}
+use Rattle.model.specs.Sheets.{sheetCount, lineWith, perCent, lineAt, numberIn}
 use Rattle.model.specs.Refusals.{refusedForWeight, readTree, judgePlan, planBest, planLevel, planSingle}
 use Rattle.model.specs.Refusals.{planPair, writeArchive, writeUnfiled, Written, readArchive, scratchWords}
 use Rattle.model.specs.Refusals.{Planned, planRightmost, planDepthFirst, printSheets}
@@ -296,6 +296,31 @@ stops-hold = refl
 
 -- ---- Leader sheets
 
+-- Lines of two sheets, of 59 pages: page p is node p by itself, of weight p less 1 in the limit 58. The page count is
+-- the plan's on both, page 58 ends the first and page 59 begins the second, and a page line after the last is blank.
+abbrev lineOf59 : ℕ → ℕ → List ℕ
+lineOf59 s l = lineAt 59 58 (λ p. record { first = p; last = p; weight = p - 1 }) s l
+
+pub twoSheets : List Bool
+twoSheets =
+    sameList (lineOf59 1 1) (lineWith (bytes "PAGES     59"))
+    ∷ sameList (lineOf59 2 1) (lineWith (bytes "PAGES     59"))
+    ∷ sameList (lineOf59 1 2) (lineWith (bytes "     1     1     1     0   0"))
+    ∷ sameList (lineOf59 1 59) (lineWith (bytes "    58    58    58    57  98"))
+    ∷ sameList (lineOf59 1 60) (lineWith (bytes "     1"))
+    ∷ sameList (lineOf59 2 2) (lineWith (bytes "    59    59    59    58 100"))
+    ∷ sameList (lineOf59 2 3) (lineWith [])
+    ∷ sameList (lineOf59 2 60) (lineWith (bytes "     2"))
+    ∷ sameList (lineWith []) (replicate 80 32 ++ 10 ∷ [])
+    ∷ sameList (sheetCount 1 ∷ sheetCount 57 ∷ sheetCount 58 ∷ sheetCount 59 ∷ sheetCount 116 ∷ sheetCount 117 ∷ [])
+    (1 ∷ 1 ∷ 1 ∷ 2 ∷ 2 ∷ 3 ∷ [])
+    ∷ sameList (perCent 2 3 ∷ perCent 1023 1024 ∷ perCent 1024 1024 ∷ perCent 1 1024 ∷ []) (66 ∷ 99 ∷ 100 ∷ 0 ∷ [])
+    ∷ []
+
+pub two-sheets-hold : every computed twoSheets ≡ true
+unfolding computed twoSheets
+two-sheets-hold = refl
+
 -- E's sheet: its best plan has three pages
 abbrev sheetE : List ℕ
 sheetE =
@@ -303,7 +328,7 @@ sheetE =
     ++ lineWith (bytes "     1     1     1     5 100")
     ++ lineWith (bytes "     2     2     6     4  80")
     ++ lineWith (bytes "     3     4     5     4  80")
-    ++ listTo (sheetPages - 3) (λ p. lineWith [])
+    ++ listTo 55 (λ p. lineWith [])
     ++ lineWith (bytes "     1")
 
 -- the judge's refusals, then 12; on refusal the output is kept
@@ -324,32 +349,6 @@ printing =
 pub printing-hold : every computed printing ≡ true
 unfolding computed printing
 printing-hold = refl
-
--- Lines of two sheets, of 59 pages: page p is node p by itself, of weight p less 1 in the limit 58. The page count is
--- the plan's on both, page 58 ends the first and page 59 begins the second, and a page line after the last is blank.
-abbrev lineOf59 : ℕ → ℕ → List ℕ
-lineOf59 s l = lineAt 59 58 (λ p. record { first = p; last = p; weight = p - 1 }) s l
-
-pub twoSheets : List Bool
-twoSheets =
-    sameList (lineOf59 1 1) (lineWith (bytes "PAGES     59"))
-    ∷ sameList (lineOf59 2 1) (lineWith (bytes "PAGES     59"))
-    ∷ sameList (lineOf59 1 2) (lineWith (bytes "     1     1     1     0   0"))
-    ∷ sameList (lineOf59 1 59) (lineWith (bytes "    58    58    58    57  98"))
-    ∷ sameList (lineOf59 1 60) (lineWith (bytes "     1"))
-    ∷ sameList (lineOf59 2 2) (lineWith (bytes "    59    59    59    58 100"))
-    ∷ sameList (lineOf59 2 3) (lineWith [])
-    ∷ sameList (lineOf59 2 60) (lineWith (bytes "     2"))
-    ∷ sameList (lineWith [])
-    (replicate 80 32 ++ 10 ∷ [])
-    ∷ sameList (sheetCount 1 ∷ sheetCount 57 ∷ sheetCount 58 ∷ sheetCount 59 ∷ sheetCount 116 ∷ sheetCount 117 ∷ [])
-    (1 ∷ 1 ∷ 1 ∷ 2 ∷ 2 ∷ 3 ∷ [])
-    ∷ sameList (perCent 2 3 ∷ perCent 1023 1024 ∷ perCent 1024 1024 ∷ perCent 1 1024 ∷ []) (66 ∷ 99 ∷ 100 ∷ 0 ∷ [])
-    ∷ []
-
-pub two-sheets-hold : every computed twoSheets ≡ true
-unfolding computed twoSheets
-two-sheets-hold = refl
 
 -- ---- Sequences of sibling runs of E: its best plan's in any order, and those that do not hold it, or too heavy
 

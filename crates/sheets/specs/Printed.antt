@@ -2,11 +2,11 @@
 -- Proves print-both, printable, layout-sheets. Assumes nothing.
 use Prim.Native.Nat.{ℕ, _≤_}
 use native.Mathlib.Omega.{arith}
-use mathlib.Core.Path.{_≡_, sym, _∙_, ap, ap₂}
+use mathlib.Core.Path.{_≡_, _∙_, ap}
 use mathlib.Core.List.{List}
 use Rattle.model.specs.Table.{limitOf}
 use Rattle.model.specs.Plan.{pageCount}
-use Rattle.model.specs.Sheets.{PageFigures, pageAt, sheetsBy, sheetsOf}
+use Rattle.model.specs.Sheets.{pageAt, sheetsBy, sheetsOf}
 use Rattle.model.specs.Refusals.{Written, printSheets}
 use Rattle.model.specs.Demand.{PrintPromise}
 use Rattle.model.specs.declared.Answer.{Answer}

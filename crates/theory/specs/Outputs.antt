@@ -2,7 +2,7 @@
 -- each tells; with 14 or without. What it checks after the judge is a list of its own, which gives neither 0 nor 14.
 -- outputFrom is the entry that goes on from the answer of whatever judged the tree.
 -- Defines outcome, outputFrom, outputWith. Proves judged-from, output-refused, output-stopped, output-done; with-entry,
--- with-feasible, with-done, with-kept; and of the check of a length short-output, long-output. Assumes nothing.
+-- with-done, with-wrote, with-kept; and of the check of a length short-output, long-output. Assumes nothing.
 use Prim.Native.Nat.{ℕ}
 use mathlib.Core.Bool.{Bool, true, false, not, true≢false}
 use mathlib.Core.Path.{_≡_, refl, sym, _∙_, ap, ap₂}
