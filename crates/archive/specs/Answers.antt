@@ -18,12 +18,12 @@ use Rattle.model.specs.declared.Answer.{Answer}
 use Rattle.model.specs.declared.Edition.{Edition}
 use Rattle.theory.specs.Bools.{never-true, both-true, and-false-right}
 use Rattle.theory.specs.JudgeAnswers.{pageCount-le}
+use Rattle.theory.specs.Outputs.{written}
 use Rattle.theory.specs.ArchiveWords.{Described, length-archive, archive-nodes}
 use Rattle.theory.specs.ArchiveBack.{sameList-true, write-read, read-write}
 use Rattle.theory.specs.ArchiveAnswers.{writeWith, WriteDone, writer-done, writer-refused}
 use Rattle.theory.specs.PromiseArchive.{read-promise}
 use Rattle.writer.specs.Size.{longestArchive, InRoom, fits-longest}
-use Rattle.writer.specs.Written.{written}
 
 abbrev pub restored : Answer → List ℕ → List ℕ → Restored
 restored r t m = record { answer = r; table = t; marks = m }

@@ -1,3 +1,3 @@
 -- What the printer's code is written against.
 pub mod Lines
-pub mod Printed
+pub mod LayoutSheets

@@ -14,8 +14,8 @@ ghost use Rattle.model.specs.Sheets.{sheetBytes, sheetCount, sheetsOf};
 ghost use Rattle.model.specs.Refusals.{printSheets};
 ghost use Rattle.model.specs.Demand.{PrintPromise};
 ghost use Rattle.theory.specs.PlanFeasible.{Judged};
+ghost use Rattle.theory.specs.Outputs.{written};
 ghost use Rattle.judge.specs.Rows.{IsLayout};
-ghost use Rattle.sheets.specs.Printed.{printed};
 
 // The sheets of a feasible plan, into an output of their length.
 fn fill_sheets(table: &[u8], marks: &[u8], plan: Layout, out: &mut [u8])
@@ -36,7 +36,7 @@ fn fill_sheets(table: &[u8], marks: &[u8], plan: Layout, out: &mut [u8])
 
 // Entry: the printer of leader sheets. The refusals of the judge, and 12. Any feasible plan is printed.
 pub fn print_sheets(table: &[u8], marks: &[u8], out: &mut [u8]) -> Answer
-    ensures { λ r. ⌜ printed r (now (out .exit))
+    ensures { λ r. ⌜ written r (now (out .exit))
         ≡ printSheets (now (table .entry)) (now (marks .entry)) (now (out .entry)) ⌝ }
     ensures { λ r. ⌜ PrintPromise (now (table .entry)) (now (marks .entry)) (now (out .entry))
         r (now (out .exit)) ⌝ }

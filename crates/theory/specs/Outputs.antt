@@ -1,7 +1,7 @@
 -- The answers of an entry that judges a tree and a plan and then writes bytes into an output, case by case, and what
 -- each tells; with 14 or without. What it checks after the judge is a list of its own, which gives neither 0 nor 14.
 -- outputFrom is the entry that goes on from the answer of whatever judged the tree.
--- Defines outcome, outputFrom, outputWith. Proves judged-from, output-refused, output-stopped, output-done; with-entry,
+-- Defines written, outcome, outputFrom, outputWith. Proves promised, judged-from, output-refused, output-stopped, output-done; with-entry,
 -- with-done, with-wrote, with-kept; and of the check of a length short-output, long-output. Assumes nothing.
 use Prim.Native.Nat.{ℕ}
 use mathlib.Core.Bool.{Bool, true, false, not, true≢false}
@@ -24,6 +24,17 @@ use Rattle.theory.specs.Checks.{andThen, then-next, then-stands, then-bo
 use Rattle.theory.specs.JudgeAnswers.{treeAnswer, marksAnswer, with-then}
 use Rattle.theory.specs.TableFacts.{AcceptedFacts}
 use Rattle.theory.specs.PlanFeasible.{Judged, marks-judged, feasibleWith, with-judged, judged-zero}
+
+-- ---- An answer and the output that is left
+
+abbrev pub written : Answer → List ℕ → Written
+written r o = record { answer = r; output = o }
+
+-- with the promise that they carry
+pub promised : (Promise : Answer → List ℕ → Type 0) {w : Written} → Promise (w .answer) (w .output) → {r : Answer}
+    {o : List ℕ} → written r o ≡ w → (written r o ≡ w) × Promise r o
+promised Promise p is =
+    (is, rw (ap (λ (x : Written). x .answer) is, ap (λ (x : Written). x .output) is) p)
 
 -- ---- A list of checks: the answer, and whether all pass
 

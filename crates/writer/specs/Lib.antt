@@ -2,4 +2,3 @@
 pub mod Size
 pub mod Links
 pub mod RecordsOf
-pub mod Written

@@ -22,10 +22,10 @@ ghost use Rattle.model.specs.Refusals.{writeArchive};
 ghost use Rattle.model.specs.Demand.{WritePromise};
 ghost use Rattle.theory.specs.TableFacts.{AcceptedFacts};
 ghost use Rattle.theory.specs.PlanFeasible.{Judged};
+ghost use Rattle.theory.specs.Outputs.{written};
 ghost use Rattle.theory.specs.ArchiveAnswers.{writeFrom};
 ghost use Rattle.judge.specs.Rows.{IsLayout};
 ghost use Rattle.writer.specs.Size.{InRoom};
-ghost use Rattle.writer.specs.Written.{written};
 
 // The whole archive of an accepted tree and a feasible plan, into an output of its length.
 fn fill_archive(e: Edition, table: &[u8], marks: &[u8], plan: Layout, out: &mut [u8])

@@ -9,9 +9,9 @@ use Rattle.model.specs.Basics.{sameList}
 use Rattle.model.specs.declared.Answer.{Answer}
 use Rattle.model.specs.declared.Edition.{Edition}
 use Rattle.theory.specs.JudgeAnswers.{with-facts}
+use Rattle.theory.specs.Outputs.{written}
 use Rattle.theory.specs.ArchiveAnswers.{writeWith, write-entry}
 use Rattle.writer.specs.Size.{longestArchive, InRoom}
-use Rattle.writer.specs.Written.{written}
 use Rattle.archive.specs.Answers.{copy-refused, copy-long, copy-stopped, copy-differs, copy-same}
 use Rattle.archive.proofs.ReadAnswers.{fresh-part, part-within, part-long, part-back}
 use borrow.Author.Needs.{needs}

@@ -2,7 +2,7 @@
 use mathlib.Core.Path.{sym, _∙_, ap, subst}
 use Rattle.model.specs.Sheets.{sheetsBy}
 use Rattle.sheets.specs.Lines.{pageIn, Printable}
-use Rattle.sheets.specs.Printed.{printable, layout-sheets}
+use Rattle.sheets.specs.LayoutSheets.{printable, layout-sheets}
 use borrow.Author.Needs.{needs}
 use Rattle.sheets.proofs.print.fill_sheets.Statement.{statement}
 use Rattle.sheets.proofs.print.fill_sheets.Tie as tie

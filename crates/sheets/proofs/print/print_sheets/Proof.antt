@@ -6,14 +6,15 @@ use native.Mathlib.Omega.{arith}
 use Rattle.model.specs.Plan.{pageCount}
 use Rattle.model.specs.Sheets.{sheetBytes, sheetCount}
 use Rattle.model.specs.Refusals.{refused}
+use Rattle.model.specs.Demand.{PrintPromise}
 use Rattle.model.specs.declared.Answer.{Answer}
 use Rattle.theory.specs.JudgeAnswers.{tree-facts}
 use Rattle.theory.specs.TableFacts.{AcceptedFacts}
 use Rattle.theory.specs.PlanFeasible.{Judged}
-use Rattle.theory.specs.Outputs.{judged-from, output-refused, output-stopped, output-done}
-use Rattle.theory.specs.PromiseSheets.{sheet-short, sheet-long, print-entry}
+use Rattle.theory.specs.Outputs.{written, promised, judged-from, output-refused, output-stopped, output-done}
+use Rattle.theory.specs.PromiseSheets.{sheet-short, sheet-long, print-entry, print-promise}
 use Rattle.judge.specs.Rows.{IsLayout}
-use Rattle.sheets.specs.Printed.{printed, print-both, printable}
+use Rattle.sheets.specs.LayoutSheets.{printable}
 use borrow.Author.Needs.{needs}
 use Rattle.sheets.proofs.print.print_sheets.Statement.{statement}
 use Rattle.sheets.proofs.print.print_sheets.Tie as tie
@@ -56,7 +57,8 @@ returns : tie.Need-returns
 returns c =
     let j = c .before .before .before in
     let a = start j .args in
-    print-both
+    promised (PrintPromise (a .table .now) (a .marks .now) (a .out .now))
+    (print-promise (a .table .now) (a .marks .now) (a .out .now))
     (print-entry (a .table .now) (a .marks .now) (a .out .now) _
     (output-refused (a .table .now) (a .marks .now) _ (a .out .now) _ _ _ (j .judge-pages .ensures .0) (c .if1 .taken))
     (j .before .read-tree .ensures .0))
@@ -69,9 +71,9 @@ returns-2 c =
     let b = c .before .before in
     let p = b .before in
     let out = start (j p) .args .out .now in
-    print-both
+    promised (PrintPromise (table p) (marks p) out) (print-promise (table p) (marks p) out)
     (print-entry (table p) (marks p) out _
-    (ap (λ (x : Answer). printed x out) (c .refuse .ensures ∙ ap (refused 12) (size-is b))
+    (ap (λ (x : Answer). written x out) (c .refuse .ensures ∙ ap (refused 12) (size-is b))
     ∙ output-stopped (table p) (marks p) _ out _ _ _ (j p .judge-pages .ensures .0) (p .before .if1 .left)
     (sheet-short (table p) (marks p) out (λ fits. omega (arith, c .before .if2 .taken, size-is b)))
     (λ z. omega arith))
@@ -90,9 +92,9 @@ returns-3 c =
     let b = e .before in
     let p = b .before in
     let out = start (j p) .args .out .now in
-    print-both
+    promised (PrintPromise (table p) (marks p) out) (print-promise (table p) (marks p) out)
     (print-entry (table p) (marks p) out _
-    (ap (printed _) (f .fill-sheets .ensures)
+    (ap (written _) (f .fill-sheets .ensures)
     ∙ output-done (table p) (marks p) _ out _ _ _ (j p .judge-pages .ensures .0) (facts (j p .before))
     (p .before .if1 .left) (sheet-long (table p) (marks p) out (e .if2 .left ∙ size-is b)))
     (j p .before .read-tree .ensures .0))

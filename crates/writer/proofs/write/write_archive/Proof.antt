@@ -4,13 +4,15 @@ use mathlib.Core.Path.{sym, ap, subst, _∙_}
 use Rattle.model.specs.Basics.{pick}
 use Rattle.model.specs.Archive.{firstEdition}
 use Rattle.model.specs.Refusals.{writeChecks, writeArchive}
+use Rattle.model.specs.Demand.{WritePromise}
 use Rattle.model.specs.declared.Answer.{Answer}
 use Rattle.model.specs.declared.Edition.{Edition}
 use Rattle.theory.specs.JudgeAnswers.{with-facts}
 use Rattle.theory.specs.ArchiveWords.{first-described}
+use Rattle.theory.specs.Outputs.{promised}
 use Rattle.theory.specs.ArchiveAnswers.{writeFrom, write-entry}
+use Rattle.theory.specs.PromiseArchive.{write-promise}
 use Rattle.writer.specs.Size.{InRoom, first-room}
-use Rattle.writer.specs.Written.{write-both}
 use borrow.Author.Needs.{needs}
 use Rattle.writer.proofs.write.write_archive.Statement.{statement}
 use Rattle.writer.proofs.write.write_archive.Tie as tie
@@ -28,7 +30,8 @@ returns c =
     let f = c .before .before .before in
     let a = f .before .before .before .before .before .before .args in
     let tree = f .before .before .check-tree in
-    write-both first-described
+    promised (WritePromise firstEdition (a .table .now) (a .marks .now) (a .out .now))
+    (write-promise first-described (a .table .now) (a .marks .now) (a .out .now))
     (write-entry true firstEdition (a .table .now) (a .marks .now) (a .out .now) (tree .result)
     (c .before .before .write-edition .ensures
     ∙ ap (λ (x : Edition). writeFrom x (a .table .now) (a .marks .now) (a .out .now) (tree .result))

@@ -10,10 +10,9 @@ use Rattle.model.specs.Refusals.{refused}
 use Rattle.model.specs.declared.Answer.{Answer}
 use Rattle.model.specs.declared.Edition.{Edition}
 use Rattle.theory.specs.PlanFeasible.{Judged}
-use Rattle.theory.specs.Outputs.{judged-from, output-refused, output-stopped, output-done}
+use Rattle.theory.specs.Outputs.{written, judged-from, output-refused, output-stopped, output-done}
 use Rattle.theory.specs.ArchiveAnswers.{film-short, film-long}
 use Rattle.judge.specs.Rows.{IsLayout}
-use Rattle.writer.specs.Written.{written}
 use borrow.Author.Needs.{needs}
 use Rattle.writer.proofs.write.write_edition.Statement.{statement}
 use Rattle.writer.proofs.write.write_edition.Tie as tie

@@ -1,5 +1,4 @@
--- What the printer promises: an answer with what is left in the output; and the sheets of a layout. Defines printed.
--- Proves print-both, printable, layout-sheets. Assumes nothing.
+-- The sheets of the layout that the judge found of a plan. Proves printable, layout-sheets. Assumes nothing.
 use Prim.Native.Nat.{ℕ, _≤_}
 use native.Mathlib.Omega.{arith}
 use mathlib.Core.Path.{_≡_, _∙_, ap}
@@ -7,27 +6,13 @@ use mathlib.Core.List.{List}
 use Rattle.model.specs.Table.{limitOf}
 use Rattle.model.specs.Plan.{pageCount}
 use Rattle.model.specs.Sheets.{pageAt, sheetsBy, sheetsOf}
-use Rattle.model.specs.Refusals.{Written, printSheets}
-use Rattle.model.specs.Demand.{PrintPromise}
-use Rattle.model.specs.declared.Answer.{Answer}
 use Rattle.theory.specs.JudgeAnswers.{pageCount-le}
 use Rattle.theory.specs.PlanFeasible.{Judged}
 use Rattle.theory.specs.SheetLines.{sheets-same}
-use Rattle.theory.specs.PromiseSheets.{within-limit, print-promise}
+use Rattle.theory.specs.PromiseSheets.{within-limit}
 use Rattle.judge.specs.Rows.{IsLayout}
 use Rattle.judge.specs.declared.pages.Layout.{Layout}
 use Rattle.sheets.specs.Lines.{pageIn, Printable}
-
-abbrev pub printed : Answer → List ℕ → Written
-printed r o = record { answer = r; output = o }
-
--- an answer and what is left, with the promise that they carry
-pub print-both : {t m out o : List ℕ} {r : Answer} → printed r o ≡ printSheets t m out
-    → (printed r o ≡ printSheets t m out) × PrintPromise t m out r o
-print-both {t} {m} {out} w = (
-  w,
-  rw (ap (λ (x : Written). x .answer) w, ap (λ (x : Written). x .output) w) (print-promise t m out),
-)
 
 module _ {t m : List ℕ} (j : Judged t m) {l : Layout} (is : IsLayout t m l) where
   pub printable : Printable (l .weights) (l .pages) (limitOf t)
