@@ -1,6 +1,6 @@
 -- Document 01, 'Trees on both sides' and the examples of 'What is refused', computed from the definitions: one result
 -- for the starred cases and one for the refusals; one for the quick planners, one for trees with unfiled lots, one for
--- trees with notes that weigh nothing and two for leader sheets.
+-- trees with notes that weigh nothing, one for the limits of nodes and two for leader sheets.
 -- Assumes nothing.
 use mathlib.Core.Path.{_≡_, refl}
 use Prim.Native.Nat.{ℕ, _-_}
@@ -26,11 +26,12 @@ use Rattle.model.specs.Decimal.{bytes}
 use Rattle.model.specs.Sheets.{sheetCount, lineWith, perCent, lineAt, numberIn}
 use Rattle.model.specs.Refusals.{refusedForWeight, readTree, judgePlan, planBest, planLevel, planSingle}
 use Rattle.model.specs.Refusals.{planPair, writeArchive, writeUnfiled, Written, readArchive, scratchWords}
-use Rattle.model.specs.Refusals.{Planned, planRightmost, planDepthFirst, printSheets}
+use Rattle.model.specs.Refusals.{Planned, planRightmost, planDepthFirst, printSheets, manyNodes, firstOf, accepted}
 use Rattle.model.specs.declared.Beside.{Beside}
 use Rattle.model.specs.declared.Beside.the-variants.{Given, Nothing}
 use Rattle.model.specs.declared.Verdict.the-variants.{Feasible, Failed}
 use Rattle.model.specs.declared.Answer.{Answer}
+use Rattle.model.specs.declared.Edition.{Edition}
 
 -- ---- The trees, as tables; labels are node numbers
 
@@ -86,7 +87,7 @@ unfolding Basics.pick Basics.when Basics.atPlace Basics.sumTo Basics.countTo Bas
     Sheets.sheetAt Sheets.sheetsBy Sheets.sheetsOf Sheets.valueFrom Sheets.numberIn
     Refusals.shortTable Refusals.badCount Refusals.badLimit Refusals.badLength Refusals.badWalk
     Refusals.heavyNode Refusals.badMarks Refusals.shortScratch Refusals.markRefused Refusals.pageRefused
-    Refusals.badOutput Refusals.noArchive Refusals.noLabel Refusals.headChecks Refusals.nodeChecks
+    Refusals.badOutput Refusals.noArchive Refusals.noLabel Refusals.manyNodes Refusals.headChecks Refusals.nodeChecks
     Refusals.weightChecks Refusals.lentChecks Refusals.markChecks Refusals.filmChecks Refusals.sheetChecks
     Refusals.backChecks
     Refusals.formChecks Refusals.treeChecks Refusals.planChecks Refusals.judgeChecks Refusals.writeChecks
@@ -207,6 +208,34 @@ back =
 pub back-hold : every computed back ≡ true
 unfolding computed back
 back-hold = refl
+
+-- ---- Longer shifts
+
+-- an edition that takes five nodes; E has six
+abbrev ofFive : Edition
+ofFive = record { head = 3; page = 4; most = 5 }
+
+-- the limits, by words of N; and that 15 is given after 11 and before 12, and to neither tree reader nor judge
+pub longer : List Bool
+longer =
+    let lent : List ℕ = replicate 78 7 in
+    let w = writeArchive ofFive (treeE 5 1) bestE lent in
+    let film : List ℕ = archiveOf ofFive (treeE 5 1) bestE in
+    answers (readTree (8 ∷ 0 ∷ 0 ∷ 0 ∷ [])) 3 0
+    ∷ answers (readTree (8 ∷ 1 ∷ 0 ∷ 0 ∷ [])) 2 2049
+    ∷ answers (firstOf (manyNodes firstEdition (4 ∷ 0 ∷ []) ∷ []) accepted) 0 0
+    ∷ answers (firstOf (manyNodes firstEdition (4 ∷ 1 ∷ []) ∷ []) accepted) 15 1025
+    ∷ answers (writeArchive ofFive (treeE 5 1) (replicate 5 0) [] .answer) 8 6
+    ∷ answers (writeArchive ofFive (treeE 5 1) (1 ∷ 2 ∷ 0 ∷ 0 ∷ 0 ∷ 0 ∷ []) [] .answer) 10 2
+    ∷ answers (writeArchive ofFive (treeE 5 1) (1 ∷ 0 ∷ 0 ∷ 0 ∷ 0 ∷ 0 ∷ []) [] .answer) 11 1
+    ∷ answers (writeArchive ofFive (treeE 5 1) bestE [] .answer) 15 6
+    ∷ keeps (w .answer) (w .output) lent 15 6
+    ∷ answers (readArchive ofFive film (replicate 52 7) (replicate 6 7) .answer) 13 0
+    ∷ []
+
+pub longer-hold : every computed longer ≡ true
+unfolding computed longer
+longer-hold = refl
 
 -- ---- Unfiled lots: F with labels 0 at the nodes 2 and 3, of which node 3 weighs 3 in F itself
 

@@ -99,15 +99,17 @@ pub record LowestOnFilm (e : Edition) (t a : List ℕ) (p r : Answer) : Type 0 w
 
 -- What the writer says with its answer r and the archive a that it leaves, where it was lent the table t, the marks
 -- m and the output out. Marks that the best planner left for this table, whatever else it was lent, it accepts where
--- the output is as long as the planner's page count asks, and the archive of them is the lowest. On refusal the
--- output is as lent, and 7 is exact.
+-- the edition takes so many nodes and the output is as long as the planner's page count asks, and the archive of them
+-- is the lowest. A feasible plan of a tree with more nodes than the edition takes gets 15 at N, whatever the output. On
+-- refusal the output is as lent, and 7 is exact.
 pub record WritePromise (e : Edition) (t m out : List ℕ) (r : Answer) (a : List ℕ) : Type 0 where
   pub accepts : (lent scratch : List ℕ) (P W : ℕ)
       → planBest t lent scratch .answer ≡ answerOf (Feasible P W) → planBest t lent scratch .marks ≡ m
-      → length out ≡ archiveBytes e P (nodeCount t) → r .number ≡ 0
+      → nodeCount t ≤ e .most → length out ≡ archiveBytes e P (nodeCount t) → r .number ≡ 0
   pub lowest : (lent scratch : List ℕ)
       → planBest t lent scratch .answer .number ≡ 0 → planBest t lent scratch .marks ≡ m
       → r .number ≡ 0 → LowestOnFilm e t a (planBest t lent scratch .answer) r
+  pub many : feasiblePlan t m ≡ true → e .most < nodeCount t → r ≡ refused 15 (nodeCount t)
   pub kept : (r .number ≡ 0 → ⊥) → a ≡ out
   pub weight : WeightPromise t r
 

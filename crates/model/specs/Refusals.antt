@@ -1,5 +1,6 @@
--- Document 01, 'What is refused', with 14 and without 5 by document 02: the list of refusals, the checks of each entry
--- in their order, and for each entry its answer and every lent buffer left behind, as one definition of all it was lent.
+-- Document 01, 'What is refused', with 14 and 15 and without 5 by document 02: the list of refusals, the checks of each
+-- entry in their order, and for each entry its answer and every lent buffer left behind, as one definition of all it was
+-- lent.
 use Prim.Native.Nat.{ℕ, _+_, _*_}
 use mathlib.Core.Bool.{Bool, true, false, not, _&&_, _||_}
 use mathlib.Core.List.{List, [], _∷_, _++_}
@@ -55,7 +56,7 @@ pub record Check : Type 0 where
 unfoldable pub shortTable : List ℕ → Check
 shortTable t = record { answer = refused 1; place = when (ltb (length t) 4) 0 }
 
--- 2: N is 0 or over 1,024; place N
+-- 2: N is 0 or over 2,048; place N
 unfoldable pub badCount : List ℕ → Check
 badCount t =
     let n : ℕ = nodeCount t in record { answer = refused 2; place = when (eqb n 0 || ltb maxNodes n) n }
@@ -114,6 +115,11 @@ noArchive written = record { answer = refused 13; place = when (not written) 0 }
 unfoldable pub noLabel : List ℕ → Check
 noLabel t = record { answer = refused 14; place = firstTo (nodeCount t) (λ v. eqb (labelAt t v) 0) }
 
+-- 15: more nodes than the edition takes; place N
+unfoldable pub manyNodes : Edition → List ℕ → Check
+manyNodes e t =
+    let n : ℕ = nodeCount t in record { answer = refused 15; place = when (ltb (e .most) n) n }
+
 -- ---- The order: its parts, and for each entry those that it checks
 
 -- the head and the length
@@ -138,7 +144,7 @@ markChecks t m = badMarks (nodeCount t) m ∷ markRefused t m ∷ pageRefused t 
 
 -- the film that is to be written
 unfoldable pub filmChecks : Edition → List ℕ → List ℕ → List ℕ → List Check
-filmChecks e t m out = badOutput (archiveBytes e (pageCount t m) (nodeCount t)) out ∷ []
+filmChecks e t m out = manyNodes e t ∷ badOutput (archiveBytes e (pageCount t m) (nodeCount t)) out ∷ []
 
 -- the leader sheets that are to be printed
 unfoldable pub sheetChecks : List ℕ → List ℕ → List ℕ → List Check

@@ -10,7 +10,7 @@ use Rattle.model.specs.declared.Place.the-variants.{At}
 
 -- the most nodes that a table has
 abbrev pub maxNodes : ℕ
-maxNodes = 1024
+maxNodes = 2048
 
 -- the highest page limit
 abbrev pub maxLimit : ℕ
