@@ -1,21 +1,22 @@
 -- The answers of the archive's writer, with 14 or without, and of its reader, case by case, and what each tells.
 -- writeFrom is the writer that goes on from the answer of whatever judged the tree: the reader judges its tree without
 -- 14, which the writer's entry does not.
--- Defines writeFrom, writeWith, WriteDone. Proves film-short, film-long; write-entry, write-done, write-kept,
--- writer-done, writer-refused; unfiled-stops; read-none, read-table, read-marks, read-done, reader-done,
+-- Defines writeFrom, writeWith, WriteDone. Proves film-answer, film-few, film-long; write-entry, write-done, write-many,
+-- write-kept, writer-done, writer-refused; unfiled-stops; read-none, read-table, read-marks, read-done, reader-done,
 -- read-thirteen. Assumes nothing.
-use Prim.Native.Nat.{ℕ, _≤_}
+use Prim.Native.Nat.{ℕ, _≤_, _<_}
 use native.Mathlib.Omega.{arith}
 use mathlib.Core.Bool.{Bool, true, false, not, _&&_}
 use mathlib.Core.Path.{_≡_, refl, sym, _∙_, ap, ap₂}
 use mathlib.Core.List.{List, [], _∷_, _++_}
 use lib.ListN.{length}
-use borrow.Author.Tests.{not-false}
-use Rattle.model.specs.Basics.{pick, every, sameList}
+use lib.Dec.{eqb, ltb}
+use borrow.Author.Tests.{not-false, eqb-true, ltb-false, lt-ltb, le-ltb}
+use Rattle.model.specs.Basics.{pick, when, atPlace, every, sameList}
 use Rattle.model.specs.Table.{nodeCount, tableBytes}
 use Rattle.model.specs.Plan.{pageCount, verdictOf}
 use Rattle.model.specs.Archive.{archiveOf, archiveBytes, nodesIn, tableIn, marksIn}
-use Rattle.model.specs.Refusals.{badMarks, badOutput, noArchive, judgeChecks, filmChecks, backChecks}
+use Rattle.model.specs.Refusals.{badMarks, badOutput, noArchive, manyNodes, judgeChecks, filmChecks, backChecks}
 use Rattle.model.specs.Refusals.{writeChecks, readChecks, passes, answerOf, refused, firstOf, noLabel, feasibleUnfiled}
 use Rattle.model.specs.Refusals.{Written, writeChecked, writeArchive, isArchive, readArchive}
 use Rattle.model.specs.declared.Edition.{Edition}
@@ -27,11 +28,10 @@ use Rattle.theory.specs.Checks.{Pass, pass-all, firstOf-all, Never, neve
 use Rattle.theory.specs.Checks.{firstOf-append}
 use Rattle.theory.specs.JudgeAnswers.{treeAnswer}
 use Rattle.theory.specs.Outputs.{outcome, outcome-stop, outcome-next, outcome-none, unequal, equal, outputFrom}
-use Rattle.theory.specs.Outputs.{short-output, long-output, outputWith, with-entry, with-done, with-wrote}
-use Rattle.theory.specs.Outputs.{with-kept}
+use Rattle.theory.specs.Outputs.{outputWith, with-entry, with-done, with-wrote, with-passed, with-last, with-kept}
 use Rattle.theory.specs.PlanFeasible.{Judged, feasibleWith, with-judged, unfiled-judged}
 use Rattle.theory.specs.PlanFeasible.{judged-zero, label-stops}
-use Rattle.theory.specs.ArchiveWords.{Described, length-archive}
+use Rattle.theory.specs.ArchiveWords.{Described, length-archive, archive-nodes}
 use Rattle.theory.specs.ArchiveBack.{sameList-true, read-write}
 
 -- ---- The writer
@@ -42,19 +42,49 @@ module _ (e : Edition) (t m out : List ℕ) where
   writeFrom = outputFrom t m (archiveOf e t m) out (filmChecks e t m out)
 
   film-never : Never 0 (filmChecks e t m out) × Never 14 (filmChecks e t m out)
-  unfolding every filmChecks badOutput
+  unfolding every filmChecks manyNodes badOutput
   film-never = (λ p. refl, λ p. refl)
 
-  -- 12: the output has the wrong length
-  pub film-short : (length out ≡ archiveBytes e (pageCount t m) (nodeCount t) → ⊥)
-      → refused 12 (archiveBytes e (pageCount t m) (nodeCount t))
-      ≡ firstOf (filmChecks e t m out) (answerOf (verdictOf t m))
-  unfolding filmChecks
-  film-short other = short-output _ out (answerOf (verdictOf t m)) other
+  abbrev size : ℕ
+  size = archiveBytes e (pageCount t m) (nodeCount t)
 
-  pub film-long : length out ≡ archiveBytes e (pageCount t m) (nodeCount t) → passes (filmChecks e t m out) ≡ true
-  unfolding filmChecks
-  film-long fits = long-output _ out fits
+  -- 15, then 12, as a program puts its answer together of N and the right length
+  pub film-answer : (a : Answer) {r : Answer} {n bytes : ℕ}
+      → r ≡ atPlace (when (ltb (e .most) n) n) (refused 15)
+      (atPlace (when (not (eqb (length out) bytes)) bytes) (refused 12) a)
+      → n ≡ nodeCount t → bytes ≡ archiveBytes e (pageCount t m) (nodeCount t) → r ≡ firstOf (filmChecks e t m out) a
+  unfolding firstOf filmChecks manyNodes badOutput
+  film-answer a is n-is bytes-is =
+      is
+      ∙ ap₂ (λ n k. atPlace (when (ltb (e .most) n) n) (refused 15)
+      (atPlace (when (not (eqb (length out) k)) k) (refused 12) a)) n-is bytes-is
+
+  -- 15 before 12, whatever the output
+  film-many : (a : Answer) → e .most < nodeCount t → firstOf (filmChecks e t m out) a ≡ refused 15 (nodeCount t)
+  unfolding filmChecks manyNodes
+  film-many a many =
+      ap (λ (x : Answer × Bool). x .0)
+      (outcome-stop (manyNodes e t) (badOutput size out ∷ []) a (nodeCount t)
+      (when-true (ltb (e .most) (nodeCount t)) (nodeCount t) (lt-ltb (e .most) (nodeCount t) many)))
+
+  -- where both pass, the edition takes so many nodes, and the output has the right length
+  pub film-few : passes (filmChecks e t m out) ≡ true
+      → (nodeCount t ≤ e .most) × (length out ≡ archiveBytes e (pageCount t m) (nodeCount t))
+  unfolding Pass filmChecks manyNodes badOutput
+  film-few p =
+      let all = pass-all (filmChecks e t m out) .0 p in (
+        ltb-false (e .most) (nodeCount t) (when-nowhere (ltb (e .most) (nodeCount t)) (nodeCount t) (all .0)),
+        eqb-true (length out) size (not-false (eqb (length out) size) (when-nowhere _ size (all .1 .0))),
+      )
+
+  pub film-long : nodeCount t ≤ e .most → length out ≡ archiveBytes e (pageCount t m) (nodeCount t)
+      → passes (filmChecks e t m out) ≡ true
+  unfolding Pass filmChecks manyNodes badOutput
+  film-long few fits =
+      pass-all (filmChecks e t m out) .1 (
+        when-false (ltb (e .most) (nodeCount t)) (nodeCount t) (le-ltb (e .most) (nodeCount t) few),
+        (equal (length out) size fits, tt),
+      )
 
 -- ---- The writer with 14, or without
 
@@ -66,10 +96,14 @@ module _ (filed : Bool) (e : Edition) (t m out : List ℕ) where
   pub write-entry : {w : Written} (r : Answer) → w ≡ writeFrom e t m out r → r ≡ treeAnswer filed t → w ≡ writeWith
   write-entry r h is = with-entry filed t m _ out _ (film-never e t m out) r h is
 
-  pub write-done : feasibleWith filed t m ≡ true → length out ≡ archiveBytes e (pageCount t m) (nodeCount t)
+  pub write-done : feasibleWith filed t m ≡ true → nodeCount t ≤ e .most
+      → length out ≡ archiveBytes e (pageCount t m) (nodeCount t)
       → writeWith ≡ record { answer = answerOf (verdictOf t m); output = archiveOf e t m }
-  write-done f fits =
-      with-done filed t m _ out _ (film-never e t m out) f (film-long e t m out fits)
+  write-done f few fits = with-done filed t m _ out _ (film-never e t m out) f (film-long e t m out few fits)
+
+  -- 15: more nodes than the edition takes
+  pub write-many : feasibleWith filed t m ≡ true → e .most < nodeCount t → writeWith .answer ≡ refused 15 (nodeCount t)
+  write-many f many = with-last filed t m _ out _ (film-never e t m out) f ∙ film-many e t m out _ many
 
   -- on refusal the output is as lent
   pub write-kept : (writeWith .answer .number ≡ 0 → ⊥) → writeWith .output ≡ out
@@ -83,24 +117,29 @@ module _ (filed : Bool) (e : Edition) (t m out : List ℕ) where
     pub few : nodeCount t ≤ e .most
     pub wrote : writeWith ≡ record { answer = answerOf (verdictOf t m); output = archiveOf e t m }
 
-  module _ (d : Described e) where
-    pub writer-done : writeWith .answer .number ≡ 0 → WriteDone
-    writer-done z =
-        let done = with-wrote filed t m _ out _ (film-never e t m out) z in
-        let j = with-judged filed t m (done .0) in
-        record { feasible = done .0; judged = j; few = d .most t (j .tree); wrote = done .1 }
+  pub writer-done : writeWith .answer .number ≡ 0 → WriteDone
+  writer-done z =
+      let never = film-never e t m out in
+      let done = with-wrote filed t m _ out _ never z in
+      record {
+        feasible = done .0;
+        judged = with-judged filed t m (done .0);
+        few = film-few e t m out (with-passed filed t m _ out _ never z) .0;
+        wrote = done .1;
+      }
 
-    pub writer-refused : (writeWith .answer .number ≡ 0 → ⊥) → (a : List ℕ) → length out ≡ length a
-        → (feasibleWith filed t m && sameList (archiveOf e t m) a) ≡ false
-    writer-refused h a long =
-        never-true _
-        (λ y.
-        let both = both-true (feasibleWith filed t m) (sameList (archiveOf e t m) a) y in
-        let fits : length out ≡ archiveBytes e (pageCount t m) (nodeCount t) =
-        long ∙ ap length (sym (sameList-true (archiveOf e t m) a (both .1))) ∙ length-archive d t m in
-        h
-        (ap (λ (w : Written). w .answer .number) (write-done (both .0) fits)
-        ∙ judged-zero (with-judged filed t m (both .0))))
+  pub writer-refused : Described e → (writeWith .answer .number ≡ 0 → ⊥) → (a : List ℕ) → nodesIn e a ≤ e .most
+      → length out ≡ length a → (feasibleWith filed t m && sameList (archiveOf e t m) a) ≡ false
+  writer-refused d h a few long =
+      never-true _
+      (λ y.
+      let both = both-true (feasibleWith filed t m) (sameList (archiveOf e t m) a) y in
+      let same : archiveOf e t m ≡ a = sameList-true (archiveOf e t m) a (both .1) in
+      h
+      (ap (λ (w : Written). w .answer .number)
+      (write-done (both .0) (omega (arith, ap (nodesIn e) same, archive-nodes d t m))
+      (long ∙ ap length (sym same) ∙ length-archive d t m))
+      ∙ judged-zero (with-judged filed t m (both .0))))
 
 -- the writer, handed a tree and a plan in which nothing but a label is refused
 pub unfiled-stops : (e : Edition) (t m out : List ℕ) → feasibleUnfiled t m ≡ true → (v : ℕ) → noLabel t .place ≡ At v

@@ -16,15 +16,13 @@ use Rattle.model.specs.Runs.{pageRun}
 use Rattle.model.specs.Archive.{firstEdition, headWords, pageRecord, nextOnPage, nodeRecord, archiveOf, archiveBytes}
 use Rattle.model.specs.Archive.{nodesIn, limitIn, pagesIn, pageFieldIn, nodeFieldIn, parentIn}
 use Rattle.model.specs.declared.Edition.{Edition}
-use Rattle.theory.specs.TableFacts.{AcceptedFacts}
 use Rattle.theory.specs.Words.{length-bytesOf, wordAt-bytesOf}
 use Rattle.theory.specs.Put.{length-recordsTo, getD-recordsTo}
 
 -- ---- What the laws take of an edition
 
 -- its head has as many words as it says, and N, K and P are the last three of them; a page record has as many words as
--- it says, of which there are four at least, and the first three are first node, last sibling and weight; and it takes
--- every accepted tree
+-- it says, of which there are four at least, and the first three are first node, last sibling and weight
 pub record Described (e : Edition) : Type 0 where
   pub head-low : 3 ≤ e .head
   pub head : (t m : List ℕ) → length (headWords e t m) ≡ e .head
@@ -36,10 +34,7 @@ pub record Described (e : Edition) : Type 0 where
   pub first-at : (t m : List ℕ) (p : ℕ) → getD (pageRecord e t m p) 0 0 ≡ pageRun t m p .first
   pub last-at : (t m : List ℕ) (p : ℕ) → getD (pageRecord e t m p) 1 0 ≡ pageRun t m p .last
   pub weight-at : (t m : List ℕ) (p : ℕ) → getD (pageRecord e t m p) 2 0 ≡ pageWeight t m p
-  pub most : (t : List ℕ) → AcceptedFacts t → nodeCount t ≤ e .most
 
--- The first edition takes every accepted tree because its limit is not below the table's. No other law makes the one
--- limit of the other.
 pub first-described : Described firstEdition
 unfolding headWords pageRecord
 first-described =
@@ -54,7 +49,6 @@ first-described =
       first-at = λ t m p. refl;
       last-at = λ t m p. refl;
       weight-at = λ t m p. refl;
-      most = λ t a. a .sound .count-high;
     }
 
 -- ---- The archive

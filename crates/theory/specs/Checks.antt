@@ -16,7 +16,7 @@ use borrow.Author.Tests.{eqb-true, eqb-false, eq-eqb, ne-eqb, not-true}
 use Rattle.model.specs.Basics.{pick, atPlace, every}
 use Rattle.model.specs.Refusals.{Check, accepted, refused, firstOf, passes, without}
 use Rattle.model.specs.Refusals.{shortTable, badCount, badLimit, badLength, badWalk, heavyNode, badMarks}
-use Rattle.model.specs.Refusals.{shortScratch, markRefused, pageRefused, badOutput, noArchive, noLabel}
+use Rattle.model.specs.Refusals.{shortScratch, markRefused, pageRefused, badOutput, noArchive, noLabel, manyNodes}
 use Rattle.model.specs.Refusals.{headChecks, nodeChecks, weightChecks, lentChecks, markChecks, filmChecks, backChecks}
 use Rattle.model.specs.Refusals.{sheetChecks, formChecks, treeChecks, planChecks, judgeChecks, readChecks}
 use Rattle.model.specs.declared.Place.{Place}
@@ -195,7 +195,7 @@ unfolding every markChecks badMarks markRefused pageRefused
 mark-plain t m = (λ p. refl, λ p. refl, λ p. refl)
 
 pub film-plain : (e : Edition) (t m out : List ℕ) → Plain (filmChecks e t m out)
-unfolding every filmChecks badOutput
+unfolding every filmChecks manyNodes badOutput
 film-plain e t m out = (λ p. refl, λ p. refl, λ p. refl)
 
 pub sheet-plain : (t m out : List ℕ) → Plain (sheetChecks t m out)

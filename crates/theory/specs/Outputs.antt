@@ -1,8 +1,9 @@
 -- The answers of an entry that judges a tree and a plan and then writes bytes into an output, case by case, and what
 -- each tells; with 14 or without. What it checks after the judge is a list of its own, which gives neither 0 nor 14.
 -- outputFrom is the entry that goes on from the answer of whatever judged the tree.
--- Defines written, outcome, outputFrom, outputWith. Proves promised, judged-from, output-refused, output-stopped, output-done; with-entry,
--- with-done, with-wrote, with-kept; and of the check of a length short-output, long-output. Assumes nothing.
+-- Defines written, outcome, outputFrom, outputWith. Proves promised, judged-from, output-refused, output-stopped,
+-- output-done; with-entry, with-done, with-wrote, with-passed, with-last, with-kept; and of the check of a length
+-- short-output, long-output. Assumes nothing.
 use Prim.Native.Nat.{ℕ}
 use mathlib.Core.Bool.{Bool, true, false, not, true≢false}
 use mathlib.Core.Path.{_≡_, refl, sym, _∙_, ap, ap₂}
@@ -204,6 +205,17 @@ module _ (filed : Bool) (t m bytes out : List ℕ) (after : List Check) where
     with-wrote z =
         let all : passes checks ≡ true = accepted-pass checks given checks-never z in
         (passed all, rw (all, firstOf-all checks given all))
+
+    -- and what is checked after the judge passes
+    pub with-passed : outputWith .answer .number ≡ 0 → passes after ≡ true
+    unfolding writeChecked
+    with-passed z =
+        passes-both judging after (sym (ap passes parts) ∙ accepted-pass checks given checks-never z) .1
+
+    -- where the judge accepts, the answer is that of what is checked after it
+    pub with-last : feasibleWith filed t m ≡ true → outputWith .answer ≡ firstOf after (answerOf (verdictOf t m))
+    unfolding writeChecked
+    with-last f = ap (λ (cs : List Check). firstOf cs given) parts ∙ firstOf-pass judging after given f
 
     -- on refusal the output is as lent
     pub with-kept : (outputWith .answer .number ≡ 0 → ⊥) → outputWith .output ≡ out

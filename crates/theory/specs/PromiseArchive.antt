@@ -1,7 +1,8 @@
 -- What the archive's entries promise beside their equations, in an edition: the writer demand 3 (write-promise), the
 -- reader demand 2 (read-promise). They rest on the promises of the planner and the judge, and on the laws of writing
 -- and reading back. Assumes nothing.
-use Prim.Native.Nat.{ℕ}
+use Prim.Native.Nat.{ℕ, _≤_}
+use native.Mathlib.Omega.{arith}
 use mathlib.Core.Bool.{Bool, true, false, true≢false}
 use mathlib.Core.Path.{_≡_, refl, sym, _∙_, ap, ap₂}
 use mathlib.Core.List.{List}
@@ -27,8 +28,9 @@ use Rattle.theory.specs.PromiseWeight.{write-weight, read-five}
 use Rattle.theory.specs.PromisePlanner.{best-lent, best-plan, best-promise}
 use Rattle.theory.specs.ArchiveWords.{Described, length-archive, archive-nodes}
 use Rattle.theory.specs.ArchiveBack.{write-read, WritesBack, read-write, tableIn-bytes}
-use Rattle.theory.specs.ArchiveAnswers.{writeWith, write-done, write-kept, WriteDone, writer-done, unfiled-stops}
-use Rattle.theory.specs.ArchiveAnswers.{read-none, read-done, read-kept, reader-done, read-thirteen}
+use Rattle.theory.specs.ArchiveAnswers.{writeWith, write-done, write-many, write-kept, WriteDone, writer-done}
+use Rattle.theory.specs.ArchiveAnswers.{unfiled-stops, read-none, read-done, read-kept, reader-done}
+use Rattle.theory.specs.ArchiveAnswers.{read-thirteen}
 use Rattle.theory.specs.ArchiveLowest.{plan-feasible, film-lowest}
 
 -- ---- The writer
@@ -50,26 +52,27 @@ module _ {e : Edition} (d : Described e) (t m out : List ℕ) where
     best-film is = rw is at (film-lowest (best-plan t lent scratch) lent-right d (best-promise t lent scratch))
 
     best-accepted : (P W : ℕ) → planBest t lent scratch .answer ≡ answerOf (Feasible P W)
-        → planBest t lent scratch .marks ≡ m → length out ≡ archiveBytes e P (nodeCount t)
+        → planBest t lent scratch .marks ≡ m → nodeCount t ≤ e .most → length out ≡ archiveBytes e P (nodeCount t)
         → writeArchive e t m out .answer .number ≡ 0
     unfolding writeArchive writeChecks feasiblePlan pick
-    best-accepted P W a is long =
+    best-accepted P W a is few long =
         let f : feasiblePlan t m ≡ true = rw is at (plan-feasible (best-plan t lent scratch) lent-right) in
         let count : P ≡ pageCount t m =
         ap (λ (x : Answer). pagesBeside (x .beside)) (sym a ∙ best-plan t lent scratch .accepts lent-right .0)
         ∙ ap (pageCount t) is in
         ap (λ (w : Written). w .answer .number)
-        (write-done true e t m out f (long ∙ ap (λ n. archiveBytes e n (nodeCount t)) count))
+        (write-done true e t m out f few (long ∙ ap (λ n. archiveBytes e n (nodeCount t)) count))
         ∙ judged-zero (feasible-judged t m f)
 
   pub write-promise : WritePromise e t m out (writeArchive e t m out .answer) (writeArchive e t m out .output)
-  unfolding writeArchive writeChecks pick
+  unfolding writeArchive writeChecks feasiblePlan pick
   write-promise =
       record {
         accepts =
-            λ lent scratch P W a is long.
-            best-accepted lent scratch (ap (λ (x : Answer). x .number) a) P W a is long;
-        lowest = λ lent scratch z is done. rw (writer-done true e t m out d done .wrote) (best-film lent scratch z is);
+            λ lent scratch P W a is few long.
+            best-accepted lent scratch (ap (λ (x : Answer). x .number) a) P W a is few long;
+        lowest = λ lent scratch z is done. rw (writer-done true e t m out done .wrote) (best-film lent scratch z is);
+        many = write-many true e t m out;
         kept = write-kept true e t m out;
         weight = write-weight t m e out;
       }
@@ -83,7 +86,7 @@ module _ {e : Edition} (d : Described e) (a table marks : List ℕ) where
   -- an archive that was written, with 14 or without, is one, and tells what it was written from
   module _ (filed : Bool) (u n : List ℕ) (w : WrittenFrom (writeWith filed e) u n a) where
     done : WriteDone filed e u n (w .out)
-    done = writer-done filed e u n (w .out) d (w .accepts)
+    done = writer-done filed e u n (w .out) (w .accepts)
 
     same : archiveOf e u n ≡ a
     same = sym (ap (λ (x : Written). x .output) (done .wrote)) ∙ w .leaves
@@ -120,7 +123,8 @@ module _ {e : Edition} (d : Described e) (a table marks : List ℕ) where
       let t : List ℕ = tableIn e a in
       let m : List ℕ = marksIn e a in
       let w : WritesBack e a = read-write e a is in
-      write-done filed e t m out f (long ∙ ap length (sym (w .same)) ∙ length-archive d t m)
+      write-done filed e t m out f (omega (arith, w .few, ap (nodesIn e) (w .same), archive-nodes d t m))
+      (long ∙ ap length (sym (w .same)) ∙ length-archive d t m)
       ∙ ap (λ y. record { answer = answerOf (verdictOf t m); output = y }) (w .same)
 
   -- what is told
