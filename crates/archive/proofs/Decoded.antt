@@ -8,14 +8,14 @@ use lib.ListN.{length, take}
 use lib.Dec.{eqb, ltb}
 use borrow.Author.Tests.{eq-eqb, ne-eqb, lt-ltb, le-ltb}
 use Rattle.model.specs.Basics.{pick}
-use Rattle.model.specs.Table.{nodeCount, tableBytes, slots}
+use Rattle.model.specs.Table.{nodeCount, tableBytes}
 use Rattle.model.specs.Refusals.{isArchive}
 use Rattle.model.specs.Archive.{nodesIn, limitIn, parentIn, firstIn, tableIn, marksIn}
 use Rattle.model.specs.declared.Edition.{Edition}
 use Rattle.theory.specs.Bools.{and-true, and-false-left, and-false-right}
 use Rattle.theory.specs.Ranges.{pick-true, pick-false}
 use Rattle.theory.specs.Put.{putWord, length-putWord, Starts, starts-none, starts-word}
-use Rattle.theory.specs.ArchiveWords.{Described}
+use Rattle.writer.specs.Size.{filmSlots, InRoom}
 use Rattle.writer.specs.Links.{Linked}
 use Rattle.archive.specs.DecodeTable.{WrittenBy, written-by, by-nodes, Loaded, links-in, links-at}
 use Rattle.archive.specs.DecodeTable.{treeUpto, length-treeUpto, tree-decoded}
@@ -47,7 +47,7 @@ module _ (e : Edition) (a : List ℕ) (v : ℕ) where
       (pick-false test (v + 1) 0
       (and-false-right (ltb v (nodesIn e a)) (eqb (parentIn e a (v + 1)) v) (ne-eqb (parentIn e a (v + 1)) v other)))
 
-pub sibling-small : (b : Bool) (x : ℕ) → x < slots → pick b 0 x < slots
+pub sibling-small : (b : Bool) (x : ℕ) → x < filmSlots → pick b 0 x < filmSlots
 unfolding pick
 sibling-small true x h = omega arith
 sibling-small false x h = h
@@ -62,17 +62,18 @@ tree-begin e a o o₁ o₂ n k e₁ e₂ n-is k-is room =
     rw (← n-is, ← k-is) s₂
 
 -- what is decoded of an archive is what it tells
-pub decoded : {e : Edition} → Described e → (a parents links lasts tree plan : List ℕ) (n : ℕ) → n ≡ nodesIn e a
+pub decoded : {e : Edition} → InRoom e → (a parents links lasts tree plan : List ℕ) (n : ℕ) → n ≡ nodesIn e a
     → Loaded e a n parents → Linked parents n links → ((t m : List ℕ) → WrittenBy e a t m → Lasts t m lasts)
     → Starts tree (treeUpto e a links (nodesIn e a))
     → ((t m : List ℕ) → MarksInput t m lasts links n → MarksRow m n plan)
     → nodesIn e a ≤ length plan → isArchive e a ≡ true
     → (take (tableBytes (nodesIn e a)) tree ≡ tableIn e a) × (take (nodesIn e a) plan ≡ marksIn e a)
 unfolding Starts
-decoded {e} d a parents links lasts tree plan n n-is loaded linked lasts-are put marked room y =
+decoded {e} room a parents links lasts tree plan n n-is loaded linked lasts-are put marked long y =
     let t : List ℕ = tableIn e a in
     let m : List ℕ = marksIn e a in
-    let w : WrittenBy e a t m = written-by e a y in
+    let d = room .is in
+    let w : WrittenBy e a t m = written-by room a y in
     let loaded′ : Loaded e a (nodesIn e a) parents = rw n-is at loaded in
     let linked′ : Linked parents (nodesIn e a) links = subst (λ k. Linked parents k links) n-is linked in
     let size : tableBytes (nodesIn e a) ≡ 2 * length (treeUpto e a links (nodesIn e a)) =
@@ -81,6 +82,7 @@ decoded {e} d a parents links lasts tree plan n n-is loaded linked lasts-are put
     let input : MarksInput t m lasts links n =
     record {
       plan = w .plan;
+      few = w .few;
       count = n-is ∙ same;
       lasts-are = lasts-are t m w;
       links-are = λ v low high. links-at d w parents links loaded′ linked′ v low (omega arith);

@@ -81,14 +81,14 @@ module _ {e : Edition} (room : InRoom e) (a t m : List ℕ) where
     number-is : r .number ≡ writeWith false e t m start .answer .number
     number-is = ap (λ (x : Written). x .answer .number) w
 
-    pub copy-stopped : (r .number ≡ 0 → ⊥) → length start ≡ length a
+    pub copy-stopped : (r .number ≡ 0 → ⊥) → nodesIn e a ≤ e .most → length start ≡ length a
         → (feasibleUnfiled t m && sameList (archiveOf e t m) a) ≡ false
     unfolding feasibleUnfiled pick
-    copy-stopped h long = writer-refused false e t m start (room .is) (λ z. h (number-is ∙ z)) a long
+    copy-stopped h few long = writer-refused false e t m start (room .is) (λ z. h (number-is ∙ z)) a few long
 
     module _ (z : r .number ≡ 0) where
       done : WriteDone false e t m start
-      done = writer-done false e t m start (room .is) (sym number-is ∙ z)
+      done = writer-done false e t m start (sym number-is ∙ z)
 
       out-is : out ≡ archiveOf e t m
       out-is = ap (λ (x : Written). x .output) (w ∙ done .wrote)

@@ -12,7 +12,7 @@ use lib.Seq.{getD-take, length-take-le, ext-getD}
 use lib.Dec.{eqb, leb}
 use borrow.Author.Tests.{eqb-true, eqb-false, eq-eqb, ne-eqb, leb-true, le-leb, lt-leb}
 use Rattle.model.specs.Basics.{pick, countTo}
-use Rattle.model.specs.Table.{maxNodes, nodeCount, nextAt, slots}
+use Rattle.model.specs.Table.{nodeCount, nextAt}
 use Rattle.model.specs.Plan.{prevAt, begins, stays, markAt, hasMark, pageCount, runLast}
 use Rattle.model.specs.Archive.{pagesIn, pageFieldIn}
 use Rattle.model.specs.declared.Edition.{Edition}
@@ -28,6 +28,7 @@ use Rattle.theory.specs.PlanFeasible.{Judged}
 use Rattle.theory.specs.PagesByNumber.{Page, page-first}
 use Rattle.theory.specs.ArchiveWords.{Described}
 use Rattle.theory.specs.JudgeAnswers.{pageCount-le}
+use Rattle.writer.specs.Size.{archiveNodes, filmSlots}
 use Rattle.archive.specs.DecodeTable.{WrittenBy, by-pages, by-begin, by-end, fitted, fitted-same, fitted-le}
 
 -- the last of the run that node u is in, or 0 where it is in none
@@ -82,7 +83,7 @@ module _ (t m : List ℕ) where
   abbrev pub DueRow : ℕ → List ℕ → Type 0
   DueRow v l = (w : ℕ) → v < w → w ≤ nodeCount t → getD l w 0 ≡ dueAt t m v w
 
-  due-start : (l : List ℕ) → ((k : ℕ) → k < slots → getD l k 0 ≡ 0) → nodeCount t ≤ maxNodes → DueRow 0 l
+  due-start : (l : List ℕ) → ((k : ℕ) → k < filmSlots → getD l k 0 ≡ 0) → nodeCount t ≤ archiveNodes → DueRow 0 l
   unfolding dueAt
   due-start l h few w less high = h w (omega arith) ∙ sym (go (leb (prevAt t w) 0) refl)
     where
@@ -99,8 +100,8 @@ module _ (t m : List ℕ) where
       ∙ pick-true (leb (prevAt t (v + 1)) v) (endOf t m (prevAt t (v + 1))) 0
       (le-leb (prevAt t (v + 1)) v (omega (arith, prevAt-less t (v + 1) (omega arith))))
 
-  due-turn : SoundFacts t → (l : List ℕ) (v x end : ℕ) → DueRow v l → length l ≡ slots → v < nodeCount t
-      → nodeCount t ≤ maxNodes
+  due-turn : SoundFacts t → (l : List ℕ) (v x end : ℕ) → DueRow v l → length l ≡ filmSlots → v < nodeCount t
+      → nodeCount t ≤ archiveNodes
       → x ≡ nextAt t (v + 1) → end ≡ endOf t m (v + 1) → DueRow (v + 1) (set l x end)
   unfolding dueAt
   due-turn s l v x end h long less few e q w later high =
@@ -217,10 +218,10 @@ abbrev pub Lasts : List ℕ → List ℕ → List ℕ → Type 0
 Lasts t m l = Row (nodeCount t) (λ v. pick (hasMark m begins v) (runLast t m v) 0) l
 
 module _ {e : Edition} {a t m : List ℕ} (w : WrittenBy e a t m) where
-  pub last-start : (l : List ℕ) → ((k : ℕ) → k < slots → getD l k 0 ≡ 0) → LastRow t m 0 l
+  pub last-start : (l : List ℕ) → ((k : ℕ) → k < filmSlots → getD l k 0 ≡ 0) → LastRow t m 0 l
   unfolding lastAt
   last-start l h v low high =
-      h v (omega (arith, w .plan .tree .sound .count-high))
+      h v (omega (arith, w .few))
       ∙ sym (pick-false _ (runLast t m v) 0 (go (hasMark m begins v) refl))
     where
       go : (b : Bool) → hasMark m begins v ≡ b → (hasMark m begins v && leb (countTo v (hasMark m begins)) 0) ≡ false
@@ -229,7 +230,7 @@ module _ {e : Edition} {a t m : List ℕ} (w : WrittenBy e a t m) where
           (lt-leb (countTo v (hasMark m begins)) 0 (omega (arith, countTo-pass (hasMark m begins) v low e 0 low)))
       go false e = and-false-left (hasMark m begins v) (leb (countTo v (hasMark m begins)) 0) e
 
-  last-turn : Described e → (l : List ℕ) (q first last : ℕ) → LastRow t m q l → length l ≡ slots → q < pageCount t m
+  last-turn : Described e → (l : List ℕ) (q first last : ℕ) → LastRow t m q l → length l ≡ filmSlots → q < pageCount t m
       → first ≡ pageFieldIn e a (q + 1) 0 → last ≡ pageFieldIn e a (q + 1) 1
       → LastRow t m (q + 1) (set l first last)
   unfolding lastAt
@@ -243,7 +244,7 @@ module _ {e : Edition} {a t m : List ℕ} (w : WrittenBy e a t m) where
           let test : next ≡ true =
           and-true (hasMark m begins v) (leb rank (q + 1)) (ap (hasMark m begins) is-b ∙ x .1 .passed)
           (le-leb rank (q + 1) (omega (arith, ap (λ u. countTo u (hasMark m begins)) is-b, x .1 .rank))) in (
-            omega (arith, w .plan .tree .sound .count-high),
+            omega (arith, w .few),
             last-here ∙ ap (runLast t m) (sym is-b) ∙ sym (pick-true next (runLast t m v) 0 test),
           ))
           (λ other.
@@ -308,6 +309,7 @@ marks-decoded t m l long room h =
 
 pub record MarksInput (t m lasts links : List ℕ) (nodes : ℕ) : Type 0 where
   pub plan : Judged t m
+  pub few : nodeCount t ≤ archiveNodes
   pub count : nodes ≡ nodeCount t
   pub lasts-are : Lasts t m lasts
   pub links-are : Upto (nodeCount t) (λ v. pick (eqb v 1) 0 (getD links v 0) ≡ nextAt t v)
@@ -321,14 +323,14 @@ abbrev pub MarksPass : List ℕ → List ℕ → ℕ → ℕ → List ℕ → Li
 MarksPass lasts links nodes v out due =
     (t m : List ℕ) → MarksInput t m lasts links nodes → MarksRow m v out × DueRow t m v due
 
-pub marks-start : (lasts links : List ℕ) (nodes : ℕ) (out due : List ℕ) → ((k : ℕ) → k < slots → getD due k 0 ≡ 0)
+pub marks-start : (lasts links : List ℕ) (nodes : ℕ) (out due : List ℕ) → ((k : ℕ) → k < filmSlots → getD due k 0 ≡ 0)
     → MarksPass lasts links nodes 0 out due
 marks-start lasts links nodes out due h t m g =
-    (λ u low high. absurd (omega arith), due-start t m due h (g .plan .tree .sound .count-high))
+    (λ u low high. absurd (omega arith), due-start t m due h (g .few))
 
 pub marks-turn : (lasts links : List ℕ) (nodes v : ℕ) (out due : List ℕ) (end mark next : ℕ)
     → MarksPass lasts links nodes v out due
-    → length due ≡ slots → v < nodes → v < length out → end ≡ runEnd (v + 1) (getD lasts (v + 1) 0) (getD due (v + 1) 0)
+    → length due ≡ filmSlots → v < nodes → v < length out → end ≡ runEnd (v + 1) (getD lasts (v + 1) 0) (getD due (v + 1) 0)
     → mark ≡ markFor (getD lasts (v + 1) 0) end → next ≡ pick (eqb (v + 1) 1) 0 (getD links (v + 1) 0)
     → MarksPass lasts links nodes (v + 1) (set out v mark) (set due next end)
 marks-turn lasts links nodes v out due end mark next h long less room e k q t m g =
@@ -343,7 +345,7 @@ marks-turn lasts links nodes v out due end mark next h long less room e k q t m 
     e in (
       row (r .0) mark-here,
       due-turn t m (g .plan .tree .sound) due v next end (r .1) long (omega (arith, g .count))
-          (g .plan .tree .sound .count-high)
+          (g .few)
           (q ∙ g .links-are (v + 1) (omega arith) within) end-here,
     )
   where
@@ -359,22 +361,22 @@ LastsPass e a q l = (t m : List ℕ) → WrittenBy e a t m → LastRow t m q l
 
 module _ {e : Edition} (d : Described e) (a l : List ℕ) (q pages : ℕ) (h : LastsPass e a q l)
     (is : pages ≡ fitted (pagesIn e a)) where
-  pub lasts-turn : (first last : ℕ) → length l ≡ slots → q < pages → first ≡ fitted (pageFieldIn e a (q + 1) 0)
+  pub lasts-turn : (first last : ℕ) → length l ≡ filmSlots → q < pages → first ≡ fitted (pageFieldIn e a (q + 1) 0)
       → last ≡ pageFieldIn e a (q + 1) 1 → LastsPass e a (q + 1) (set l first last)
   lasts-turn first last long less f g t m w =
       let within : q < pageCount t m = omega (arith, is, fitted-le (pagesIn e a), by-pages d w) in
       let x = page-first t m (q + 1) (omega arith) (omega arith) in
-      let small : pageFieldIn e a (q + 1) 0 < slots =
+      let small : pageFieldIn e a (q + 1) 0 < filmSlots =
       omega (
         arith,
         by-begin d w (q + 1) (x .0) (omega arith) (omega arith) (x .1),
         x .1 .high,
-        w .plan .tree .sound .count-high,
+        w .few,
       ) in
       last-turn w d l q first last (h t m w) long within (f ∙ fitted-same (pageFieldIn e a (q + 1) 0) small) g
 
   pub lasts-end : pages ≤ q → (t m : List ℕ) → WrittenBy e a t m → Lasts t m l
   lasts-end all t m w =
-      let few : pagesIn e a < slots =
-      omega (arith, by-pages d w, pageCount-le t m, w .plan .tree .sound .count-high) in
+      let few : pagesIn e a < filmSlots =
+      omega (arith, by-pages d w, pageCount-le t m, w .few) in
       last-end w l q (h t m w) (omega (arith, is, fitted-same (pagesIn e a) few, by-pages d w))

@@ -10,7 +10,7 @@ use lib.ListN.{length, getD, set}
 use lib.Dec.{eqb, ltb}
 use borrow.Author.Tests.{ltb-true, lt-ltb}
 use Rattle.model.specs.Basics.{pick, listTo}
-use Rattle.model.specs.Table.{bytesOf, nodeCount, nextAt, slots}
+use Rattle.model.specs.Table.{bytesOf, nodeCount, nextAt}
 use Rattle.model.specs.Plan.{parentAt, pageCount, runLast}
 use Rattle.model.specs.Archive.{archiveOf, nodesIn, limitIn, pagesIn, pageFieldIn, nodeFieldIn, parentIn, firstIn}
 use Rattle.model.specs.Archive.{nextIn}
@@ -25,17 +25,26 @@ use Rattle.theory.specs.PagesByNumber.{Page}
 use Rattle.theory.specs.Put.{length-recordsTo}
 use Rattle.theory.specs.ArchiveWords.{Described, archive-nodes, archive-pages, archive-parent}
 use Rattle.theory.specs.ArchiveBack.{read-write, archive-next, begin-back, end-back}
+use Rattle.writer.specs.Size.{archiveNodes, filmSlots, InRoom}
 use Rattle.writer.specs.Links.{nextWith, Linked, nextWith-cong}
 
--- an archive, and the tree and the plan that write it
+-- an archive, and the tree and the plan that write it, within the room
 pub record WrittenBy (e : Edition) (a t m : List ℕ) : Type 0 where
   pub plan : Judged t m
+  pub few : nodeCount t ≤ archiveNodes
   pub same : archiveOf e t m ≡ a
 
-pub written-by : (e : Edition) (a : List ℕ) → isArchive e a ≡ true → WrittenBy e a (tableIn e a) (marksIn e a)
-written-by e a y =
+pub written-by : {e : Edition} → InRoom e → (a : List ℕ) → isArchive e a ≡ true
+    → WrittenBy e a (tableIn e a) (marksIn e a)
+written-by {e} room a y =
+    let t : List ℕ = tableIn e a in
+    let m : List ℕ = marksIn e a in
     let r = read-write e a y in
-    record { plan = unfiled-judged (tableIn e a) (marksIn e a) (r .feasible); same = r .same }
+    record {
+      plan = unfiled-judged t m (r .feasible);
+      few = omega (arith, r .few, room .most-high, ap (nodesIn e) (r .same), archive-nodes (room .is) t m);
+      same = r .same;
+    }
 
 module _ {e : Edition} (d : Described e) {a t m : List ℕ} (w : WrittenBy e a t m) where
   pub by-nodes : nodesIn e a ≡ nodeCount t
@@ -47,8 +56,8 @@ module _ {e : Edition} (d : Described e) {a t m : List ℕ} (w : WrittenBy e a t
   by-parent : (v : ℕ) → 1 ≤ v → v ≤ nodeCount t → parentIn e a v ≡ parentAt t v
   by-parent v low high = ap (λ x. parentIn e x v) (sym (w .same)) ∙ archive-parent d t m v low high
 
-  by-small : (v : ℕ) → 1 ≤ v → v ≤ nodeCount t → parentIn e a v < slots
-  by-small v low high = omega (arith, by-parent v low high, parentAt-less t v low, w .plan .tree .sound .count-high)
+  by-small : (v : ℕ) → 1 ≤ v → v ≤ nodeCount t → parentIn e a v < filmSlots
+  by-small v low high = omega (arith, by-parent v low high, parentAt-less t v low, w .few)
 
   by-next : (v : ℕ) → 1 ≤ v → v ≤ nodeCount t → nextIn e a v ≡ nextAt t v
   by-next v low high = ap (λ x. nextIn e x v) (sym (w .same)) ∙ archive-next d (w .plan) v low high
@@ -63,33 +72,33 @@ module _ {e : Edition} (d : Described e) {a t m : List ℕ} (w : WrittenBy e a t
 
 -- a number that fits, or 0
 unfoldable pub fitted : ℕ → ℕ
-fitted x = pick (ltb x slots) x 0
+fitted x = pick (ltb x filmSlots) x 0
 
-pub fitted-small : (x : ℕ) → fitted x < slots
+pub fitted-small : (x : ℕ) → fitted x < filmSlots
 unfolding fitted
-fitted-small x = go (ltb x slots) refl
+fitted-small x = go (ltb x filmSlots) refl
   where
-    go : (b : Bool) → ltb x slots ≡ b → pick (ltb x slots) x 0 < slots
-    go true e = omega (arith, pick-true (ltb x slots) x 0 e, ltb-true x slots e)
-    go false e = omega (arith, pick-false (ltb x slots) x 0 e)
+    go : (b : Bool) → ltb x filmSlots ≡ b → pick (ltb x filmSlots) x 0 < filmSlots
+    go true e = omega (arith, pick-true (ltb x filmSlots) x 0 e, ltb-true x filmSlots e)
+    go false e = omega (arith, pick-false (ltb x filmSlots) x 0 e)
 
 pub fitted-le : (x : ℕ) → fitted x ≤ x
 unfolding fitted
-fitted-le x = go (ltb x slots) refl
+fitted-le x = go (ltb x filmSlots) refl
   where
-    go : (b : Bool) → ltb x slots ≡ b → pick (ltb x slots) x 0 ≤ x
-    go true e = omega (arith, pick-true (ltb x slots) x 0 e)
-    go false e = omega (arith, pick-false (ltb x slots) x 0 e)
+    go : (b : Bool) → ltb x filmSlots ≡ b → pick (ltb x filmSlots) x 0 ≤ x
+    go true e = omega (arith, pick-true (ltb x filmSlots) x 0 e)
+    go false e = omega (arith, pick-false (ltb x filmSlots) x 0 e)
 
-pub fitted-same : (x : ℕ) → x < slots → fitted x ≡ x
+pub fitted-same : (x : ℕ) → x < filmSlots → fitted x ≡ x
 unfolding fitted
-fitted-same x h = pick-true (ltb x slots) x 0 (lt-ltb x slots h)
+fitted-same x h = pick-true (ltb x filmSlots) x 0 (lt-ltb x filmSlots h)
 
 -- the parents of the nodes 1 to v, where they fit
 abbrev pub Loaded : Edition → List ℕ → ℕ → List ℕ → Type 0
 Loaded e a v l = Upto v (λ u. getD l u 0 ≡ fitted (parentIn e a u))
 
-pub loaded-turn : (e : Edition) (a l : List ℕ) (v x : ℕ) → Loaded e a v l → length l ≡ slots → v + 1 < slots
+pub loaded-turn : (e : Edition) (a l : List ℕ) (v x : ℕ) → Loaded e a v l → length l ≡ filmSlots → v + 1 < filmSlots
     → x ≡ fitted (parentIn e a (v + 1)) → Loaded e a (v + 1) (set l (v + 1) x)
 loaded-turn e a l v x h long less is u low high =
     getD-set l (v + 1) x u (fitted (parentIn e a u))

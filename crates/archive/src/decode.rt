@@ -7,10 +7,10 @@ use crate::fields::page_field;
 use crate::fields::pages_in;
 use crate::fields::parent_in;
 use model::Edition;
-use table::SLOTS;
 use table::put::put_record;
 use table::put::put_word;
 use writer::links::link_next;
+use writer::size::FILM_SLOTS;
 ghost use mathlib.Core.Path.{_≡_};
 ghost use mathlib.Core.Bool.{true};
 ghost use mathlib.Core.List.{List};
@@ -18,11 +18,11 @@ ghost use Prim.Native.Nat.{ℕ, _≤_, _<_};
 ghost use lib.Dec.{eqb};
 ghost use lib.ListN.{length, take};
 ghost use Rattle.model.specs.Basics.{pick};
-ghost use Rattle.model.specs.Table.{tableBytes, slots};
+ghost use Rattle.model.specs.Table.{tableBytes};
 ghost use Rattle.model.specs.Archive.{nodesIn, firstIn, tableIn, marksIn};
 ghost use Rattle.model.specs.Refusals.{isArchive};
 ghost use Rattle.theory.specs.Put.{Starts};
-ghost use Rattle.writer.specs.Size.{InRoom, archiveNodes, longestTable};
+ghost use Rattle.writer.specs.Size.{InRoom, archiveNodes, filmSlots, longestTable};
 ghost use Rattle.writer.specs.Links.{Fit};
 ghost use Rattle.archive.specs.DecodeTable.{WrittenBy, Loaded, fitted, treeUpto};
 ghost use Rattle.archive.specs.DecodeMarks.{runEnd, markFor, Lasts, MarksInput, MarksRow};
@@ -46,7 +46,7 @@ fn first_in(e: Edition, archive: &[u8], v: u16) -> u16
 fn fit(x: u16) -> u16
     ensures { λ r. ⌜ r ≡ fitted x ⌝ }
 {
-    if (x as usize) < SLOTS { x } else { 0 }
+    if (x as usize) < FILM_SLOTS { x } else { 0 }
 }
 
 // A link to the next sibling; node 1 has none.
@@ -57,11 +57,11 @@ fn sibling_of(v: u16, link: u16) -> u16
 }
 
 // The parents of the nodes.
-fn load_parents(e: Edition, archive: &[u8], nodes: u16) -> [u16; SLOTS]
-    requires { ⌜ InRoom e × (nodes < slots) ⌝ }
+fn load_parents(e: Edition, archive: &[u8], nodes: u16) -> [u16; FILM_SLOTS]
+    requires { ⌜ InRoom e × (nodes < filmSlots) ⌝ }
     ensures { λ r. ⌜ Loaded e (now (archive .entry)) nodes r ⌝ }
 {
-    let mut parents = [0u16; SLOTS];
+    let mut parents = [0u16; FILM_SLOTS];
     let mut v: u16 = 0;
     while v < nodes {
         v += 1;
@@ -72,12 +72,12 @@ fn load_parents(e: Edition, archive: &[u8], nodes: u16) -> [u16; SLOTS]
 }
 
 // For each node that begins a run, the last of the run, and 0 for the others.
-fn load_lasts(e: Edition, archive: &[u8]) -> [u16; SLOTS]
+fn load_lasts(e: Edition, archive: &[u8]) -> [u16; FILM_SLOTS]
     requires { ⌜ InRoom e ⌝ }
     ensures { λ r. ⌜ ((t m : List ℕ) → WrittenBy e (now (archive .entry)) t m → Lasts t m r) ⌝ }
 {
     let pages = fit(pages_in(e, archive));
-    let mut lasts = [0u16; SLOTS];
+    let mut lasts = [0u16; FILM_SLOTS];
     let mut q: u16 = 0;
     while q < pages {
         q += 1;
@@ -89,7 +89,7 @@ fn load_lasts(e: Edition, archive: &[u8]) -> [u16; SLOTS]
 }
 
 // The table of the tree, with these links to the next sibling.
-fn fill_tree(e: Edition, archive: &[u8], links: &[u16; SLOTS], tree: &mut [u8])
+fn fill_tree(e: Edition, archive: &[u8], links: &[u16; FILM_SLOTS], tree: &mut [u8])
     requires { ⌜ InRoom e × (nodesIn e (now archive) ≤ archiveNodes) × (length (now tree) ≡ longestTable) ⌝ }
     ensures { λ r. ⌜ Starts (now (tree .exit))
         (treeUpto e (now (archive .entry)) (now (links .entry)) (nodesIn e (now (archive .entry)))) ⌝ }
@@ -133,12 +133,12 @@ fn mark_for(last: u16, end: u16) -> u8
 }
 
 // The marks of the plan. A node's due is the last of the run that the sibling before it is in.
-fn fill_marks(nodes: u16, lasts: &[u16; SLOTS], links: &[u16; SLOTS], plan: &mut [u8])
+fn fill_marks(nodes: u16, lasts: &[u16; FILM_SLOTS], links: &[u16; FILM_SLOTS], plan: &mut [u8])
     requires { ⌜ (nodes ≤ archiveNodes) × Fit nodes (now links) × (length (now plan) ≡ archiveNodes) ⌝ }
     ensures { λ r. ⌜ ((t m : List ℕ) → MarksInput t m (now (lasts .entry)) (now (links .entry)) nodes
         → MarksRow m nodes (now (plan .exit))) ⌝ }
 {
-    let mut due = [0u16; SLOTS];
+    let mut due = [0u16; FILM_SLOTS];
     let mut v: u16 = 0;
     while v < nodes {
         let i = v as usize;
@@ -161,7 +161,7 @@ pub fn decode(e: Edition, archive: &[u8], tree: &mut [u8], plan: &mut [u8])
 {
     let nodes = nodes_in(e, archive);
     let parents = load_parents(e, archive, nodes);
-    let links = link_next(&parents, nodes);
+    let links = link_next(&parents[..], nodes);
     let lasts = load_lasts(e, archive);
     fill_tree(e, archive, &links, tree);
     fill_marks(nodes, &lasts, &links, plan);

@@ -24,7 +24,7 @@ ghost use Rattle.model.specs.declared.Place.the-variants.{Nowhere};
 ghost use Rattle.theory.specs.JudgeAnswers.{treeAnswer};
 
 // The most nodes that a table has.
-pub const MAX_NODES: u16 = 1024;
+pub const MAX_NODES: u16 = 2048;
 
 // The highest page limit.
 pub const MAX_LIMIT: u16 = 1024;

@@ -13,11 +13,11 @@ use Rattle.model.specs.Basics.{atPlace, firstTo}
 use Rattle.theory.specs.Bools.{and-true, and-false-left, and-false-right}
 use Rattle.theory.specs.Ranges.{Upto, atPlace-at, atPlace-nowhere, firstTo-none, firstTo-first}
 use Rattle.theory.specs.Ranges.{firstTo-cong, order-cases}
-use Rattle.model.specs.Table.{slots}
 use Rattle.theory.specs.Lists.{getD-set}
 use Rattle.theory.specs.Slots.{Row}
 use Rattle.theory.specs.ArchiveBack.{found-small}
 use Rattle.model.specs.declared.Place.{Place}
+use Rattle.writer.specs.Size.{filmSlots}
 
 -- the next of v + 1 to n that f gives the key k, or 0
 unfoldable pub nextWith : (ℕ → ℕ) → ℕ → ℕ → ℕ → ℕ
@@ -29,7 +29,7 @@ Linked keys n links = Row n (λ v. nextWith (λ u. getD keys u 0) n v (getD keys
 
 -- those of 1 to n are places of the arrays
 abbrev pub Fit : ℕ → List ℕ → Type 0
-Fit n l = Upto n (λ v. getD l v 0 < slots)
+Fit n l = Upto n (λ v. getD l v 0 < filmSlots)
 
 module _ (f : ℕ → ℕ) (n : ℕ) where
   nextWith-none : (k : ℕ) → nextWith f n n k ≡ 0
@@ -80,26 +80,26 @@ nextWith-cong f g n v k h =
 -- ---- The pass: what was seen of each key after v, and the links of the numbers after v
 
 abbrev pub Seen : (ℕ → ℕ) → ℕ → ℕ → List ℕ → Type 0
-Seen f n v l = (k : ℕ) → k < slots → getD l k 0 ≡ nextWith f n v k
+Seen f n v l = (k : ℕ) → k < filmSlots → getD l k 0 ≡ nextWith f n v k
 
 abbrev pub LinkedFrom : (ℕ → ℕ) → ℕ → ℕ → List ℕ → Type 0
 LinkedFrom f n v l = (u : ℕ) → v < u → u ≤ n → getD l u 0 ≡ nextWith f n u (f u)
 
 module _ (f : ℕ → ℕ) (n : ℕ) where
-  pub seen-start : (l : List ℕ) → ((k : ℕ) → k < slots → getD l k 0 ≡ 0) → Seen f n n l
+  pub seen-start : (l : List ℕ) → ((k : ℕ) → k < filmSlots → getD l k 0 ≡ 0) → Seen f n n l
   seen-start l h k fits = h k fits ∙ sym (nextWith-none f n k)
 
   pub linked-start : (l : List ℕ) → LinkedFrom f n n l
   linked-start l u low high = absurd (omega arith)
 
-  pub seen-turn : (l : List ℕ) (v : ℕ) → Seen f n v l → length l ≡ slots → 1 ≤ v → v ≤ n → f v < slots
+  pub seen-turn : (l : List ℕ) (v : ℕ) → Seen f n v l → length l ≡ filmSlots → 1 ≤ v → v ≤ n → f v < filmSlots
       → Seen f n (v - 1) (set l (f v) v)
   seen-turn l v h long low high fits k within =
       getD-set l (f v) v k (nextWith f n (v - 1) k)
       (λ same. (omega arith, sym (ap (nextWith f n (v - 1)) same ∙ nextWith-here f n v low high)))
       (λ other. h k within ∙ sym (nextWith-skip f n v k low (λ q. other (sym q))))
 
-  pub linked-turn : (s l : List ℕ) (v : ℕ) → Seen f n v s → LinkedFrom f n v l → v < length l → f v < slots → 1 ≤ v
+  pub linked-turn : (s l : List ℕ) (v : ℕ) → Seen f n v s → LinkedFrom f n v l → v < length l → f v < filmSlots → 1 ≤ v
       → LinkedFrom f n (v - 1) (set l v (getD s (f v) 0))
   linked-turn s l v seen h fits key low u less high =
       getD-set l v (getD s (f v) 0) u (nextWith f n u (f u))

@@ -14,12 +14,12 @@ use Rattle.model.specs.Runs.{pageRun}
 use Rattle.model.specs.Archive.{headWords, nextPage, pageRecord, nextOnPage, nodeRecord, archiveOf, archiveBytes}
 use Rattle.model.specs.declared.Edition.{Edition}
 use Rattle.theory.specs.Ranges.{listTo-cong}
-use Rattle.theory.specs.TableFacts.{AcceptedFacts}
 use Rattle.theory.specs.PlanPass.{pageOf-le}
 use Rattle.theory.specs.Slots.{Row}
 use Rattle.theory.specs.Put.{putWord, length-putWord, Starts, starts-none, starts-word, starts-all, RecordsPut}
 use Rattle.theory.specs.Put.{length-recordsTo}
 use Rattle.theory.specs.ArchiveWords.{Described, length-nodeRecord}
+use Rattle.writer.specs.Size.{filmSlots}
 use Rattle.writer.specs.Links.{nextWith, Linked, Fit, nextWith-cong}
 
 -- ---- The head
@@ -137,6 +137,6 @@ next-of-page t m page nexts n n-is row h v low high =
     ∙ nextWith-cong (λ u. getD page u 0) (pageOf t m) (nodeCount t) v (getD page v 0) row
     ∙ ap (nextWith (pageOf t m) (nodeCount t) v) (row v low high)
 
-pub page-fits : {t : List ℕ} → AcceptedFacts t → (m page : List ℕ) → Row (nodeCount t) (pageOf t m) page
+pub page-fits : (t m page : List ℕ) → nodeCount t < filmSlots → Row (nodeCount t) (pageOf t m) page
     → Fit (nodeCount t) page
-page-fits {t} a m page row v low high = omega (arith, row v low high, pageOf-le t m v, a .sound .count-high)
+page-fits t m page few row v low high = omega (arith, row v low high, pageOf-le t m v)

@@ -1,5 +1,5 @@
--- How large an archive is. Defines mostHead, mostPage, archiveNodes, longestArchive, longestTable, InRoom. Proves
--- first-room, fits-longest. Assumes nothing.
+-- How large an archive is. Defines mostHead, mostPage, archiveNodes, filmSlots, longestArchive, longestTable, InRoom.
+-- Proves first-room, fits-longest. Assumes nothing.
 use Prim.Native.Nat.{ℕ, _+_, _*_, _≤_}
 use native.Mathlib.Omega.{arith}
 use native.Mathlib.Nat.{mul-le-mul}
@@ -8,8 +8,8 @@ use Rattle.model.specs.Archive.{firstEdition, archiveBytes}
 use Rattle.model.specs.declared.Edition.{Edition}
 use Rattle.theory.specs.ArchiveWords.{Described, first-described}
 
--- Room for the largest edition in the reader's arrays: the words of its head and of a page record, and the most nodes,
--- and so pages, of an archive. An edition's own limit is its description's.
+-- Room for the largest edition in the arrays of writer and reader: the words of its head and of a page record, and the
+-- most nodes, and so pages, of an archive. An edition's own limit is its description's.
 abbrev pub mostHead : ℕ
 mostHead = 3
 
@@ -17,7 +17,11 @@ abbrev pub mostPage : ℕ
 mostPage = 4
 
 abbrev pub archiveNodes : ℕ
-archiveNodes = 1024
+archiveNodes = firstEdition .most
+
+-- a place for each node or page of an archive by number, and one for 0
+abbrev pub filmSlots : ℕ
+filmSlots = archiveNodes + 1
 
 abbrev pub longestArchive : ℕ
 longestArchive = 2 * mostHead + 2 * mostPage * archiveNodes + 8 * archiveNodes

@@ -1,4 +1,4 @@
-// The archive's writer, in an edition. Refusal 12. What the reader takes from it is public.
+// The archive's writer, in an edition. Refusals 15 and 12. What the reader takes from it is public.
 pub mod links;
 mod records;
 pub mod size;

@@ -1,4 +1,5 @@
 // The head, the page records and the node records of an archive, put into an output of its length.
+use crate::size::FILM_SLOTS;
 use model::Edition;
 use table::SLOTS;
 use table::put::put_record;
@@ -13,7 +14,7 @@ ghost use Rattle.model.specs.Table.{nodeCount, slots};
 ghost use Rattle.model.specs.Archive.{nextPage, archiveBytes};
 ghost use Rattle.theory.specs.Ranges.{Upto};
 ghost use Rattle.theory.specs.Put.{putWord, RecordsPut};
-ghost use Rattle.writer.specs.Size.{InRoom};
+ghost use Rattle.writer.specs.Size.{InRoom, filmSlots};
 ghost use Rattle.writer.specs.RecordsOf.{pageRow, nodeRow};
 
 // N, K and P, the last three words of the head.
@@ -68,11 +69,11 @@ pub fn put_nodes(
     e: Edition,
     table: &[u8],
     parents: &[u16; SLOTS],
-    nexts: &[u16; SLOTS],
+    nexts: &[u16; FILM_SLOTS],
     pages: u16,
     out: &mut [u8],
 )
-    requires { ⌜ InRoom e × (nodeCount (now table) < slots) × (pages < slots)
+    requires { ⌜ InRoom e × (nodeCount (now table) < filmSlots) × (pages < slots)
         × (length (now out) ≡ archiveBytes e pages (nodeCount (now table))) ⌝ }
     ensures { λ r. ⌜ RecordsPut (nodeRow (now (table .entry)) (now (parents .entry)) (now (nexts .entry)))
         (e .head + e .page * pages) (nodeCount (now (table .entry))) (now (out .entry)) (now (out .exit)) ⌝ }

@@ -4,13 +4,19 @@ ghost use mathlib.Core.Path.{_≡_};
 ghost use Rattle.model.specs.Archive.{firstEdition, archiveBytes};
 ghost use Rattle.writer.specs.Size.{InRoom};
 
-// Room for the largest edition in the reader's arrays: the words of its head and of a page record, and the most nodes,
-// and so pages, of an archive.
+// The most nodes of the archive of document 01, by which film decks size their memory.
+const FIRST_NODES: u16 = 1024;
+
+// Room for the largest edition in the arrays of writer and reader: the words of its head and of a page record, and the
+// most nodes, and so pages, of an archive.
 pub const MOST_HEAD: usize = 3;
 
 pub const MOST_PAGE: usize = 4;
 
-pub const MOST_NODES: usize = 1024;
+pub const MOST_NODES: usize = FIRST_NODES as usize;
+
+// A place for each node or page of an archive by number, and one for 0.
+pub const FILM_SLOTS: usize = MOST_NODES + 1;
 
 // The longest archive.
 pub const MOST_BYTES: usize = 2 * MOST_HEAD + 2 * MOST_PAGE * MOST_NODES + 8 * MOST_NODES;
@@ -25,7 +31,7 @@ pub fn first_edition() -> Edition
     Edition {
         head: 3,
         page: 4,
-        most: 1024,
+        most: FIRST_NODES,
     }
 }
 

@@ -11,14 +11,19 @@ use judge::judge_pages;
 use model::Answer;
 use model::Edition;
 use table::check_tree;
-use table::refuse;
+use table::earlier;
+use table::place_if;
 use table::words::limit_of;
 use table::words::node_count;
 ghost use mathlib.Core.Path.{_≡_};
 ghost use lib.ListN.{length};
 ghost use Rattle.model.specs.Table.{nodeCount};
 ghost use Rattle.model.specs.Archive.{firstEdition, archiveOf, archiveBytes};
-ghost use Rattle.model.specs.Refusals.{writeArchive};
+ghost use mathlib.Core.Bool.{not};
+ghost use Prim.Native.Nat.{_≤_};
+ghost use lib.Dec.{eqb, ltb};
+ghost use Rattle.model.specs.Basics.{when, atPlace};
+ghost use Rattle.model.specs.Refusals.{refused, writeArchive};
 ghost use Rattle.model.specs.Demand.{WritePromise};
 ghost use Rattle.theory.specs.TableFacts.{AcceptedFacts};
 ghost use Rattle.theory.specs.PlanFeasible.{Judged};
@@ -30,15 +35,26 @@ ghost use Rattle.writer.specs.Size.{InRoom};
 // The whole archive of an accepted tree and a feasible plan, into an output of its length.
 fn fill_archive(e: Edition, table: &[u8], marks: &[u8], plan: Layout, out: &mut [u8])
     requires { ⌜ InRoom e × Judged (now table) (now marks) × IsLayout (now table) (now marks) plan
+        × (nodeCount (now table) ≤ e .most)
         × (length (now out) ≡ archiveBytes e (plan .pages) (nodeCount (now table))) ⌝ }
     ensures { λ r. ⌜ now (out .exit) ≡ archiveOf e (now (table .entry)) (now (marks .entry)) ⌝ }
 {
     let nodes = node_count(table);
     let limit = limit_of(table);
-    let nexts = link_next(&plan.page, nodes);
+    let nexts = link_next(&plan.page[..], nodes);
     put_head(e, nodes, limit, plan.pages, out);
     put_pages(e, &plan.firsts, &plan.lasts, &plan.weights, plan.pages, out);
     put_nodes(e, table, &plan.parents, &nexts, plan.pages, out);
+}
+
+// What is checked of the film, with 15 and 12, or else the judge's answer.
+fn check_film(e: Edition, nodes: u16, size: u32, length: usize, judged: Answer) -> Answer
+    ensures { λ r. ⌜ r ≡ atPlace (when (ltb (e .most) nodes) nodes) (refused 15)
+        (atPlace (when (not (eqb length size)) size) (refused 12) judged) ⌝ }
+{
+    let many = place_if(e.most < nodes, nodes as u32);
+    let output = place_if(length != size as usize, size);
+    earlier(15, many, earlier(12, output, judged))
 }
 
 // The writer of an edition, going on from the answer of what judged the tree.
@@ -48,20 +64,22 @@ pub fn write_edition(e: Edition, tree: Answer, table: &[u8], marks: &[u8], out: 
         ≡ writeFrom e (now (table .entry)) (now (marks .entry)) (now (out .entry)) tree ⌝ }
 {
     let judged = judge_pages(tree, table, marks);
-    let answer = judged.answer;
-    if answer.number != 0 {
-        return answer;
+    let verdict = judged.answer;
+    if verdict.number != 0 {
+        return verdict;
     }
     let plan = judged.layout;
-    let size = archive_bytes(e, plan.pages, node_count(table));
-    if out.len() != size as usize {
-        return refuse(12, size);
+    let nodes = node_count(table);
+    let size = archive_bytes(e, plan.pages, nodes);
+    let answer = check_film(e, nodes, size, out.len(), verdict);
+    if answer.number != 0 {
+        return answer;
     }
     fill_archive(e, table, marks, plan, out);
     answer
 }
 
-// Entry: the archive writer. The refusals of the judge, and 12. The archive of a best plan is the lowest there is.
+// Entry: the archive writer. The refusals of the judge, 15 and 12. The archive of a best plan is the lowest there is.
 pub fn write_archive(table: &[u8], marks: &[u8], out: &mut [u8]) -> Answer
     ensures { λ r. ⌜ written r (now (out .exit))
         ≡ writeArchive firstEdition (now (table .entry)) (now (marks .entry)) (now (out .entry)) ⌝ }

@@ -21,6 +21,7 @@ link-next-requires c κs =
             fitted-small
                 (parentIn (a .e) (a .archive .now) v),
           ),
+      omega (arith, c .before .before .nodes-in .ensures, start .pre .1),
     )
 
 fill-marks-requires : tie.Need-fill-marks-requires
@@ -51,7 +52,7 @@ returns c =
     let lasts = c .before .before .before .before .before .before .before .before .before .before .before .load-lasts in
     let tree = c .before .before .before .before .before .before .before .before .fill-tree in
     let plan = c .before .before .fill-marks in
-    decoded (start .pre .0 .is) (start .args .archive .now) (parents .result) (links .result) (lasts .result)
+    decoded (start .pre .0) (start .args .archive .now) (parents .result) (links .result) (lasts .result)
     (tree .last .1 .1 .1 .0) (plan .last .1 .1 .1 .0) (n .nodes-in .result) (n .nodes-in .ensures) (parents .ensures)
     (links .ensures) (lasts .ensures) (tree .ensures) (plan .ensures)
     (omega (arith, plan .kept .1 .1 .1 .0, start .pre .3, start .pre .1))
@@ -59,5 +60,5 @@ returns c =
 pub decode-spec : {M : Type 1} → statement M
 decode-spec =
     tie.close
-    (tie.spec (λ c κs. search needs) (λ c κs. search needs) link-next-requires (λ c κs. search needs)
+    (tie.spec (λ c κs. search needs) (λ c κs. search needs) (λ c. search needs) link-next-requires (λ c κs. search needs)
     (λ c κs. search needs) fill-marks-requires (λ c. search needs) (λ c. search needs) returns)

@@ -4,7 +4,7 @@ use Prim.Native.Nat.{_+_, _-_, _≤_, _<_}
 use native.Mathlib.Omega.{arith}
 use lib.ListN.{length, getD, length-set, replicate, getD-replicate}
 use lib.Dec.{eqb}
-use Rattle.model.specs.Table.{slots}
+use Rattle.writer.specs.Size.{filmSlots}
 use Rattle.archive.specs.DecodeMarks.{MarksPass, marks-start, marks-turn}
 use Rattle.archive.proofs.Decoded.{sibling-small}
 use borrow.Author.Needs.{needs}
@@ -13,13 +13,13 @@ use Rattle.archive.proofs.decode.fill_marks.Tie as tie
 
 abbrev Inv-loop : tie.InvT-loop
 Inv-loop nodes lasts links plan₀ due₀ v₀ plan due v =
-    (v ≤ nodes) × (length due ≡ slots) × (length plan ≡ length plan₀) × MarksPass lasts links nodes v plan due
+    (v ≤ nodes) × (length due ≡ filmSlots) × (length plan ≡ length plan₀) × MarksPass lasts links nodes v plan due
 
 abbrev μ-loop : tie.MeasureT-loop
 μ-loop nodes lasts links plan₀ due₀ v₀ plan due v = nodes - v
 
 -- the next sibling is a place of the array
-next-few : (n : tie.After-sibling-of Inv-loop μ-loop) → n .sibling-of .result < slots
+next-few : (n : tie.After-sibling-of Inv-loop μ-loop) → n .sibling-of .result < filmSlots
 next-few n =
     let v = n .before .before .before .before .before .loop .v + 1 in
     let link = n .before .before .before .before .before .before .before .pre .1 v (omega arith) (omega arith) in
@@ -36,8 +36,8 @@ loop-holds c =
       omega arith,
       refl,
       refl,
-      marks-start (a .lasts .now) (a .links .now) (a .nodes) (a .plan .now) (replicate slots 0)
-          (λ k fits. getD-replicate slots k 0 0 fits),
+      marks-start (a .lasts .now) (a .links .now) (a .nodes) (a .plan .now) (replicate filmSlots 0)
+          (λ k fits. getD-replicate filmSlots k 0 0 fits),
     )
 
 slice-write-plan : tie.Need-slice-write-plan Inv-loop μ-loop

@@ -3,7 +3,7 @@ use mathlib.Core.Path.{_≡_, refl, ap, _∙_}
 use Prim.Native.Nat.{_-_, _≤_, _<_}
 use native.Mathlib.Omega.{arith}
 use lib.ListN.{length, length-set, replicate, getD-replicate}
-use Rattle.model.specs.Table.{slots}
+use Rattle.writer.specs.Size.{filmSlots}
 use Rattle.archive.specs.DecodeTable.{fitted, fitted-small}
 use Rattle.archive.specs.DecodeMarks.{LastsPass, last-start, lasts-turn, lasts-end}
 use borrow.Author.Needs.{needs}
@@ -11,18 +11,18 @@ use Rattle.archive.proofs.decode.load_lasts.Statement.{statement}
 use Rattle.archive.proofs.decode.load_lasts.Tie as tie
 
 abbrev Inv-loop : tie.InvT-loop
-Inv-loop e archive pages lasts₀ q₀ lasts q = (length lasts ≡ slots) × (q ≤ pages) × LastsPass e archive q lasts
+Inv-loop e archive pages lasts₀ q₀ lasts q = (length lasts ≡ filmSlots) × (q ≤ pages) × LastsPass e archive q lasts
 
 abbrev μ-loop : tie.MeasureT-loop
 μ-loop e archive pages lasts₀ q₀ lasts q = pages - q
 
 -- what is taken for a first node is a place of the array
-first-few : (f : tie.After-fit2 Inv-loop μ-loop) → f .fit2 .result < slots
+first-few : (f : tie.After-fit2 Inv-loop μ-loop) → f .fit2 .result < filmSlots
 first-few f = omega (arith, f .fit2 .ensures, fitted-small (f .before .page-field .result))
 
 loop-holds : tie.Need-loop-holds Inv-loop μ-loop
 loop-holds c =
-    (refl, omega arith, λ t m w. last-start w (replicate slots 0) (λ k fits. getD-replicate slots k 0 0 fits))
+    (refl, omega arith, λ t m w. last-start w (replicate filmSlots 0) (λ k fits. getD-replicate filmSlots k 0 0 fits))
 
 cast-lasts : tie.Need-cast-lasts Inv-loop μ-loop
 cast-lasts c = let few = first-few (c .before) in search needs

@@ -3,14 +3,14 @@ use mathlib.Core.Path.{_≡_, refl, ap, _∙_}
 use Prim.Native.Nat.{_-_, _≤_}
 use native.Mathlib.Omega.{arith}
 use lib.ListN.{length, length-set}
-use Rattle.model.specs.Table.{slots}
+use Rattle.writer.specs.Size.{filmSlots}
 use Rattle.archive.specs.DecodeTable.{Loaded, fitted, loaded-turn}
 use borrow.Author.Needs.{needs}
 use Rattle.archive.proofs.decode.load_parents.Statement.{statement}
 use Rattle.archive.proofs.decode.load_parents.Tie as tie
 
 abbrev Inv-loop : tie.InvT-loop
-Inv-loop e archive nodes parents₀ v₀ parents v = (length parents ≡ slots) × (v ≤ nodes) × Loaded e archive v parents
+Inv-loop e archive nodes parents₀ v₀ parents v = (length parents ≡ filmSlots) × (v ≤ nodes) × Loaded e archive v parents
 
 abbrev μ-loop : tie.MeasureT-loop
 μ-loop e archive nodes parents₀ v₀ parents v = nodes - v

@@ -2,10 +2,11 @@
 use mathlib.Core.Bool.{false}
 use mathlib.Core.Path.{_≡_, sym, ap, _∙_}
 use mathlib.Core.List.{List}
-use Prim.Native.Nat.{ℕ}
+use Prim.Native.Nat.{ℕ, _≤_}
 use native.Mathlib.Omega.{arith}
 use lib.ListN.{length, take, replicate}
 use Rattle.model.specs.Basics.{sameList}
+use Rattle.model.specs.Archive.{nodesIn}
 use Rattle.model.specs.declared.Answer.{Answer}
 use Rattle.model.specs.declared.Edition.{Edition}
 use Rattle.theory.specs.JudgeAnswers.{with-facts}
@@ -52,6 +53,9 @@ module _ (w : tie.After-write-edition) where
   room : InRoom edition
   room = w .before .before .before .before .before .before .before .pre .0
 
+  few : nodesIn edition archive ≤ edition .most
+  few = w .before .before .before .before .before .before .before .pre .1
+
   wrote : written (w .write-edition .result) copied ≡ writeWith false edition tree plan (lent (w .before))
   wrote =
       write-entry false edition tree plan (lent (w .before)) _ (w .write-edition .ensures)
@@ -84,7 +88,8 @@ returns-2 : tie.Need-returns-2
 returns-2 c =
     let w = c .before .before .before .before in
     copy-refused (c .refuse2 .ensures)
-    (copy-stopped (room w) (archive w) _ _ _ (copied w) _ (wrote w) (c .before .if2 .taken) (fresh (w .before)))
+    (copy-stopped (room w) (archive w) _ _ _ (copied w) _ (wrote w) (c .before .if2 .taken) (few w)
+    (fresh (w .before)))
 
 array-share-prefix-copy : tie.Need-array-share-prefix-copy
 array-share-prefix-copy c = let w = c .before .before .before in part-within (copied w) _ _ (copied-long w)

@@ -6,7 +6,7 @@ use Prim.Native.Nat.{_≤_, _<_}
 use native.Mathlib.Omega.{arith}
 use lib.ListN.{length, getD}
 use lib.ListN.{length-set, replicate, getD-replicate}
-use Rattle.model.specs.Table.{slots}
+use Rattle.writer.specs.Size.{filmSlots}
 use Rattle.writer.specs.Links.{Seen, LinkedFrom, seen-start, seen-turn, linked-start, linked-turn}
 use borrow.Author.Needs.{needs}
 use Rattle.writer.proofs.links.link_next.Statement.{statement}
@@ -14,15 +14,15 @@ use Rattle.writer.proofs.links.link_next.Tie as tie
 
 abbrev Inv-loop : tie.InvT-loop
 Inv-loop keys nodes seen₀ next₀ v₀ seen next v =
-    (length seen ≡ slots) × (length next ≡ slots) × (v ≤ nodes) × Seen (λ u. getD keys u 0) nodes v seen
+    (length seen ≡ filmSlots) × (length next ≡ filmSlots) × (v ≤ nodes) × Seen (λ u. getD keys u 0) nodes v seen
     × LinkedFrom (λ u. getD keys u 0) nodes v next
 
 abbrev μ-loop : tie.MeasureT-loop
 μ-loop keys nodes seen₀ next₀ v₀ seen next v = v
 
 -- a key is a place of the arrays
-key-few : (k : tie.After-key Inv-loop μ-loop)
-    → getD (k .before .before .before .args .keys .now) (k .before .before .loop .v) 0 < slots
+key-few : (k : tie.After-shared-slice-known Inv-loop μ-loop)
+    → getD (k .before .before .before .args .keys .now) (k .before .before .loop .v) 0 < filmSlots
 key-few k = k .before .before .before .pre .1 (k .before .before .loop .v) (omega arith) (omega arith)
 
 loop-holds : tie.Need-loop-holds Inv-loop μ-loop
@@ -30,8 +30,8 @@ loop-holds c = (
   refl,
   refl,
   omega arith,
-  seen-start _ _ (replicate slots 0) (λ k fits. getD-replicate slots k 0 0 fits),
-  linked-start _ _ (replicate slots 0),
+  seen-start _ _ (replicate filmSlots 0) (λ k fits. getD-replicate filmSlots k 0 0 fits),
+  linked-start _ _ (replicate filmSlots 0),
 )
 
 cast-key-2 : tie.Need-cast-key-2 Inv-loop μ-loop

@@ -2,9 +2,10 @@
 use mathlib.Core.Path.{_∙_}
 use Prim.Native.Nat.{_<_}
 use native.Mathlib.Omega.{arith}
-use Rattle.model.specs.Table.{slots}
+use Rattle.model.specs.Table.{slots, nodeCount}
 use Rattle.theory.specs.JudgeAnswers.{pageCount-le}
 use Rattle.theory.specs.ArchiveBack.{judged-light}
+use Rattle.writer.specs.Size.{filmSlots}
 use Rattle.writer.specs.RecordsOf.{head-put, all-put, next-of-page, page-fits}
 use borrow.Author.Needs.{needs}
 use Rattle.writer.proofs.write.fill_archive.Statement.{statement}
@@ -12,18 +13,20 @@ use Rattle.writer.proofs.write.fill_archive.Tie as tie
 
 link-next-requires : tie.Need-link-next-requires
 link-next-requires c κs =
-    let start = c .before .before .before .before .before .before .before in
+    let start = c .before .before .before .before .before .before .before .before in
     let a = start .args in
-    let count = c .before .before .before .node-count .ensures in (
+    let count = c .before .before .before .before .node-count .ensures in
+    let few : nodeCount (a .table .now) < filmSlots = omega (arith, start .pre .3, start .pre .0 .most-high) in (
+      omega arith,
+      λ v low high. page-fits (a .table .now) (a .marks .now) (a .t4 .page) few (start .pre .2 .page-is) v low
+          (omega arith),
       omega (arith, start .pre .1 .tree .sound .count-high),
-      λ v low high.
-          page-fits (start .pre .1 .tree) (a .marks .now) (a .t4 .page) (start .pre .2 .page-is) v low (omega arith),
     )
 
 put-pages-requires : tie.Need-put-pages-requires
 put-pages-requires c κs =
     let h = c .before .before .before .before .before .before .before in
-    let start = h .before .before .before .before .before .before .before .before .before .before in
+    let start = h .before .before .before .before .before .before .before .before .before .before .before in
     let a = start .args in
     let few = pageCount-le (a .table .now) (a .marks .now) in
     let sound = start .pre .1 .tree .sound in
@@ -36,22 +39,22 @@ put-pages-requires c κs =
             start .pre .2 .weights-are q (omega arith),
             judged-light (start .pre .1) q low (omega (arith, start .pre .2 .pages-are)),
           ),
-      omega (arith, h .put-head .kept .1 .1 .1 .1 .0, start .pre .3),
+      omega (arith, h .put-head .kept .1 .1 .1 .1 .0, start .pre .4),
     )
 
 put-nodes-requires : tie.Need-put-nodes-requires
 put-nodes-requires c κs =
     let h =
     c .before .before .before .before .before .before .before .before .before .before .before .before .before .before in
-    let start = h .before .before .before .before .before .before .before .before .before .before in
+    let start = h .before .before .before .before .before .before .before .before .before .before .before in
     let a = start .args in
     let few = pageCount-le (a .table .now) (a .marks .now) in
     let sound = start .pre .1 .tree .sound in (
       start .pre .0,
-      omega arith,
+      omega (arith, start .pre .3, start .pre .0 .most-high),
       omega (arith, start .pre .2 .pages-are),
       c .before .before .before .before .before .before .put-pages .kept .1 .1 .1 .1 .1 .0
-          ∙ h .put-head .kept .1 .1 .1 .1 .0 ∙ start .pre .3,
+          ∙ h .put-head .kept .1 .1 .1 .1 .0 ∙ start .pre .4,
     )
 
 returns : tie.Need-returns
@@ -59,15 +62,15 @@ returns c =
     let p = c .before .before .before .before .before .before .before .before .before in
     let pages = p .put-pages in
     let h = p .before .before .before .before .before .before .before .before in
-    let start = h .before .before .before .before .before .before .before .before .before .before in
+    let start = h .before .before .before .before .before .before .before .before .before .before .before in
     let a = start .args in
     let t = a .table .now in
     let m = a .marks .now in
     let plan = start .pre .2 in
     let good = start .pre .1 .marked in
     let d = start .pre .0 .is in
-    let count = h .before .before .before .before .before .before .node-count .ensures in
-    let limit = h .before .before .before .before .before .limit-of .ensures in
+    let count = h .before .before .before .before .before .before .before .node-count .ensures in
+    let limit = h .before .before .before .before .before .before .limit-of .ensures in
     let nexts = h .before .before .link-next in
     let nodes = c .before .before .put-nodes in
     all-put d t m (a .t4 .firsts) (a .t4 .lasts) (a .t4 .weights) (a .t4 .parents) (nexts .result) (a .t4 .pages)
@@ -76,9 +79,9 @@ returns c =
     (plan .parents-are) (next-of-page t m (a .t4 .page) (nexts .result) _ count (plan .page-is) (nexts .ensures))
     _ _ _
     (head-put d t m (a .out .now) _ _ _ _ (h .put-head .ensures) count limit (plan .pages-are)
-    (omega (arith, start .pre .3)))
+    (omega (arith, start .pre .4)))
     (pages .ensures) (nodes .ensures)
-    (nodes .kept .1 .1 .1 .1 .1 .0 ∙ pages .kept .1 .1 .1 .1 .1 .0 ∙ h .put-head .kept .1 .1 .1 .1 .0 ∙ start .pre .3)
+    (nodes .kept .1 .1 .1 .1 .1 .0 ∙ pages .kept .1 .1 .1 .1 .1 .0 ∙ h .put-head .kept .1 .1 .1 .1 .0 ∙ start .pre .4)
 
 pub fill-archive-spec : {M : Type 1} → statement M
 fill-archive-spec =
