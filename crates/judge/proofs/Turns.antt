@@ -28,8 +28,7 @@ use Rattle.theory.specs.Slots.{parent-is, home-is}
 use Rattle.theory.specs.PagesByNumber.{lastOnPage, lastOnPage-zero, lastOnPage-on, lastOnPage-off}
 use Rattle.theory.specs.PagesByNumber.{first-found, last-found}
 use Rattle.theory.specs.JudgeAnswers.{pageCount-le}
-use Rattle.judge.specs.declared.pages.Layout.{Layout}
-use Rattle.judge.specs.Rows.{goodCase, IsLayout, noLayout}
+use Rattle.judge.specs.Rows.{goodCase, Layout, layoutOf, IsLayout}
 
 -- ---- Pages
 
@@ -150,7 +149,7 @@ bad-turn t m v bad next good h e q =
 -- ---- The pass
 
 -- what stands in the arrays after the nodes 1 to v
-pub record LayoutTo (t m : List ℕ) (v : ℕ) (before : List ℕ) (r : Layout) : Type 0 where
+pub record LayoutTo (t m : List ℕ) (v : ℕ) (before : List ℕ) (r : Layout) (bad : ℕ) : Type 0 where
   pub prevs : SlotsHold (prevTo t v) before
   pub parents-long : length (r .parents) ≡ slots
   pub parents-to : Row v (parentAt t) (r .parents)
@@ -161,9 +160,11 @@ pub record LayoutTo (t m : List ℕ) (v : ℕ) (before : List ℕ) (r : Layout) 
   pub lasts-to : SlotsHold (lastOnPage t m (inRun m) v) (r .lasts)
   pub weights-to : SlotsHold (weightTo v t m) (r .weights)
   pub pages-to : r .pages ≡ countTo v (hasMark m begins)
-  pub bad-to : placed (r .bad) ≡ firstTo v (λ u. not (goodMark t m u))
+  pub bad-to : placed bad ≡ firstTo v (λ u. not (goodMark t m u))
 
-pub layout-start : (t m : List ℕ) → LayoutTo t m 0 (replicate slots 0) noLayout
+pub layout-start : (t m : List ℕ)
+    → LayoutTo t m 0 (replicate slots 0)
+    (layoutOf (replicate slots 0) (replicate slots 0) (replicate slots 0) (replicate slots 0) (replicate slots 0) 0) 0
 unfolding when
 layout-start t m =
     record {
@@ -181,8 +182,8 @@ layout-start t m =
     }
 
 -- the turn of node v + 1: what its locals are, and that they have places in the arrays
-module _ {t m : List ℕ} {v : ℕ} {before : List ℕ} {r : Layout} (a : AcceptedFacts t) (h : LayoutTo t m v before r)
-    (less : v < nodeCount t) where
+module _ {t m : List ℕ} {v : ℕ} {before : List ℕ} {r : Layout} {wrong : ℕ} (a : AcceptedFacts t)
+    (h : LayoutTo t m v before r wrong) (less : v < nodeCount t) where
   -- the sibling before it
   abbrev u : ℕ
   u = getD before (v + 1) 0
@@ -226,7 +227,7 @@ module _ {t m : List ℕ} {v : ℕ} {before : List ℕ} {r : Layout} (a : Accept
 
   pub layout-turn : (mark parent next p first last w x : ℕ) (good : Bool) (prior bad : ℕ)
       → mark ≡ markAt m (v + 1) → prior ≡ markAt m u
-      → good ≡ goodCase (v + 1) mark u prior → bad ≡ pick (eqb (r .bad) 0 && not good) (v + 1) (r .bad)
+      → good ≡ goodCase (v + 1) mark u prior → bad ≡ pick (eqb wrong 0 && not good) (v + 1) wrong
       → parent ≡ pick (eqb u 0) (v + 1 - 1) (getD (r .parents) u 0)
       → next ≡ pick (eqb mark 1) (r .pages + 1) (r .pages) → p ≡ pageOf t m (v + 1)
       → first ≡ pick (eqb mark 1) (v + 1) (getD (r .firsts) p 0)
@@ -240,8 +241,8 @@ module _ {t m : List ℕ} {v : ℕ} {before : List ℕ} {r : Layout} (a : Accept
         lasts = set (r .lasts) p last;
         weights = set (r .weights) p (getD (r .weights) p 0 + w);
         pages = next;
-        bad = bad;
       })
+      bad
   layout-turn mark parent next p first last w x good prior bad mark-is prior-as good-as bad-as parent-as next-as p-is
       first-as last-as w-is x-is =
       let small = a .sound .count-high in
@@ -266,27 +267,30 @@ module _ {t m : List ℕ} {v : ℕ} {before : List ℕ} {r : Layout} (a : Accept
         weights-to = weights-turn t m (r .weights) v p w (h .weights-to) p-is fits w-is;
         pages-to = count-turn m v mark (r .pages) next (h .pages-to) mark-is next-as;
         bad-to =
-            bad-turn t m v (r .bad) bad good (h .bad-to)
+            bad-turn t m v wrong bad good (h .bad-to)
             (good-is t m (v + 1) mark u prior good good-as mark-is u-is prior-as) bad-as;
       }
 
-pub layout-end : {t m : List ℕ} {v : ℕ} {before : List ℕ} {r : Layout} → AcceptedFacts t → LayoutTo t m v before r
-    → v ≤ nodeCount t → nodeCount t ≤ v → IsLayout t m r
+pub layout-end : {t m : List ℕ} {v : ℕ} {before : List ℕ} {r : Layout} {bad : ℕ} → AcceptedFacts t
+    → LayoutTo t m v before r bad → v ≤ nodeCount t → nodeCount t ≤ v
+    → IsLayout t m r × (when (not (eqb bad 0)) bad ≡ badMark t m)
 unfolding weightTo pageWeight pageCount badMark
-layout-end {t} {m} {v} {before} {r} a h le ge =
+layout-end {t} {m} {v} {before} {r} {bad} a h le ge =
     let same : v ≡ nodeCount t = omega arith in
     let all = rw same at h in
     let fits : (p : ℕ) → p ≤ pageCount t m → p < slots =
     λ p high. omega (arith, pageCount-le t m, a .sound .count-high) in
-    record {
-      parents-are = all .parents-to;
-      page-is = all .page-to;
-      firsts-are = λ good p low high. all .firsts-to .at p (fits p high) ∙ first-found (a .sound) m good p low high;
-      lasts-are = λ good p low high. all .lasts-to .at p (fits p high) ∙ last-found (a .sound) m good p low high;
-      weights-are = all .weights-to .at;
-      pages-are = all .pages-to;
-      bad-is = all .bad-to;
-    }
+    (
+      record {
+        parents-are = all .parents-to;
+        page-is = all .page-to;
+        firsts-are = λ good p low high. all .firsts-to .at p (fits p high) ∙ first-found (a .sound) m good p low high;
+        lasts-are = λ good p low high. all .lasts-to .at p (fits p high) ∙ last-found (a .sound) m good p low high;
+        weights-are = all .weights-to .at;
+        pages-are = all .pages-to;
+      },
+      all .bad-to,
+    )
 
 -- ---- Heavy pages
 

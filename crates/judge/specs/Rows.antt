@@ -1,5 +1,5 @@
 -- What the arrays of the judge hold, what its pass over a plan finds, and the test of a mark by numbers.
--- Defines goodCase, noLayout, IsLayout. Assumes nothing.
+-- Defines goodCase, Layout, layoutOf, Cleared, IsLayout. Assumes nothing.
 use Prim.Native.Nat.{ℕ, _<_}
 use mathlib.Core.Path.{_≡_}
 use mathlib.Core.Bool.{Bool, not, _&&_, _||_}
@@ -12,7 +12,6 @@ use Rattle.model.specs.Plan.{parentAt, pageOf, pageWeight, pageCount, badMark}
 use Rattle.model.specs.Runs.{pageRun}
 use Rattle.model.specs.declared.Place.the-variants.{Nowhere}
 use Rattle.theory.specs.Slots.{Row}
-use Rattle.judge.specs.declared.pages.Layout.{Layout}
 
 -- what goodMark says of node v, by v's mark, the sibling before it, and that one's mark
 unfoldable pub goodCase : ℕ → ℕ → ℕ → ℕ → Bool
@@ -20,18 +19,24 @@ goodCase v mark before prior =
     pick (eqb v 1) (eqb mark 1)
     (pick (eqb mark 2) (not (eqb before 0) && (eqb prior 1 || eqb prior 2)) (eqb mark 0 || eqb mark 1))
 
--- the layout of no nodes
-abbrev pub noLayout : Layout
-noLayout =
-    record {
-      parents = replicate slots 0;
-      page = replicate slots 0;
-      firsts = replicate slots 0;
-      lasts = replicate slots 0;
-      weights = replicate slots 0;
-      pages = 0;
-      bad = 0;
-    }
+-- by node its parent and its page; by page its first node, the last sibling of its run, and its weight; how many pages
+pub record Layout : Type 0 where
+  pub parents : List ℕ
+  pub page : List ℕ
+  pub firsts : List ℕ
+  pub lasts : List ℕ
+  pub weights : List ℕ
+  pub pages : ℕ
+
+abbrev pub layoutOf : List ℕ → List ℕ → List ℕ → List ℕ → List ℕ → ℕ → Layout
+layoutOf parents page firsts lasts weights pages =
+    record { parents = parents; page = page; firsts = firsts; lasts = lasts; weights = weights; pages = pages }
+
+-- the arrays as they are made
+abbrev pub Cleared : List ℕ → List ℕ → List ℕ → List ℕ → List ℕ → Type 0
+Cleared parents page firsts lasts weights =
+    (parents ≡ replicate slots 0) × (page ≡ replicate slots 0) × (firsts ≡ replicate slots 0)
+    × (lasts ≡ replicate slots 0) × (weights ≡ replicate slots 0)
 
 -- what the plan m makes of the tree t
 pub record IsLayout (t m : List ℕ) (r : Layout) : Type 0 where
@@ -41,4 +46,3 @@ pub record IsLayout (t m : List ℕ) (r : Layout) : Type 0 where
   pub lasts-are : badMark t m ≡ Nowhere → Row (pageCount t m) (λ p. pageRun t m p .last) (r .lasts)
   pub weights-are : (p : ℕ) → p < slots → getD (r .weights) p 0 ≡ pageWeight t m p
   pub pages-are : r .pages ≡ pageCount t m
-  pub bad-is : when (not (eqb (r .bad) 0)) (r .bad) ≡ badMark t m

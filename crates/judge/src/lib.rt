@@ -8,10 +8,9 @@ use model::Beside;
 use model::Cause;
 use model::Place;
 use model::Verdict;
-pub use pages::Layout;
 use pages::first_heavy;
-use pages::lay_pages;
-use pages::no_layout;
+pub use pages::lay_pages;
+use table::SLOTS;
 use table::place_if;
 use table::read_tree;
 use table::refuse;
@@ -25,7 +24,7 @@ ghost use Rattle.model.specs.Demand.{WeightPromise};
 ghost use Rattle.theory.specs.Checks.{andThen};
 ghost use Rattle.theory.specs.TableFacts.{AcceptedFacts};
 ghost use Rattle.theory.specs.JudgeAnswers.{marksAnswer};
-ghost use Rattle.judge.specs.Rows.{IsLayout};
+ghost use Rattle.judge.specs.Rows.{Cleared, IsLayout, layoutOf};
 
 // The verdict: a bad mark first, then a heavy page, else page count and root weight.
 fn find_verdict(bad: Place, heavy: Place, pages: u16, root: u32) -> Verdict
@@ -76,50 +75,95 @@ fn give_cause(cause: Cause) -> Answer
     }
 }
 
-// The judge's answer, and the layout of a plan that it accepts.
+// The judge's answer, and the number of pages of a plan that it accepts.
 pub struct Judgement {
     pub answer: Answer,
-    pub layout: Layout,
+    pub pages: u16,
 }
 
 // A refusal before any plan is laid.
-pub fn without_layout(answer: Answer) -> Judgement
+fn without_pages(answer: Answer) -> Judgement
     ensures { λ r. ⌜ r .answer ≡ answer ⌝ }
 {
-    Judgement {
-        answer,
-        layout: no_layout(),
-    }
+    Judgement { answer, pages: 0 }
 }
 
 // The verdict's answer with the layout, where the tree is accepted.
-fn judge_marks(table: &[u8], marks: &[u8]) -> Judgement
-    requires { ⌜ AcceptedFacts (now table) ⌝ }
+fn judge_marks(
+    table: &[u8],
+    marks: &[u8],
+    parents: &mut [u16; SLOTS],
+    page: &mut [u16; SLOTS],
+    firsts: &mut [u16; SLOTS],
+    lasts: &mut [u16; SLOTS],
+    weights: &mut [u32; SLOTS],
+) -> Judgement
+    requires { ⌜ AcceptedFacts (now table)
+        × Cleared (now parents) (now page) (now firsts) (now lasts) (now weights) ⌝ }
     ensures { λ r. ⌜ r .answer ≡ answerOf (verdictOf (now (table .entry)) (now (marks .entry))) ⌝ }
-    ensures { λ r. ⌜ IsLayout (now (table .entry)) (now (marks .entry)) (r .layout) ⌝ }
+    ensures { λ r. ⌜ IsLayout (now (table .entry)) (now (marks .entry)) (layoutOf (now (parents .exit)) (now (page .exit))
+        (now (firsts .exit)) (now (lasts .exit)) (now (weights .exit)) (r .pages)) ⌝ }
 {
-    let layout = lay_pages(table, marks);
-    let heavy = first_heavy(&layout.weights, layout.pages, limit_of(table));
-    let bad = place_if(layout.bad != 0, layout.bad as u32);
-    let answer = give(find_verdict(bad, heavy, layout.pages, layout.weights[1]));
-    Judgement { answer, layout }
+    let laid = lay_pages(table, marks, parents, page, firsts, lasts, weights);
+    let heavy = first_heavy(weights, laid.pages, limit_of(table));
+    let bad = place_if(laid.bad != 0, laid.bad as u32);
+    let answer = give(find_verdict(bad, heavy, laid.pages, weights[1]));
+    Judgement {
+        answer,
+        pages: laid.pages,
+    }
 }
 
-// The judge, going on from the tree's own answer.
-pub fn judge_pages(tree: Answer, table: &[u8], marks: &[u8]) -> Judgement
-    requires { ⌜ (tree .number ≡ 0 → AcceptedFacts (now table)) ⌝ }
+// The judge, going on from the tree's own answer. The layout of a plan that it accepts is left in arrays that are lent,
+// since they are large, and whoever writes or prints goes on with them.
+pub fn judge_pages(
+    tree: Answer,
+    table: &[u8],
+    marks: &[u8],
+    parents: &mut [u16; SLOTS],
+    page: &mut [u16; SLOTS],
+    firsts: &mut [u16; SLOTS],
+    lasts: &mut [u16; SLOTS],
+    weights: &mut [u32; SLOTS],
+) -> Judgement
+    requires { ⌜ (tree .number ≡ 0 → AcceptedFacts (now table))
+        × Cleared (now parents) (now page) (now firsts) (now lasts) (now weights) ⌝ }
     ensures { λ r. ⌜ r .answer ≡ andThen tree (marksAnswer (now (table .entry)) (now (marks .entry))) ⌝ }
     ensures { λ r. ⌜ (r .answer .number ≡ 0
-        → IsLayout (now (table .entry)) (now (marks .entry)) (r .layout)) ⌝ }
+        → IsLayout (now (table .entry)) (now (marks .entry)) (layoutOf (now (parents .exit)) (now (page .exit))
+        (now (firsts .exit)) (now (lasts .exit)) (now (weights .exit)) (r .pages))) ⌝ }
 {
     if tree.number != 0 {
-        return without_layout(tree);
+        return without_pages(tree);
     }
     let nodes = node_count(table);
     if marks.len() != nodes as usize {
-        return without_layout(refuse(8, nodes as u32));
+        return without_pages(refuse(8, nodes as u32));
     }
-    judge_marks(table, marks)
+    judge_marks(table, marks, parents, page, firsts, lasts, weights)
+}
+
+// The same for who wants the answer alone.
+pub fn judge_answer(tree: Answer, table: &[u8], marks: &[u8]) -> Answer
+    requires { ⌜ (tree .number ≡ 0 → AcceptedFacts (now table)) ⌝ }
+    ensures { λ r. ⌜ r ≡ andThen tree (marksAnswer (now (table .entry)) (now (marks .entry))) ⌝ }
+{
+    let mut parents = [0u16; SLOTS];
+    let mut page = [0u16; SLOTS];
+    let mut firsts = [0u16; SLOTS];
+    let mut lasts = [0u16; SLOTS];
+    let mut weights = [0u32; SLOTS];
+    judge_pages(
+        tree,
+        table,
+        marks,
+        &mut parents,
+        &mut page,
+        &mut firsts,
+        &mut lasts,
+        &mut weights,
+    )
+    .answer
 }
 
 // Entry: the judge of plans.
@@ -127,6 +171,5 @@ pub fn judge_plan(table: &[u8], marks: &[u8]) -> Answer
     ensures { λ r. ⌜ r ≡ judgePlan (now (table .entry)) (now (marks .entry)) ⌝ }
     ensures { λ r. ⌜ WeightPromise (now (table .entry)) r ⌝ }
 {
-    let tree = read_tree(table);
-    judge_pages(tree, table, marks).answer
+    judge_answer(read_tree(table), table, marks)
 }

@@ -19,10 +19,10 @@ use Rattle.judge.proofs.judge_marks.Tie as tie
 -- ---- The places that the needs below go back to
 
 abbrev start : tie.After-lay-pages → tie.Start
-start c = c .before .before .before
+start c = c .before .before .before .before .before .before .before .before
 
 abbrev laid : tie.After-limit-of → tie.After-lay-pages
-laid c = c .before .before .before
+laid c = c .before .before
 
 -- ---- The needs
 
@@ -32,9 +32,9 @@ first-heavy-requires c κs =
     let e = start l in
     omega (
       arith,
-      l .lay-pages .ensures .pages-are,
+      l .lay-pages .ensures .0 .pages-are,
       pageCount-le (now (e .args .table)) (now (e .args .marks)),
-      e .pre .sound .count-high,
+      e .pre .0 .sound .count-high,
     )
 
 returns : tie.Need-returns
@@ -42,17 +42,17 @@ unfolding verdictOf
 returns c =
     let f = c .before in
     let b = f .before .before in
-    let h = b .before in
+    let h = b .before .before .before in
     let l = laid (h .before) in
     let e = start l in
-    let layout = l .lay-pages .ensures in
-    let heavy = heavy-is (e .pre) (now (e .args .marks)) (l .lay-pages .result) _ _ layout (h .first-heavy .ensures)
+    let layout = l .lay-pages .ensures .0 in
+    let heavy = heavy-is (e .pre .0) (now (e .args .marks)) _ _ _ layout (h .first-heavy .ensures)
     (h .before .limit-of .ensures) in (
       c .give .ensures
           ∙ ap answerOf
           (f .find-verdict .ensures
           ∙ ap₂ (λ (o : Place) (v : Verdict). atPlace o (λ u. Failed (BadMark u)) v)
-          (b .place-if .ensures ∙ layout .bad-is)
+          (b .place-if .ensures ∙ l .lay-pages .ensures .1)
           (ap₂ (λ (o : Place) (v : Verdict). atPlace o (λ p. Failed (HeavyPage p)) v) heavy
           (ap₂ (λ (p r : ℕ). Feasible p r) (layout .pages-are) (layout .weights-are 1 (omega arith))))),
       layout,

@@ -11,7 +11,7 @@ use Rattle.judge.proofs.judge_pages.Tie as tie
 
 returns : tie.Need-returns
 returns c =
-    let r = c .without-layout .ensures in
+    let r = c .without-pages .ensures in
     let other = c .before .if1 .taken in (
       r ∙ sym (then-stands _ _ other),
       λ z. absurd (other (sym (ap (λ (x : Answer). x .number) r) ∙ z)),
@@ -20,7 +20,7 @@ returns c =
 returns-2 : tie.Need-returns-2
 returns-2 c =
     let n = c .before .before .before in
-    let r = c .without-layout2 .ensures ∙ c .before .refuse .ensures ∙ ap (refused 8) (n .node-count .ensures) in (
+    let r = c .without-pages2 .ensures ∙ c .before .refuse .ensures ∙ ap (refused 8) (n .node-count .ensures) in (
       r
           ∙ marks-refused _ _ (λ z. omega (arith, c .before .before .if2, n .node-count .ensures))
           ∙ sym (then-next _ _ (n .before .if1 .left)),
@@ -29,13 +29,15 @@ returns-2 c =
 
 judge-marks-requires : tie.Need-judge-marks-requires
 judge-marks-requires c κs =
-    let t = c .before .before in t .before .before .before .before .pre (t .if1 .left)
+    let t = c .before .before .before .before .before .before .before in
+    let start = t .before .before .before .before in (start .pre .0 (t .if1 .left), start .pre .1)
 
 returns-3 : tie.Need-returns-3
 returns-3 c =
-    let n = c .before .before in (
+    let e = c .before .before .before .before .before .before in
+    let n = e .before in (
       c .judge-marks .ensures .0
-          ∙ marks-verdict _ _ (omega (arith, c .before .if2, n .node-count .ensures))
+          ∙ marks-verdict _ _ (omega (arith, e .if2, n .node-count .ensures))
           ∙ sym (then-next _ _ (n .before .if1 .left)),
       λ z. c .judge-marks .ensures .1,
     )

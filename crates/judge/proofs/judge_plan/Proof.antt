@@ -16,20 +16,19 @@ use Rattle.judge.proofs.judge_plan.Tie as tie
 both : (t m : List ℕ) {r : Answer} → r ≡ judgePlan t m → (r ≡ judgePlan t m) × WeightPromise t r
 both t m e = (e, rw e (judge-weight t m))
 
-judge-pages-requires : tie.Need-judge-pages-requires
-judge-pages-requires c κs =
+judge-answer-requires : tie.Need-judge-answer-requires
+judge-answer-requires c κs =
     λ z. tree-facts _ (sym (ap (λ (x : Answer). x .number) (c .read-tree .ensures .0)) ∙ z)
 
 returns : tie.Need-returns
 returns c =
-    let j = c .before in
-    let e = j .before .before .before .before .args in
+    let e = c .before .before .before .before .args in
     let t = now (e .table) in
     let m = now (e .marks) in
     both t m
-    (j .judge-pages .ensures .0
-    ∙ ap (λ (a : Answer). andThen a (marksAnswer t m)) (j .before .read-tree .ensures .0)
+    (c .judge-answer .ensures
+    ∙ ap (λ (a : Answer). andThen a (marksAnswer t m)) (c .before .read-tree .ensures .0)
     ∙ sym (judge-then t m))
 
 pub judge-plan-spec : {M : Type 1} → statement M
-judge-plan-spec = tie.close (tie.spec (λ c κs. search needs) judge-pages-requires returns)
+judge-plan-spec = tie.close (tie.spec (λ c κs. search needs) judge-answer-requires returns)

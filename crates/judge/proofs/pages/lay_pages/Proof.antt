@@ -7,21 +7,26 @@ use Rattle.model.specs.Table.{slots, nodeCount}
 use Rattle.model.specs.Plan.{pageOf}
 use Rattle.judge.proofs.Turns.{LayoutTo, layout-start, u-fits, next-fits, count-fits, home-fits, page-here}
 use Rattle.judge.proofs.Turns.{page-fits, weight-fits, layout-turn, layout-end}
+use Rattle.judge.specs.Rows.{layoutOf}
 use denote.Ref.{now}
 use borrow.Author.Needs.{needs}
 use Rattle.judge.proofs.pages.lay_pages.Statement.{statement}
 use Rattle.judge.proofs.pages.lay_pages.Tie as tie
 
 abbrev Inv-loop : tie.InvT-loop
-Inv-loop table marks nodes before₀ layout₀ v₀ before layout v = (v ≤ nodes) × LayoutTo table marks v before layout
+Inv-loop table marks parents₀ page₀ firsts₀ lasts₀ weights₀ nodes before₀ pages₀ bad₀ v₀ parents page firsts lasts weights
+    before pages bad v =
+    (v ≤ nodes) × LayoutTo table marks v before (layoutOf parents page firsts lasts weights pages) bad
 
 abbrev μ-loop : tie.MeasureT-loop
-μ-loop table marks nodes before₀ layout₀ v₀ before layout v = nodes - v
+μ-loop table marks parents₀ page₀ firsts₀ lasts₀ weights₀ nodes before₀ pages₀ bad₀ v₀ parents page firsts lasts weights
+    before pages bad v =
+    nodes - v
 
 -- ---- The places that the needs below go back to
 
 abbrev start : tie.At-loop Inv-loop μ-loop → tie.Start Inv-loop μ-loop
-start l = l .before .before .before .before .before
+start l = l .before .before .before .before
 
 -- after the node's mark is read
 abbrev marked : tie.After-choose4 Inv-loop μ-loop → tie.After-mark-at Inv-loop μ-loop
@@ -43,14 +48,14 @@ less d = omega arith
 
 -- the sibling before the node of the turn is within the arrays
 prior : (d : tie.In-loop Inv-loop μ-loop) → getD (d .before .loop .before) (d .before .loop .v + 1) 0 < slots
-prior d = u-fits (start (d .before) .pre) (d .before .loop .inv .1) (less d)
+prior d = u-fits (start (d .before) .pre .0) (d .before .loop .inv .1) (less d)
 
 -- and so is the node one step back of it
 home : (c : tie.After-choose4 Inv-loop μ-loop) → c .choose4 .result < slots
 home c =
     let g = marked c in
     let d = g .before in
-    home-fits (start (d .before) .pre) (d .before .loop .inv .1) (less d) _ _ _ (g .mark-at .ensures)
+    home-fits (start (d .before) .pre .0) (d .before .loop .inv .1) (less d) _ _ _ (g .mark-at .ensures)
     (c .before .before .choose2 .ensures) (c .choose4 .ensures)
 
 -- the page of the node of the turn
@@ -60,16 +65,18 @@ here : (c : tie.After-choose5 Inv-loop μ-loop)
 here c =
     let k = c .before .before in
     let d = head c in
-    page-here (start (d .before) .pre) (d .before .loop .inv .1) (less d) _ _ _ (marked k .mark-at .ensures)
+    page-here (start (d .before) .pre .0) (d .before .loop .inv .1) (less d) _ _ _ (marked k .mark-at .ensures)
     (k .before .before .choose2 .ensures) (k .choose4 .ensures) _ _ (k .before .choose3 .ensures) (c .choose5 .ensures)
 
 fits : (c : tie.After-choose5 Inv-loop μ-loop) → c .choose5 .result < slots
-fits c = let d = head c in page-fits (start (d .before) .pre) (d .before .loop .inv .1) (less d) _ (here c)
+fits c = let d = head c in page-fits (start (d .before) .pre .0) (d .before .loop .inv .1) (less d) _ (here c)
 
 -- ---- The needs
 
 loop-holds : tie.Need-loop-holds Inv-loop μ-loop
-loop-holds c = (omega arith, rw (c .no-layout .ensures) (layout-start _ _))
+loop-holds c =
+    let clear = c .before .before .before .pre .1 in
+    (omega arith, rw (clear .0, clear .1, clear .2, clear .3, clear .4) (layout-start _ _))
 
 cast-choose : tie.Need-cast-choose Inv-loop μ-loop
 cast-choose c = omega (arith, prior (c .before .before .before .before))
@@ -83,7 +90,7 @@ element-copy-out-choose c = omega (arith, prior (c .before .before .before .befo
 add-choose : tie.Need-add-choose Inv-loop μ-loop
 add-choose c =
     let d = c .before .before .before .before .before .before in
-    omega (arith, count-fits (start (d .before) .pre) (d .before .loop .inv .1) (less d))
+    omega (arith, count-fits (start (d .before) .pre .0) (d .before .loop .inv .1) (less d))
 
 element-copy-out-choose-2 : tie.Need-element-copy-out-choose-2 Inv-loop μ-loop
 element-copy-out-choose-2 c = omega (arith, home c)
@@ -91,32 +98,32 @@ element-copy-out-choose-2 c = omega (arith, home c)
 element-copy-out-choose-3 : tie.Need-element-copy-out-choose-3 Inv-loop μ-loop
 element-copy-out-choose-3 c = omega (arith, fits c)
 
-element-write-layout-3 : tie.Need-element-write-layout-3 Inv-loop μ-loop
-element-write-layout-3 c = omega (arith, fits (c .before .before))
+element-write-firsts : tie.Need-element-write-firsts Inv-loop μ-loop
+element-write-firsts c = omega (arith, fits (c .before .before))
 
 element-copy-out-choose-4 : tie.Need-element-copy-out-choose-4 Inv-loop μ-loop
 element-copy-out-choose-4 c = omega (arith, fits (c .before .before))
 
-element-write-layout-4 : tie.Need-element-write-layout-4 Inv-loop μ-loop
-element-write-layout-4 c = omega (arith, fits (paged c))
+element-write-lasts : tie.Need-element-write-lasts Inv-loop μ-loop
+element-write-lasts c = omega (arith, fits (paged c))
 
-element-copy-out-layout : tie.Need-element-copy-out-layout Inv-loop μ-loop
-element-copy-out-layout c = omega (arith, fits (paged c))
+element-copy-out-weights : tie.Need-element-copy-out-weights Inv-loop μ-loop
+element-copy-out-weights c = omega (arith, fits (paged c))
 
-add-layout : tie.Need-add-layout Inv-loop μ-loop
-add-layout c =
+add-weights : tie.Need-add-weights Inv-loop μ-loop
+add-weights c =
     let k = paged (c .before .before) in
     let d = head k in
-    omega (arith, weight-fits (start (d .before) .pre) (d .before .loop .inv .1) (less d) _ (here k), c .weight-at .ok)
+    omega (arith, weight-fits (start (d .before) .pre .0) (d .before .loop .inv .1) (less d) _ (here k), c .weight-at .ok)
 
-element-write-layout-5 : tie.Need-element-write-layout-5 Inv-loop μ-loop
-element-write-layout-5 c = omega (arith, fits (paged (c .before .before)))
+element-write-weights : tie.Need-element-write-weights Inv-loop μ-loop
+element-write-weights c = omega (arith, fits (paged (c .before .before)))
 
 array-write-before : tie.Need-array-write-before Inv-loop μ-loop
 array-write-before c =
     let d = head (paged (c .before .before .before)) in
     let turn = d .before .loop .inv .1 in
-    omega (arith, c .next-at .ensures, next-fits (start (d .before) .pre) turn (less d), turn .prevs .long)
+    omega (arith, c .next-at .ensures, next-fits (start (d .before) .pre .0) turn (less d), turn .prevs .long)
 
 loop-again : tie.Need-loop-again Inv-loop μ-loop
 loop-again c =
@@ -129,7 +136,7 @@ loop-again c =
     let g = marked k in
     let d = g .before in (
       omega arith,
-      layout-turn (start (d .before) .pre) (d .before .loop .inv .1) (less d) _ _ _ _ _ _ _ _ _ _ _
+      layout-turn (start (d .before) .pre .0) (d .before .loop .inv .1) (less d) _ _ _ _ _ _ _ _ _ _ _
           (g .mark-at .ensures) (bad .before .before .mark-at2 .ensures) (bad .before .is-good .ensures)
           (bad .choose .ensures) (parent .choose2 .ensures) (k .before .choose3 .ensures) (here p)
           (lasts .before .before .choose6 .ensures)
@@ -137,19 +144,9 @@ loop-again c =
     )
 
 returns : tie.Need-returns Inv-loop μ-loop
-returns c = layout-end (start (c .before) .pre) (c .before .loop .inv .1) (omega arith) (omega arith)
+returns c = layout-end (start (c .before) .pre .0) (c .before .loop .inv .1) (omega arith) (omega arith)
 
 pub lay-pages-spec : {M : Type 1} → statement M
 lay-pages-spec =
     tie.close
-    (tie.spec Inv-loop μ-loop (λ c κs. search needs) (λ c κs. search needs) loop-holds (λ c. search needs)
-    (λ c. search needs) (λ c κs. search needs) (λ c. search needs) (λ c. search needs) (λ c κs. search needs)
-    (λ c κs. search needs) (λ c κs. search needs) (λ c. search needs) cast-choose mul-choose element-copy-out-choose
-    (λ c κs. search needs) (λ c. search needs) (λ c. search needs) add-choose (λ c κs. search needs)
-    (λ c κs. search needs) (λ c. search needs) (λ c. search needs) element-copy-out-choose-2 (λ c κs. search needs)
-    (λ c. search needs) (λ c. search needs) (λ c. search needs) (λ c. search needs) element-copy-out-choose-3
-    (λ c κs. search needs) (λ c. search needs) element-write-layout-3 (λ c. search needs) element-copy-out-choose-4
-    (λ c κs. search needs) (λ c. search needs) element-write-layout-4 (λ c. search needs) element-copy-out-layout
-    (λ c κs. search needs) (λ c. search needs) add-layout (λ c. search needs) element-write-layout-5
-    (λ c κs. search needs) (λ c. search needs) (λ c. search needs) array-write-before (λ c. search needs) loop-again
-    returns)
+    (tie.spec Inv-loop μ-loop (λ c κs. search needs) loop-holds (λ c. search needs) (λ c. search needs) (λ c κs. search needs) (λ c. search needs) (λ c. search needs) (λ c κs. search needs) (λ c κs. search needs) (λ c κs. search needs) (λ c. search needs) cast-choose mul-choose element-copy-out-choose (λ c κs. search needs) (λ c. search needs) (λ c. search needs) add-choose (λ c κs. search needs) (λ c κs. search needs) (λ c. search needs) (λ c. search needs) element-copy-out-choose-2 (λ c κs. search needs) (λ c. search needs) (λ c. search needs) (λ c. search needs) (λ c. search needs) element-copy-out-choose-3 (λ c κs. search needs) (λ c. search needs) element-write-firsts (λ c. search needs) element-copy-out-choose-4 (λ c κs. search needs) (λ c. search needs) element-write-lasts (λ c. search needs) element-copy-out-weights (λ c κs. search needs) (λ c. search needs) add-weights (λ c. search needs) element-write-weights (λ c κs. search needs) (λ c. search needs) (λ c. search needs) array-write-before (λ c. search needs) loop-again returns)
