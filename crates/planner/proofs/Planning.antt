@@ -19,9 +19,7 @@ use Rattle.theory.specs.PlanFeasible.{Judged, feasible-judged, judge-feasible}
 use Rattle.theory.specs.JudgeAnswers.{tree-accepted, marksAnswer, judge-then}
 use Rattle.theory.specs.PromisePlanner.{passes-lent, planned-done, planned-refused, plan-promise, best-promise}
 use Rattle.theory.specs.PromisePlanner.{quick-promise}
-use Rattle.judge.specs.Rows.{IsLayout}
-use Rattle.judge.specs.declared.pages.Layout.{Layout}
-use Rattle.planner.specs.Outcome.{outcome, PlanReady, FeasibleLayout}
+use Rattle.planner.specs.Outcome.{outcome, PlanReady}
 
 -- ---- The refusals
 
@@ -80,16 +78,9 @@ module _ (t m s : List ℕ) (r : Answer) (is : r ≡ firstOf (planChecks t m s) 
       j ∙ ap (λ (x : Answer). andThen x (marksAnswer t m′)) (h ∙ sym (firstOf-all (treeChecks t) accepted tree))
       ∙ sym (judge-then t m′)
 
--- what the judge accepts is feasible
-pub judged-laid : (t m : List ℕ) (a : Answer) (l : Layout) → a ≡ judgePlan t m → (a .number ≡ 0 → IsLayout t m l)
-    → a .number ≡ 0 → FeasibleLayout t m l
-judged-laid t m a l e laid z =
-    let zero = sym (ap (λ (x : Answer). x .number) e) ∙ z in
-    record { judged = feasible-judged t m (judge-feasible t m zero); layout = laid z }
-
 -- ---- The promises, of what is left
 
-pub plan-promised : {t m s m′ s′ : List ℕ} {r : Answer} (steps : ℕ → Chain → List ℕ)
+plan-promised : {t m s m′ s′ : List ℕ} {r : Answer} (steps : ℕ → Chain → List ℕ)
     → (AcceptedFacts t → Judged t (steps (limitOf t) (treeOf t))) → outcome r m′ s′ ≡ planned steps t m s
     → PlanPromise t m s r m′ s′
 plan-promised {t} {m} {s} steps good e =
@@ -102,8 +93,14 @@ best-promised {t} {m} {s} e =
     rw (ap (λ (p : Planned). p .answer) e, ap (λ (p : Planned). p .marks) e) (best-promise t m s)
 
 -- a quick planner's plan is not below best's
-pub quick-promised : {t m′ s′ : List ℕ} {r : Answer} (m s : List ℕ) (steps : ℕ → Chain → List ℕ)
+quick-promised : {t m′ s′ : List ℕ} {r : Answer} (m s : List ℕ) (steps : ℕ → Chain → List ℕ)
     → (AcceptedFacts t → Judged t (steps (limitOf t) (treeOf t))) → outcome r m′ s′ ≡ planned steps t m s
     → QuickPromise t r
 quick-promised {t} m s steps good e =
     rw (ap (λ (p : Planned). p .answer) e) (quick-promise steps t m s good)
+
+-- with the equation, what every planner promises
+pub all-promised : {t m s m′ s′ : List ℕ} {r : Answer} (steps : ℕ → Chain → List ℕ)
+    → (AcceptedFacts t → Judged t (steps (limitOf t) (treeOf t))) → outcome r m′ s′ ≡ planned steps t m s
+    → (outcome r m′ s′ ≡ planned steps t m s) × (PlanPromise t m s r m′ s′ × QuickPromise t r)
+all-promised {t} {m} {s} steps good e = (e, (plan-promised steps good e, quick-promised m s steps good e))

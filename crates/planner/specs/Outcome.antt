@@ -1,6 +1,5 @@
--- What a planner leaves: its answer, the marks and the scratch; what it is lent where nothing is refused, and what its
--- plan is then.
--- Defines outcome, stepsOf, PlanReady, FeasibleLayout. Proves steps-judged. Assumes nothing.
+-- What a planner leaves: its answer, the marks and the scratch; and what it is lent where nothing is refused.
+-- Defines outcome, stepsOf, PlanReady. Proves steps-judged. Assumes nothing.
 use Prim.Native.Nat.{ℕ, _≤_}
 use mathlib.Core.Path.{_≡_}
 use mathlib.Core.List.{List}
@@ -13,8 +12,6 @@ use Rattle.theory.specs.TableFacts.{AcceptedFacts}
 use Rattle.theory.specs.PlanFeasible.{Judged}
 use Rattle.theory.specs.DepthFirst.{depth-first-judged}
 use Rattle.theory.specs.BestLowest.{best-judged, level-judged, single-judged, pair-judged, rightmost-judged}
-use Rattle.judge.specs.Rows.{IsLayout}
-use Rattle.judge.specs.declared.pages.Layout.{Layout}
 use Rattle.planner.specs.declared.Planner.{Planner}
 use Rattle.planner.specs.declared.Planner.the-variants.{Best, Level, Single, Pair, Rightmost, DepthFirst}
 
@@ -44,8 +41,3 @@ pub record PlanReady (t a s : List ℕ) : Type 0 where
   pub tree : AcceptedFacts t
   pub marks-long : length a ≡ nodeCount t
   pub words : scratchWords (nodeCount t) (limitOf t) ≤ length s
-
--- the plan is feasible, and this is its layout
-pub record FeasibleLayout (t m : List ℕ) (l : Layout) : Type 0 where
-  pub judged : Judged t m
-  pub layout : IsLayout t m l

@@ -6,9 +6,7 @@ use common::check_plan;
 use common::clear;
 use greedy::pair::lay_pair;
 use greedy::single::lay_single;
-use judge::Judgement;
-use judge::judge_pages;
-use judge::without_layout;
+use judge::judge_answer;
 use model::Answer;
 use quick::depth_first::lay_depth_first;
 use quick::rightmost::lay_rightmost;
@@ -18,7 +16,7 @@ ghost use Rattle.model.specs.Table.{limitOf, treeOf};
 ghost use Rattle.model.specs.Refusals.{planned, planBest, planLevel, planSingle, planPair, planRightmost};
 ghost use Rattle.model.specs.Refusals.{planDepthFirst};
 ghost use Rattle.model.specs.Demand.{PlanPromise, BestPromise, QuickPromise};
-ghost use Rattle.planner.specs.Outcome.{outcome, stepsOf, PlanReady, FeasibleLayout};
+ghost use Rattle.planner.specs.Outcome.{outcome, stepsOf, PlanReady};
 
 // Whose steps make the plan.
 enum Planner {
@@ -46,33 +44,8 @@ fn lay_steps(planner: Planner, table: &[u8], marks: &mut [u8], scratch: &mut [u3
     }
 }
 
-// What every planner does: it refuses, or lays the plan, clears the scratch and goes on with the judge.
-fn plan_pages(planner: Planner, table: &[u8], marks: &mut [u8], scratch: &mut [u32]) -> Judgement
-    ensures { λ r. ⌜ outcome (r .answer) (now (marks .exit)) (now (scratch .exit))
-        ≡ planned (stepsOf planner) (now (table .entry)) (now (marks .entry)) (now (scratch .entry)) ⌝ }
-    ensures { λ r. ⌜ (r .answer .number ≡ 0
-        → FeasibleLayout (now (table .entry)) (now (marks .exit)) (r .layout)) ⌝ }
-{
-    let checked = check_plan(table, marks, scratch);
-    if checked.number != 0 {
-        return without_layout(checked);
-    }
-    lay_steps(planner, table, marks, scratch);
-    clear(scratch);
-    judge_pages(accept(), table, marks)
-}
-
-// The best planner with the layout of its plan.
-pub fn plan_best_pages(table: &[u8], marks: &mut [u8], scratch: &mut [u32]) -> Judgement
-    ensures { λ r. ⌜ outcome (r .answer) (now (marks .exit)) (now (scratch .exit)) ≡ planBest
-        (now (table .entry)) (now (marks .entry)) (now (scratch .entry)) ⌝ }
-    ensures { λ r. ⌜ (r .answer .number ≡ 0
-        → FeasibleLayout (now (table .entry)) (now (marks .exit)) (r .layout)) ⌝ }
-{
-    plan_pages(Planner::Best, table, marks, scratch)
-}
-
-// What every entry does. Whatever the planner, its plan is not below best's, as the quick ones promise.
+// What every entry does: it refuses, or lays the plan, clears the scratch and goes on with the judge. Whatever the
+// planner, its plan is not below best's, as the quick ones promise.
 fn make_plan(planner: Planner, table: &[u8], marks: &mut [u8], scratch: &mut [u32]) -> Answer
     ensures { λ r. ⌜ outcome r (now (marks .exit)) (now (scratch .exit))
         ≡ planned (stepsOf planner) (now (table .entry)) (now (marks .entry)) (now (scratch .entry)) ⌝ }
@@ -80,7 +53,13 @@ fn make_plan(planner: Planner, table: &[u8], marks: &mut [u8], scratch: &mut [u3
         r (now (marks .exit)) (now (scratch .exit)) ⌝ }
     ensures { λ r. ⌜ QuickPromise (now (table .entry)) r ⌝ }
 {
-    plan_pages(planner, table, marks, scratch).answer
+    let checked = check_plan(table, marks, scratch);
+    if checked.number != 0 {
+        return checked;
+    }
+    lay_steps(planner, table, marks, scratch);
+    clear(scratch);
+    judge_answer(accept(), table, marks)
 }
 
 // Entry: the best planner. Its plan is the lowest there is, and 7 means that there is none.

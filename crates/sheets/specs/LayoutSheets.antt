@@ -10,8 +10,7 @@ use Rattle.theory.specs.JudgeAnswers.{pageCount-le}
 use Rattle.theory.specs.PlanFeasible.{Judged}
 use Rattle.theory.specs.SheetLines.{sheets-same}
 use Rattle.theory.specs.PromiseSheets.{within-limit}
-use Rattle.judge.specs.Rows.{IsLayout}
-use Rattle.judge.specs.declared.pages.Layout.{Layout}
+use Rattle.judge.specs.Rows.{Layout, IsLayout}
 use Rattle.sheets.specs.Lines.{pageIn, Printable}
 
 module _ {t m : List ℕ} (j : Judged t m) {l : Layout} (is : IsLayout t m l) where
