@@ -279,8 +279,7 @@ layout-end {t} {m} {v} {before} {r} {bad} a h le ge =
     let same : v ≡ nodeCount t = omega arith in
     let all = rw same at h in
     let fits : (p : ℕ) → p ≤ pageCount t m → p < slots =
-    λ p high. omega (arith, pageCount-le t m, a .sound .count-high) in
-    (
+    λ p high. omega (arith, pageCount-le t m, a .sound .count-high) in (
       record {
         parents-are = all .parents-to;
         page-is = all .page-to;

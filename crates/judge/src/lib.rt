@@ -162,8 +162,7 @@ pub fn judge_answer(tree: Answer, table: &[u8], marks: &[u8]) -> Answer
         &mut firsts,
         &mut lasts,
         &mut weights,
-    )
-    .answer
+    ).answer
 }
 
 // Entry: the judge of plans.

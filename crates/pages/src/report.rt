@@ -1,9 +1,10 @@
-// The report of a table: its best plan is made, and the lines are those of the plan's layout.
+// The report of a table: its best plan is made and laid on its pages, and the lines are those of this layout.
 use crate::text::head_line;
 use crate::text::page_line;
 use crate::text::refusal_line;
-use judge::Layout;
-use planner::plan_best_pages;
+use judge::lay_pages;
+use planner::plan_best;
+use table::SLOTS;
 use table::words::limit_of;
 use table::words::node_count;
 ghost use mathlib.Core.Path.{_≡_};
@@ -14,7 +15,7 @@ ghost use Rattle.model.specs.Table.{maxNodes};
 ghost use Rattle.model.specs.Refusals.{planBest};
 ghost use Rattle.theory.specs.Appended.{Filled};
 ghost use Rattle.pages.specs.Text.{reportBytes, answerLines, reportOf};
-ghost use Rattle.pages.specs.Listing.{layoutLines};
+ghost use Rattle.pages.specs.Listing.{pagesOf, pagesLines};
 
 // As many marks as a word can ask for: N may be anything until it is checked.
 const MARKS: usize = 65535;
@@ -22,27 +23,27 @@ const MARKS: usize = 65535;
 // Serves N × (K + 3) up to 2,560.
 const SCRATCH_WORDS: usize = 10240;
 
-// The lines of a plan, from its layout and the limit.
-fn list_pages(layout: Layout, limit: u16, out: &mut [u8]) -> usize
-    requires { ⌜ (layout .pages ≤ maxNodes) × (reportBytes ≤ length (now out)) ⌝ }
-    ensures { λ r. ⌜ Filled (layoutLines layout limit) (now (out .exit)) r ⌝ }
+// The lines of a plan, from its pages and the limit.
+fn list_pages(
+    firsts: &[u16; SLOTS],
+    lasts: &[u16; SLOTS],
+    weights: &[u32; SLOTS],
+    pages: u16,
+    limit: u16,
+    out: &mut [u8],
+) -> usize
+    requires { ⌜ (pages ≤ maxNodes) × (reportBytes ≤ length (now out)) ⌝ }
+    ensures { λ r. ⌜ Filled (pagesLines (pagesOf (now (firsts .entry)) (now (lasts .entry)) (now (weights .entry)) pages)
+        limit) (now (out .exit)) r ⌝ }
     ensures { λ r. ⌜ r ≤ reportBytes ⌝ }
 {
-    let pages = layout.pages;
-    let root = layout.weights[1];
+    let root = weights[1];
     let mut at = head_line(out, 0, pages as u32, root, limit as u32);
     let mut p: u16 = 0;
     while p < pages {
         p += 1;
         let i = p as usize;
-        at = page_line(
-            out,
-            at,
-            p,
-            layout.firsts[i],
-            layout.lasts[i],
-            layout.weights[i],
-        );
+        at = page_line(out, at, p, firsts[i], lasts[i], weights[i]);
     }
     at
 }
@@ -54,12 +55,25 @@ fn report_plan(table: &[u8], marks: &mut [u8], scratch: &mut [u32], out: &mut [u
         (planBest (now (table .entry)) (now (marks .entry)) (now (scratch .entry)))) (now (out .exit)) r ⌝ }
     ensures { λ r. ⌜ r ≤ reportBytes ⌝ }
 {
-    let plan = plan_best_pages(table, marks, scratch);
-    let answer = plan.answer;
+    let answer = plan_best(table, marks, scratch);
     if answer.number != 0 {
         return refusal_line(out, 0, answer.number, answer.place);
     }
-    list_pages(plan.layout, limit_of(table), out)
+    let mut parents = [0u16; SLOTS];
+    let mut page = [0u16; SLOTS];
+    let mut firsts = [0u16; SLOTS];
+    let mut lasts = [0u16; SLOTS];
+    let mut weights = [0u32; SLOTS];
+    let laid = lay_pages(
+        table,
+        marks,
+        &mut parents,
+        &mut page,
+        &mut firsts,
+        &mut lasts,
+        &mut weights,
+    );
+    list_pages(&firsts, &lasts, &weights, laid.pages, limit_of(table), out)
 }
 
 // All that the program writes for a table.

@@ -6,10 +6,10 @@ use crate::records::put_nodes;
 use crate::records::put_pages;
 use crate::size::archive_bytes;
 use crate::size::first_edition;
-use judge::Layout;
 use judge::judge_pages;
 use model::Answer;
 use model::Edition;
+use table::SLOTS;
 use table::check_tree;
 use table::earlier;
 use table::place_if;
@@ -20,7 +20,7 @@ ghost use lib.ListN.{length};
 ghost use Rattle.model.specs.Table.{nodeCount};
 ghost use Rattle.model.specs.Archive.{firstEdition, archiveOf, archiveBytes};
 ghost use mathlib.Core.Bool.{not};
-ghost use Prim.Native.Nat.{_≤_};
+ghost use Prim.Native.Nat.{_≤_, _<_};
 ghost use lib.Dec.{eqb, ltb};
 ghost use Rattle.model.specs.Basics.{when, atPlace};
 ghost use Rattle.model.specs.Refusals.{refused, writeArchive};
@@ -29,22 +29,34 @@ ghost use Rattle.theory.specs.TableFacts.{AcceptedFacts};
 ghost use Rattle.theory.specs.PlanFeasible.{Judged};
 ghost use Rattle.theory.specs.Outputs.{written};
 ghost use Rattle.theory.specs.ArchiveAnswers.{writeFrom};
-ghost use Rattle.judge.specs.Rows.{IsLayout};
+ghost use Rattle.judge.specs.Rows.{layoutOf, IsLayout};
 ghost use Rattle.writer.specs.Size.{InRoom};
 
 // The whole archive of an accepted tree and a feasible plan, into an output of its length.
-fn fill_archive(e: Edition, table: &[u8], marks: &[u8], plan: Layout, out: &mut [u8])
-    requires { ⌜ InRoom e × Judged (now table) (now marks) × IsLayout (now table) (now marks) plan
+fn fill_archive<'a>(
+    e: Edition,
+    table: &[u8],
+    marks: &[u8],
+    parents: &[u16; SLOTS],
+    page: &[u16; SLOTS],
+    firsts: &'a [u16; SLOTS],
+    lasts: &'a [u16; SLOTS],
+    weights: &'a [u32; SLOTS],
+    pages: u16,
+    out: &mut [u8],
+)
+    requires { ⌜ InRoom e × Judged (now table) (now marks)
+        × IsLayout (now table) (now marks) (layoutOf (now parents) (now page) (now firsts) (now lasts) (now weights) pages)
         × (nodeCount (now table) ≤ e .most)
-        × (length (now out) ≡ archiveBytes e (plan .pages) (nodeCount (now table))) ⌝ }
+        × (length (now out) ≡ archiveBytes e pages (nodeCount (now table))) ⌝ }
     ensures { λ r. ⌜ now (out .exit) ≡ archiveOf e (now (table .entry)) (now (marks .entry)) ⌝ }
 {
     let nodes = node_count(table);
     let limit = limit_of(table);
-    let nexts = link_next(&plan.page[..], nodes);
-    put_head(e, nodes, limit, plan.pages, out);
-    put_pages(e, &plan.firsts, &plan.lasts, &plan.weights, plan.pages, out);
-    put_nodes(e, table, &plan.parents, &nexts, plan.pages, out);
+    let nexts = link_next(page, nodes);
+    put_head(e, nodes, limit, pages, out);
+    put_pages(e, firsts, lasts, weights, pages, out);
+    put_nodes(e, table, parents, &nexts, pages, out);
 }
 
 // What is checked of the film, with 15 and 12, or else the judge's answer.
@@ -63,19 +75,44 @@ pub fn write_edition(e: Edition, tree: Answer, table: &[u8], marks: &[u8], out: 
     ensures { λ r. ⌜ written r (now (out .exit))
         ≡ writeFrom e (now (table .entry)) (now (marks .entry)) (now (out .entry)) tree ⌝ }
 {
-    let judged = judge_pages(tree, table, marks);
+    let mut parents = [0u16; SLOTS];
+    let mut page = [0u16; SLOTS];
+    let mut firsts = [0u16; SLOTS];
+    let mut lasts = [0u16; SLOTS];
+    let mut weights = [0u32; SLOTS];
+    let judged = judge_pages(
+        tree,
+        table,
+        marks,
+        &mut parents,
+        &mut page,
+        &mut firsts,
+        &mut lasts,
+        &mut weights,
+    );
+    let pages = judged.pages;
     let verdict = judged.answer;
     if verdict.number != 0 {
         return verdict;
     }
-    let plan = judged.layout;
     let nodes = node_count(table);
-    let size = archive_bytes(e, plan.pages, nodes);
+    let size = archive_bytes(e, pages, nodes);
     let answer = check_film(e, nodes, size, out.len(), verdict);
     if answer.number != 0 {
         return answer;
     }
-    fill_archive(e, table, marks, plan, out);
+    fill_archive(
+        e,
+        table,
+        marks,
+        &parents,
+        &page,
+        &firsts,
+        &lasts,
+        &weights,
+        pages,
+        out,
+    );
     answer
 }
 
