@@ -6,7 +6,7 @@ use mathlib.Core.Bool.{Bool, not, _&&_, _||_}
 use mathlib.Core.List.{List}
 use lib.ListN.{getD, replicate}
 use lib.Dec.{eqb}
-use Rattle.model.specs.Basics.{pick, when}
+use Rattle.model.specs.Basics.{pick}
 use Rattle.model.specs.Table.{slots, nodeCount}
 use Rattle.model.specs.Plan.{parentAt, pageOf, pageWeight, pageCount, badMark}
 use Rattle.model.specs.Runs.{pageRun}

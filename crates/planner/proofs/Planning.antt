@@ -15,7 +15,7 @@ use Rattle.model.specs.declared.Answer.{Answer}
 use Rattle.theory.specs.TableFacts.{AcceptedFacts, accepted-facts}
 use Rattle.theory.specs.Checks.{plan-never, accepted-pass, refused-fails, firstOf-pass, firstOf-stop, firstOf-all}
 use Rattle.theory.specs.Checks.{andThen}
-use Rattle.theory.specs.PlanFeasible.{Judged, feasible-judged, judge-feasible}
+use Rattle.theory.specs.PlanFeasible.{Judged}
 use Rattle.theory.specs.JudgeAnswers.{tree-accepted, marksAnswer, judge-then}
 use Rattle.theory.specs.PromisePlanner.{passes-lent, planned-done, planned-refused, plan-promise, best-promise}
 use Rattle.theory.specs.PromisePlanner.{quick-promise}

@@ -1,10 +1,9 @@
 -- `planner::make_plan` meets its contract. Assumes nothing.
-use mathlib.Core.Path.{sym, ap, _∙_}
+use mathlib.Core.Path.{ap, _∙_}
 use Prim.Native.Nat.{ℕ}
 use lib.ListN.{replicate}
 use denote.Ref.{now}
-use Rattle.model.specs.declared.Answer.{Answer}
-use Rattle.planner.specs.Outcome.{outcome, stepsOf, PlanReady, steps-judged}
+use Rattle.planner.specs.Outcome.{stepsOf, PlanReady, steps-judged}
 use Rattle.planner.proofs.Planning.{plan-refused, plan-ready, plan-made, judge-goes-on, all-promised}
 use borrow.Author.Needs.{needs}
 use Rattle.planner.proofs.make_plan.Statement.{statement}

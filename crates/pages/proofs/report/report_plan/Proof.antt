@@ -1,6 +1,6 @@
 -- `pages::report::report_plan` meets its contract. Assumes nothing.
 use mathlib.Core.List.{List}
-use mathlib.Core.Path.{_≡_, refl, sym, _∙_, ap}
+use mathlib.Core.Path.{refl, sym, _∙_, ap}
 use Prim.Native.Nat.{ℕ}
 use native.Mathlib.Omega.{arith}
 use Rattle.model.specs.Refusals.{Planned}
@@ -8,7 +8,7 @@ use Rattle.theory.specs.Appended.{filled-first}
 use Rattle.theory.specs.PlanFeasible.{Judged, feasible-judged}
 use Rattle.theory.specs.PromisePlanner.{best-lent}
 use Rattle.judge.specs.Rows.{Layout, layoutOf, IsLayout}
-use Rattle.pages.specs.Listing.{Pages, pagesOf, pagesLines, pages-most, layout-lines, lines-refused, lines-planned}
+use Rattle.pages.specs.Listing.{pagesOf, pagesLines, pages-most, layout-lines, lines-refused, lines-planned}
 use borrow.Author.Needs.{needs}
 use Rattle.pages.proofs.report.report_plan.Statement.{statement}
 use Rattle.pages.proofs.report.report_plan.Tie as tie

@@ -4,7 +4,7 @@ use mathlib.Core.List.{List}
 use mathlib.Core.Path.{_≡_, refl, sym, ap, ap₂, _∙_}
 use Prim.Native.Nat.{ℕ}
 use Rattle.model.specs.Table.{nodeCount}
-use Rattle.model.specs.Plan.{pageCount, verdictOf}
+use Rattle.model.specs.Plan.{verdictOf}
 use Rattle.model.specs.Archive.{archiveBytes}
 use Rattle.model.specs.Refusals.{answerOf, firstOf, passes, filmChecks}
 use Rattle.model.specs.declared.Answer.{Answer}
