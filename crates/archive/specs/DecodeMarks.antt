@@ -330,7 +330,8 @@ marks-start lasts links nodes out due h t m g =
 
 pub marks-turn : (lasts links : List ℕ) (nodes v : ℕ) (out due : List ℕ) (end mark next : ℕ)
     → MarksPass lasts links nodes v out due
-    → length due ≡ filmSlots → v < nodes → v < length out → end ≡ runEnd (v + 1) (getD lasts (v + 1) 0) (getD due (v + 1) 0)
+    → length due ≡ filmSlots → v < nodes → v < length out
+    → end ≡ runEnd (v + 1) (getD lasts (v + 1) 0) (getD due (v + 1) 0)
     → mark ≡ markFor (getD lasts (v + 1) 0) end → next ≡ pick (eqb (v + 1) 1) 0 (getD links (v + 1) 0)
     → MarksPass lasts links nodes (v + 1) (set out v mark) (set due next end)
 marks-turn lasts links nodes v out due end mark next h long less room e k q t m g =

@@ -101,8 +101,8 @@ fn judge_marks(
     requires { ⌜ AcceptedFacts (now table)
         × Cleared (now parents) (now page) (now firsts) (now lasts) (now weights) ⌝ }
     ensures { λ r. ⌜ r .answer ≡ answerOf (verdictOf (now (table .entry)) (now (marks .entry))) ⌝ }
-    ensures { λ r. ⌜ IsLayout (now (table .entry)) (now (marks .entry)) (layoutOf (now (parents .exit)) (now (page .exit))
-        (now (firsts .exit)) (now (lasts .exit)) (now (weights .exit)) (r .pages)) ⌝ }
+    ensures { λ r. ⌜ IsLayout (now (table .entry)) (now (marks .entry)) (layoutOf (now (parents .exit))
+        (now (page .exit)) (now (firsts .exit)) (now (lasts .exit)) (now (weights .exit)) (r .pages)) ⌝ }
 {
     let laid = lay_pages(table, marks, parents, page, firsts, lasts, weights);
     let heavy = first_heavy(weights, laid.pages, limit_of(table));

@@ -30,10 +30,11 @@ fn choose(test: bool, yes: u16, no: u16) -> u16
     if test { yes } else { no }
 }
 
-// One pass in node order, which fills arrays that are lent: by node its parent and its page; by page its first node, the
-// last sibling of its run, and its weight. A node with no sibling before it comes just after its parent. A 1 opens the
-// next page and is its first node, a 2 joins the page of the sibling before it, and a 0 its parent's; the node's weight
-// is added to that page. Siblings come in rising order, so the last 1 or 2 on a page is the last sibling of its run.
+// One pass in node order, which fills arrays that are lent: by node its parent and its page; by page its first node,
+// the last sibling of its run, and its weight. A node with no sibling before it comes just after its parent. A 1 opens
+// the next page and is its first node, a 2 joins the page of the sibling before it, and a 0 its parent's; the node's
+// weight is added to that page. Siblings come in rising order, so the last 1 or 2 on a page is the last sibling of its
+// run.
 pub fn lay_pages(
     table: &[u8],
     marks: &[u8],
@@ -45,8 +46,8 @@ pub fn lay_pages(
 ) -> Laid
     requires { ⌜ AcceptedFacts (now table)
         × Cleared (now parents) (now page) (now firsts) (now lasts) (now weights) ⌝ }
-    ensures { λ r. ⌜ IsLayout (now (table .entry)) (now (marks .entry)) (layoutOf (now (parents .exit)) (now (page .exit))
-        (now (firsts .exit)) (now (lasts .exit)) (now (weights .exit)) (r .pages)) ⌝ }
+    ensures { λ r. ⌜ IsLayout (now (table .entry)) (now (marks .entry)) (layoutOf (now (parents .exit))
+        (now (page .exit)) (now (firsts .exit)) (now (lasts .exit)) (now (weights .exit)) (r .pages)) ⌝ }
     ensures { λ r. ⌜ when (not (eqb (r .bad) 0)) (r .bad) ≡ badMark (now (table .entry)) (now (marks .entry)) ⌝ }
 {
     let nodes = node_count(table);

@@ -26,7 +26,8 @@ use Rattle.model.specs.Decimal.{bytes}
 use Rattle.model.specs.Sheets.{sheetCount, lineWith, perCent, lineAt, numberIn}
 use Rattle.model.specs.Refusals.{refusedForWeight, readTree, judgePlan, planBest, planLevel, planSingle}
 use Rattle.model.specs.Refusals.{planPair, writeArchive, writeUnfiled, Written, readArchive, scratchWords}
-use Rattle.model.specs.Refusals.{Planned, planRightmost, planDepthFirst, printSheets, manyNodes, firstOf, accepted}
+use Rattle.model.specs.Refusals.{Planned, planRightmost, planDepthFirst, printSheets}
+use Rattle.model.specs.Refusals.{manyNodes, firstOf, accepted}
 use Rattle.model.specs.declared.Beside.{Beside}
 use Rattle.model.specs.declared.Beside.the-variants.{Given, Nothing}
 use Rattle.model.specs.declared.Verdict.the-variants.{Feasible, Failed}

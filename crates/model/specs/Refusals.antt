@@ -1,6 +1,6 @@
 -- Document 01, 'What is refused', with 14 and 15 and without 5 by document 02: the list of refusals, the checks of each
--- entry in their order, and for each entry its answer and every lent buffer left behind, as one definition of all it was
--- lent.
+-- entry in their order, and for each entry its answer and every lent buffer left behind, as one definition of all it
+-- was lent.
 use Prim.Native.Nat.{ℕ, _+_, _*_}
 use mathlib.Core.Bool.{Bool, true, false, not, _&&_, _||_}
 use mathlib.Core.List.{List, [], _∷_, _++_}

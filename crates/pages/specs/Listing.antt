@@ -1,6 +1,6 @@
 -- The lines of a plan, from its pages as they are laid, and those of a planner's answer, by its number.
--- Defines Pages, pagesOf, lineOf, headOf, linesTo, pagesLines. Proves layout-lines, lines-refused, lines-planned. Assumes
--- nothing.
+-- Defines Pages, pagesOf, lineOf, headOf, linesTo, pagesLines. Proves layout-lines, lines-refused, lines-planned.
+-- Assumes nothing.
 use Prim.Native.Nat.{ℕ, suc, _+_, _≤_, _<_}
 use native.Mathlib.Omega.{arith}
 use native.Mathlib.Numerals.{add-one}

@@ -33,8 +33,9 @@ fn list_pages(
     out: &mut [u8],
 ) -> usize
     requires { ⌜ (pages ≤ maxNodes) × (reportBytes ≤ length (now out)) ⌝ }
-    ensures { λ r. ⌜ Filled (pagesLines (pagesOf (now (firsts .entry)) (now (lasts .entry)) (now (weights .entry)) pages)
-        limit) (now (out .exit)) r ⌝ }
+    ensures { λ r. ⌜ Filled
+        (pagesLines (pagesOf (now (firsts .entry)) (now (lasts .entry)) (now (weights .entry)) pages) limit)
+        (now (out .exit)) r ⌝ }
     ensures { λ r. ⌜ r ≤ reportBytes ⌝ }
 {
     let root = weights[1];

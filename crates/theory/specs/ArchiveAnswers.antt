@@ -1,9 +1,9 @@
 -- The answers of the archive's writer, with 14 or without, and of its reader, case by case, and what each tells.
 -- writeFrom is the writer that goes on from the answer of whatever judged the tree: the reader judges its tree without
 -- 14, which the writer's entry does not.
--- Defines writeFrom, writeWith, WriteDone. Proves film-answer, film-few, film-long; write-entry, write-done, write-many,
--- write-kept, writer-done, writer-refused; unfiled-stops; read-none, read-table, read-marks, read-done, reader-done,
--- read-thirteen. Assumes nothing.
+-- Defines writeFrom, writeWith, WriteDone. Proves film-answer, film-few, film-long; write-entry, write-done,
+-- write-many, write-kept, writer-done, writer-refused; unfiled-stops; read-none, read-table, read-marks, read-done,
+-- reader-done, read-thirteen. Assumes nothing.
 use Prim.Native.Nat.{ℕ, _≤_, _<_}
 use native.Mathlib.Omega.{arith}
 use mathlib.Core.Bool.{Bool, true, false, not, _&&_}

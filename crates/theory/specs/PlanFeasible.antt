@@ -1,8 +1,8 @@
 -- Feasible plans by number and by shape: the judge finds nothing just where node 1 has mark 1, the marks of the tree
 -- are allowed and every page by shape is within the limit; the verdict is then page count and root weight.
 -- Defines Judged, feasibleWith, ShapePlan. Proves with-judged, feasible-judged, unfiled-judged, judged-feasible,
--- judged-verdict, judged-zero, judge-feasible, feasible-judge; filed-feasible, label-stops; heavy-bridge,
--- judged-bridge; shape-judged (from FeasibleShape). Assumes nothing.
+-- judged-verdict, judged-zero, feasible-judge; filed-feasible, label-stops; heavy-bridge, judged-bridge; shape-judged
+-- (from FeasibleShape). Assumes nothing.
 use Prim.Native.Nat.{ℕ, zero, suc, _-_, _≤_}
 use native.Mathlib.Omega.{arith}
 use mathlib.Core.Bool.{Bool, true, false, not}
@@ -22,7 +22,7 @@ use Rattle.model.specs.declared.Answer.{Answer}
 use Rattle.model.specs.declared.Place.the-variants.{At, Nowhere}
 use Rattle.model.specs.declared.Verdict.the-variants.{Feasible}
 use Rattle.theory.specs.Ranges.{Upto, when-false, when-nowhere, atPlace-nowhere, firstTo-none, firstTo-nowhere}
-use Rattle.theory.specs.Checks.{Pass, pass-all, passes-both, both-pass, firstOf-all, accepted-pass, judge-never}
+use Rattle.theory.specs.Checks.{Pass, pass-all, passes-both, both-pass, firstOf-all}
 use Rattle.theory.specs.Checks.{firstOf-pass, firstOf-append, checksWith, passes-unfiled, with-form, with-tree}
 use Rattle.theory.specs.Checks.{with-judge, filed-passes, node-stops}
 use Rattle.theory.specs.TableFacts.{SoundFacts, AcceptedFacts, unfiled-facts}
@@ -110,10 +110,6 @@ pub judged-zero : {t m : List ℕ} → Judged t m → answerOf (verdictOf t m) .
 judged-zero j = ap (λ v. answerOf v .number) (judged-verdict j)
 
 -- ---- The judge's answer
-
-pub judge-feasible : (t m : List ℕ) → judgePlan t m .number ≡ 0 → feasiblePlan t m ≡ true
-unfolding judgePlan feasiblePlan
-judge-feasible t m e = accepted-pass (judgeChecks t m) (answerOf (verdictOf t m)) (judge-never t m) e
 
 pub feasible-judge : (t m : List ℕ) → feasiblePlan t m ≡ true
     → judgePlan t m ≡ answerOf (Feasible (pageCount t m) (pageWeight t m 1))

@@ -46,7 +46,8 @@ fn fill_archive<'a>(
     out: &mut [u8],
 )
     requires { ⌜ InRoom e × Judged (now table) (now marks)
-        × IsLayout (now table) (now marks) (layoutOf (now parents) (now page) (now firsts) (now lasts) (now weights) pages)
+        × IsLayout (now table) (now marks)
+        (layoutOf (now parents) (now page) (now firsts) (now lasts) (now weights) pages)
         × (nodeCount (now table) ≤ e .most)
         × (length (now out) ≡ archiveBytes e pages (nodeCount (now table))) ⌝ }
     ensures { λ r. ⌜ now (out .exit) ≡ archiveOf e (now (table .entry)) (now (marks .entry)) ⌝ }

@@ -60,5 +60,5 @@ returns c =
 pub decode-spec : {M : Type 1} → statement M
 decode-spec =
     tie.close
-    (tie.spec (λ c κs. search needs) (λ c κs. search needs) (λ c. search needs) link-next-requires (λ c κs. search needs)
-    (λ c κs. search needs) fill-marks-requires (λ c. search needs) (λ c. search needs) returns)
+    (tie.spec (λ c κs. search needs) (λ c κs. search needs) (λ c. search needs) link-next-requires
+    (λ c κs. search needs) (λ c κs. search needs) fill-marks-requires (λ c. search needs) (λ c. search needs) returns)

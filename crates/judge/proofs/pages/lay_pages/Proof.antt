@@ -14,8 +14,8 @@ use Rattle.judge.proofs.pages.lay_pages.Statement.{statement}
 use Rattle.judge.proofs.pages.lay_pages.Tie as tie
 
 abbrev Inv-loop : tie.InvT-loop
-Inv-loop table marks parents₀ page₀ firsts₀ lasts₀ weights₀ nodes before₀ pages₀ bad₀ v₀ parents page firsts lasts weights
-    before pages bad v =
+Inv-loop table marks parents₀ page₀ firsts₀ lasts₀ weights₀ nodes before₀ pages₀ bad₀ v₀ parents page firsts lasts
+    weights before pages bad v =
     (v ≤ nodes) × LayoutTo table marks v before (layoutOf parents page firsts lasts weights pages) bad
 
 abbrev μ-loop : tie.MeasureT-loop
@@ -114,7 +114,11 @@ add-weights : tie.Need-add-weights Inv-loop μ-loop
 add-weights c =
     let k = paged (c .before .before) in
     let d = head k in
-    omega (arith, weight-fits (start (d .before) .pre .0) (d .before .loop .inv .1) (less d) _ (here k), c .weight-at .ok)
+    omega (
+      arith,
+      weight-fits (start (d .before) .pre .0) (d .before .loop .inv .1) (less d) _ (here k),
+      c .weight-at .ok,
+    )
 
 element-write-weights : tie.Need-element-write-weights Inv-loop μ-loop
 element-write-weights c = omega (arith, fits (paged (c .before .before)))
@@ -149,4 +153,13 @@ returns c = layout-end (start (c .before) .pre .0) (c .before .loop .inv .1) (om
 pub lay-pages-spec : {M : Type 1} → statement M
 lay-pages-spec =
     tie.close
-    (tie.spec Inv-loop μ-loop (λ c κs. search needs) loop-holds (λ c. search needs) (λ c. search needs) (λ c κs. search needs) (λ c. search needs) (λ c. search needs) (λ c κs. search needs) (λ c κs. search needs) (λ c κs. search needs) (λ c. search needs) cast-choose mul-choose element-copy-out-choose (λ c κs. search needs) (λ c. search needs) (λ c. search needs) add-choose (λ c κs. search needs) (λ c κs. search needs) (λ c. search needs) (λ c. search needs) element-copy-out-choose-2 (λ c κs. search needs) (λ c. search needs) (λ c. search needs) (λ c. search needs) (λ c. search needs) element-copy-out-choose-3 (λ c κs. search needs) (λ c. search needs) element-write-firsts (λ c. search needs) element-copy-out-choose-4 (λ c κs. search needs) (λ c. search needs) element-write-lasts (λ c. search needs) element-copy-out-weights (λ c κs. search needs) (λ c. search needs) add-weights (λ c. search needs) element-write-weights (λ c κs. search needs) (λ c. search needs) (λ c. search needs) array-write-before (λ c. search needs) loop-again returns)
+    (tie.spec Inv-loop μ-loop (λ c κs. search needs) loop-holds (λ c. search needs) (λ c. search needs)
+    (λ c κs. search needs) (λ c. search needs) (λ c. search needs) (λ c κs. search needs) (λ c κs. search needs)
+    (λ c κs. search needs) (λ c. search needs) cast-choose mul-choose element-copy-out-choose (λ c κs. search needs)
+    (λ c. search needs) (λ c. search needs) add-choose (λ c κs. search needs) (λ c κs. search needs)
+    (λ c. search needs) (λ c. search needs) element-copy-out-choose-2 (λ c κs. search needs) (λ c. search needs)
+    (λ c. search needs) (λ c. search needs) (λ c. search needs) element-copy-out-choose-3 (λ c κs. search needs)
+    (λ c. search needs) element-write-firsts (λ c. search needs) element-copy-out-choose-4 (λ c κs. search needs)
+    (λ c. search needs) element-write-lasts (λ c. search needs) element-copy-out-weights (λ c κs. search needs)
+    (λ c. search needs) add-weights (λ c. search needs) element-write-weights (λ c κs. search needs)
+    (λ c. search needs) (λ c. search needs) array-write-before (λ c. search needs) loop-again returns)

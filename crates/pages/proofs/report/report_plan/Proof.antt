@@ -65,7 +65,8 @@ returns c =
     )
 
 lay-pages-requires : tie.Need-lay-pages-requires
-lay-pages-requires c κs = (judged (c .before .before .before .before .before .before) .tree, (refl, refl, refl, refl, refl))
+lay-pages-requires c κs =
+    (judged (c .before .before .before .before .before .before) .tree, (refl, refl, refl, refl, refl))
 
 list-pages-requires : tie.Need-list-pages-requires
 list-pages-requires c κs =

@@ -72,7 +72,8 @@ module _ (f : tie.After-check-film) where
     given = film ∙ firstOf-all (filmChecks edition table marks out) _ checked ∙ sym (judged .1)
 
 judge-pages-requires : tie.Need-judge-pages-requires
-judge-pages-requires c κs = (c .before .before .before .before .before .before .before .before .pre .1, (refl, refl, refl, refl, refl))
+judge-pages-requires c κs =
+    (c .before .before .before .before .before .before .before .before .pre .1, (refl, refl, refl, refl, refl))
 
 returns : tie.Need-returns
 returns c =
