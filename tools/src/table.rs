@@ -146,10 +146,10 @@ mod tests {
     #[test]
     fn bad_heads() {
         assert_eq!(fault(&[0, 1]), "2 bytes are too few for a table");
-        assert_eq!(fault(&[0, 0, 0, 5]), "0 nodes; a table has 1 to 1024");
+        assert_eq!(fault(&[0, 0, 0, 5]), "0 nodes; a table has 1 to 2048");
         assert_eq!(
-            fault(&changed(0, 1025)),
-            "1025 nodes; a table has 1 to 1024"
+            fault(&changed(0, 2049)),
+            "2049 nodes; a table has 1 to 2048"
         );
         assert_eq!(fault(&changed(1, 0)), "limit 0 is not in 1 to 1024");
         assert_eq!(fault(&changed(1, 1025)), "limit 1025 is not in 1 to 1024");

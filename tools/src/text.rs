@@ -200,7 +200,7 @@ mod tests {
     fn node_limit() {
         let most = format!("limit 5\n1 1\n{}", "  1 1\n".repeat(MAX_NODES - 1));
         assert_eq!(read(&most).map(|tree| tree.count()), Ok(MAX_NODES));
-        let wanted = "line 1026: too many nodes; a table has at most 1024";
+        let wanted = "line 2050: too many nodes; a table has at most 2048";
         assert_eq!(fault(&(most + "  1 1\n")), wanted);
     }
 }

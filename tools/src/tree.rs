@@ -2,7 +2,7 @@
 
 use std::ops::RangeInclusive;
 
-pub const MAX_NODES: usize = 1024;
+pub const MAX_NODES: usize = 2048;
 pub const LIMITS: RangeInclusive<u32> = 1..=1024;
 /// 0 is a note, kept on the margin of the film.
 pub const WEIGHTS: RangeInclusive<u32> = 0..=65535;
