@@ -13,7 +13,7 @@
  *
  * The table. Its words are 16 bits, high byte first. For a tree of N nodes and a page limit K:
  *
- *   word 0         N, 1 to 1024
+ *   word 0         N, 1 to 2048
  *   word 1         K, 1 to 1024
  *   then for each node, from node 1 on, a record of four words:
  *                  weight (0 to 65535; 0 is a note, kept on the margin of the film), label (1 to
@@ -28,8 +28,9 @@
  * A plan has N marks of a byte each, for the nodes in their order: 0 (stays with its parent), 1
  * (begins a run) or 2 (continues the run of the sibling just before). Each run is a page.
  *
- * The archive of a tree and a plan of P pages has 6 + 8 * P + 8 * N bytes: N, K, P, the page
- * records and the node records. docs/RULE-SHEET.txt tells it byte by byte, with examples.
+ * The archive of a tree of up to 1024 nodes and a plan of P pages has 6 + 8 * P + 8 * N bytes: N,
+ * K, P, the page records and the node records. docs/RULE-SHEET.txt tells it byte by byte, with
+ * examples. Longer trees are read, planned, judged and printed, and have no archive.
  *
  * The leader sheets of a plan of P pages have 58 pages each, the last one up to 58. A sheet is 60
  * lines, and a line 80 columns and a newline (byte 10), so a sheet has 4860 bytes:
@@ -53,9 +54,12 @@
 extern "C" {
 #endif
 
-/* The most nodes, and the highest page limit. */
-#define BALDUQEN_MAX_NODES 1024
+/* The most nodes of a table, and the highest page limit. */
+#define BALDUQEN_MAX_NODES 2048
 #define BALDUQEN_MAX_LIMIT 1024
+
+/* The most nodes of the archive, which film decks size their memory by. */
+#define BALDUQEN_ARCHIVE_NODES 1024
 
 /* The bytes of stack that a call uses at most, on x86-64. As measured: balduqen_read_archive 76 KiB,
  * balduqen_write_archive 43, balduqen_print_sheets 39, the planners 37, the judge 27,
@@ -73,7 +77,7 @@ extern "C" {
  *
  *   no.  condition                                           place
  *    1   the table is under 4 bytes                          0
- *    2   N is 0 or over 1024                                 N
+ *    2   N is 0 or over 2048                                 N
  *    3   K is 0 or over 1024                                 K
  *    4   the table's length is not 4 + 8 * N                 the right length
  *    6   the walk from node 1 does not meet 1, 2, .., N      nodes met in order; 0 if node 1 has a
@@ -86,9 +90,11 @@ extern "C" {
  *   12   an output buffer has the wrong length               the right length
  *   13   no tree and plan write it, also if labels may be 0  0
  *   14   a label is 0: a lot that nobody has filed           first such node
+ *   15   the tree has more nodes than the archive takes      N
  *
- * The lowest that applies is given, with 14 before 6; balduqen_read_archive checks 13, then 12,
- * then 8. Number 5 is retired and never given: it was for a weight of 0, which is allowed now.
+ * The lowest that applies is given, with 14 before 6 and 15 before 12; balduqen_read_archive checks
+ * 13, then 12, then 8. Number 5 is retired and never given: it was for a weight of 0, which is
+ * allowed now.
  */
 enum {
     BALDUQEN_ACCEPTED = 0,
@@ -104,7 +110,8 @@ enum {
     BALDUQEN_HEAVY_PAGE = 11,
     BALDUQEN_BAD_OUTPUT = 12,
     BALDUQEN_NO_ARCHIVE = 13,
-    BALDUQEN_NO_LABEL = 14
+    BALDUQEN_NO_LABEL = 14,
+    BALDUQEN_MANY_NODES = 15
 };
 
 /* Pages and root are the plan's page count and the weight of its root page. They are 0 unless
@@ -161,26 +168,27 @@ balduqen_answer balduqen_plan_depth_first(const uint8_t *table, size_t table_len
                                           uint8_t *marks, size_t marks_length,
                                           uint32_t *scratch, size_t scratch_length);
 
-/* Writes the archive of a tree and a plan. The archive buffer has exactly 6 + 8 * P + 8 * N bytes,
- * where P is the page count that the planner or the judge gave. Refuses 1 to 4, 6 to 8, 10 to 12
- * and 14. With the marks of balduqen_plan_best, page count and root weight on film are that
- * planner's. */
+/* Writes the archive of a tree of up to 1024 nodes and a plan. The archive buffer has exactly
+ * 6 + 8 * P + 8 * N bytes, where P is the page count that the planner or the judge gave. Refuses 1
+ * to 4, 6 to 8, 10 to 12, 14 and 15; a longer tree gets 15 with any plan that the judge accepts,
+ * however long the buffer is. With the marks of balduqen_plan_best, page count and root weight on
+ * film are that planner's. */
 balduqen_answer balduqen_write_archive(const uint8_t *table, size_t table_length,
                                        const uint8_t *marks, size_t marks_length,
                                        uint8_t *archive, size_t archive_length);
 
 /* Reads the tree and the plan back from an archive: the very table and marks that it was written
- * from. The table buffer has exactly 4 + 8 * N bytes and the marks buffer N. Refuses 13, 12 for the
- * table buffer, then 8 for the marks buffer. Film from before 14 was refused may have labels 0, and
- * is read like any other; what is read then cannot be planned, judged or written again: 14. */
+ * from. The table buffer has exactly 4 + 8 * N bytes and the marks buffer N. Refuses 13, also where
+ * N is over 1024, 12 for the table buffer, then 8 for the marks buffer. Film from before 14 was
+ * refused may have labels 0, and is read like any other; what is read then cannot be planned,
+ * judged or written again: 14. */
 balduqen_answer balduqen_read_archive(const uint8_t *archive, size_t archive_length,
                                       uint8_t *table, size_t table_length,
                                       uint8_t *marks, size_t marks_length);
 
 /* Prints a plan as leader sheets: any plan that the judge accepts, whoever made it. The buffer has
  * exactly 4860 bytes for each sheet, BALDUQEN_SHEETS_LENGTH of the page count that the planner or
- * the judge gave; what it holds before is of no matter. Refuses 1 to 4, 6 to 8, 10 to 12 and 14, as
- * balduqen_write_archive does. */
+ * the judge gave; what it holds before is of no matter. Refuses 1 to 4, 6 to 8, 10 to 12 and 14. */
 balduqen_answer balduqen_print_sheets(const uint8_t *table, size_t table_length,
                                       const uint8_t *marks, size_t marks_length,
                                       uint8_t *sheets, size_t sheets_length);
