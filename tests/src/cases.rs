@@ -1,5 +1,6 @@
 //! Cases A to G of document 01, its examples of refusals, and what document 02 adds: one for refusal
-//! 14, the plans of request Two, and those of trees with weights of 0.
+//! 14, the plans of request Two, those of trees with weights of 0, and trees that are too long for
+//! the archive.
 
 use crate::ffi;
 use crate::gen::Table;
@@ -121,6 +122,15 @@ pub fn small_e_with_note() -> Table {
 /// Nodes of weight 0 at both ends of a run and in it; those at the ends have a child of weight 1.
 pub fn notes_at_the_ends() -> Table {
     Table::new(3, &[0, 1, 2, 1, 1, 1, 6], &[3, 0, 1, 0, 1, 0, 1])
+}
+
+/// Case E with so many nodes in all: notes are further children of node 1, behind the others. They
+/// change no page, so that the plans are those of case E with marks of 0.
+pub fn long_case_e(count: usize) -> Table {
+    let (mut parents, mut weights) = (vec![0, 1, 1, 3, 3, 1], vec![5, 2, 1, 2, 2, 1]);
+    parents.resize(count, 1);
+    weights.resize(count, 0);
+    Table::new(5, &parents, &weights)
 }
 
 /// The plans that document 01 gives, and those that follow by hand from its planner steps, from
@@ -528,31 +538,29 @@ pub fn once_refused_tables() -> Vec<(Vec<u8>, u32, usize)> {
     ]
 }
 
-/// What the tree reader refuses, in the order of its checks: number, and place in `faulty_tables`.
-const FAULTS: [(u32, usize); 7] = [
-    (1, 0),
-    (2, 1025),
-    (3, 1026),
-    (4, 52),
-    (14, 3),
-    (6, 5),
-    (7, 2),
-];
+/// What the tree reader refuses, in the order of its checks.
+const FAULTS: [u32; 7] = [1, 2, 3, 4, 14, 6, 7];
 
 /// Case E with every selection of one fault for each of the numbers 1 to 4, 6, 7 and 14, without
 /// and with a weight of 0, which is none, and the answer that the order of the checks leaves:
 /// number and place, both 0 without a fault.
 pub fn faulty_tables() -> Vec<(Vec<u8>, u32, usize)> {
+    faulty(&case_e())
+}
+
+/// The same of a table that begins as case E does.
+fn faulty(good: &Table) -> Vec<(Vec<u8>, u32, usize)> {
+    let length = good.bytes().len();
     let mut list = vec![];
     for selection in 0..2 << FAULTS.len() {
         let has = |number: u32| {
-            let place = FAULTS.iter().position(|fault| fault.0 == number);
+            let place = FAULTS.iter().position(|&fault| fault == number);
             selection & 1 << place.expect("a fault of this number") != 0
         };
         let has_note = selection & 1 << FAULTS.len() != 0;
-        let mut table = case_e();
+        let mut table = good.clone();
         if has(2) {
-            table.count = 1025;
+            table.count = 2049;
         }
         if has(3) {
             table.limit = 1026;
@@ -578,8 +586,16 @@ pub fn faulty_tables() -> Vec<(Vec<u8>, u32, usize)> {
         if has(1) {
             bytes.truncate(3);
         }
-        let told = FAULTS.into_iter().find(|fault| has(fault.0));
-        let (number, place) = told.unwrap_or((0, 0));
+        let number = FAULTS.into_iter().find(|&number| has(number)).unwrap_or(0);
+        let place = match number {
+            2 => 2049,
+            3 => 1026,
+            4 => length,
+            14 => 3,
+            6 => 5,
+            7 => 2,
+            _ => 0,
+        };
         list.push((bytes, number, place));
     }
     list
@@ -596,21 +612,29 @@ pub fn refused_marks() -> Vec<(Vec<u8>, u32, usize)> {
 
 /// Each of `faulty_tables` with marks that have a fault and with E's best plan, which has none, and
 /// the judge's answer: E's verdict where nothing is wrong, also where node 4 is a note.
-pub fn faulty_plans() -> Vec<(Vec<u8>, &'static [u8], Answer)> {
-    let plans: [(&[u8], Answer); 5] = [
-        (&[9, 9, 9, 9, 9], Answer::refused(8, 6)),
-        (&[1, 0, 0, 0, 0, 0, 0], Answer::refused(8, 6)),
-        (&[1, 0, 0, 0, 0, 3], Answer::refused(10, 6)),
-        (&[1, 0, 0, 0, 0, 0], Answer::refused(11, 1)),
-        (&MARKS_OF_E, Answer::accepted(3, 5)),
+pub fn faulty_plans() -> Vec<(Vec<u8>, Vec<u8>, Answer)> {
+    faulty_long_plans(6)
+}
+
+/// The same of case E with so many nodes, of which those behind the sixth stay with node 1.
+pub fn faulty_long_plans(count: usize) -> Vec<(Vec<u8>, Vec<u8>, Answer)> {
+    let all = |marks: [u8; 6]| [&marks[..], &vec![0; count - 6]].concat();
+    let one_page = all([1, 0, 0, 0, 0, 0]);
+    let plans = [
+        (vec![9; count - 1], Answer::refused(8, count)),
+        ([&one_page[..], &[0]].concat(), Answer::refused(8, count)),
+        (all([1, 0, 0, 0, 0, 3]), Answer::refused(10, 6)),
+        (one_page, Answer::refused(11, 1)),
+        (all(MARKS_OF_E), Answer::accepted(3, 5)),
     ];
     let of_table = |(table, number, place): (Vec<u8>, u32, usize)| {
-        plans.map(|(marks, of_marks)| match number {
+        plans.clone().map(|(marks, of_marks)| match number {
             0 => (table.clone(), marks, of_marks),
             _ => (table.clone(), marks, Answer::refused(number, place)),
         })
     };
-    faulty_tables().into_iter().flat_map(of_table).collect()
+    let tables = faulty(&long_case_e(count));
+    tables.into_iter().flat_map(of_table).collect()
 }
 
 /// Each of `once_refused_tables` with a page for each node, and the judge's answer.

@@ -362,27 +362,43 @@ pub fn any_table(random: &mut Random, max_nodes: usize, max_limit: usize) -> Tab
 /// any nodes. A run takes in those between its nodes, and all others can stay: neither page count
 /// nor root weight of the best plan is another for them.
 pub fn noted(random: &mut Random, tree: &Tree) -> Table {
+    noted_by(tree, &mut || random.pick(&[0, 0, 1, 4]))
+}
+
+/// The same with so many nodes in all.
+pub fn noted_up_to(random: &mut Random, tree: &Tree, count: usize) -> Table {
+    // In front of each node but node 1, and behind the last child of each.
+    let mut gaps = vec![0; 2 * tree.node_count() - 1];
+    for _ in tree.node_count()..count {
+        let gap = random.between(0, gaps.len() - 1);
+        gaps[gap] += 1;
+    }
+    noted_by(tree, &mut || gaps.pop().expect("a gap"))
+}
+
+/// With as many notes at each place as the call gives.
+fn noted_by(tree: &Tree, notes: &mut dyn FnMut() -> usize) -> Table {
     let mut nodes = vec![];
-    copy_noted(random, tree, 1, 0, &mut nodes);
+    copy_noted(tree, 1, 0, notes, &mut nodes);
     let (parents, weights): (Parents, Vec<u16>) = nodes.into_iter().unzip();
     Table::new(tree.limit as u16, &parents, &weights)
 }
 
 /// Adds a branch below a parent: the parent and the weight of each of its nodes.
 fn copy_noted(
-    random: &mut Random,
     tree: &Tree,
     node: usize,
     parent: usize,
+    notes: &mut dyn FnMut() -> usize,
     nodes: &mut Vec<(usize, u16)>,
 ) {
     nodes.push((parent, tree.weights[node] as u16));
     let note = (nodes.len(), 0);
     for &child in &tree.children[node] {
-        nodes.extend(vec![note; random.pick(&[0, 0, 1, 4])]);
-        copy_noted(random, tree, child, note.0, nodes);
+        nodes.extend(vec![note; notes()]);
+        copy_noted(tree, child, note.0, notes, nodes);
     }
-    nodes.extend(vec![note; random.pick(&[0, 0, 1, 4])]);
+    nodes.extend(vec![note; notes()]);
 }
 
 /// Puts one random fault, or what may be one, into a table and encodes it.
@@ -392,7 +408,10 @@ pub fn damaged(random: &mut Random, table: &Table) -> Vec<u8> {
     let place = random.between(0, count - 1);
     let link = random.between(0, count + 2) as u16;
     match random.between(1, 11) {
-        1 => table.count = random.pick(&[0, table.count - 1, table.count + 1, 1024, 1025, 65535]),
+        1 => {
+            let (less, more) = (table.count - 1, table.count + 1);
+            table.count = random.pick(&[0, less, more, 1024, 1025, 2048, 2049, 65535]);
+        }
         2 => table.limit = random.pick(&[0, 1, table.limit - 1, 1024, 1025, 65535]),
         3 => table.records[place].weight = 0,
         4 => table.records[place].weight = random.pick(&[table.limit + 1, 1025, 65535]),

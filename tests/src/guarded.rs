@@ -19,7 +19,7 @@ const PAGE: usize = 4096;
 
 /// The bytes of the guard before a buffer, and of the one after it: more than the longest scratch,
 /// so that what is meant for a longer buffer ends in the guard too.
-const GUARD: usize = 1 << 25;
+const GUARD: usize = 1 << 26;
 
 /// A buffer with a guard on both sides.
 pub struct Guarded<T> {

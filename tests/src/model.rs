@@ -1,4 +1,4 @@
-//! A model of document 01 with requests One to Four of document 02: every entry with its answers
+//! A model of document 01 with requests One to Five of document 02: every entry with its answers
 //! and the buffers it leaves behind.
 //!
 //! It follows the documents' words closely and is not meant to be fast. The entries have the same
@@ -13,7 +13,7 @@ mod quick;
 mod sheets;
 mod tree;
 
-pub use archive::{archive_bytes, archive_length, read_archive, write_archive};
+pub use archive::{archive_bytes, archive_length, read_archive, write_archive, ARCHIVE_NODES};
 pub use plan::{judge, pages, verdict, Page};
 pub use planners::{
     plan_best, plan_depth_first, plan_level, plan_pair, plan_rightmost, plan_single, scratch_length,

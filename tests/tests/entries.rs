@@ -1,10 +1,12 @@
 //! What is asked of all entries alike, of the model's and of the library's: that they take trees of
-//! up to 1,024 nodes, that a tree of sound form is refused with 7 exactly where no set of sibling
-//! runs holds it within the limit, that a label 0 is refused with 14 by all but the archive reader,
-//! which opens film with it as before, and that a weight of 0 is taken by all, at any node.
+//! up to 2,048 nodes, and the archive's up to 1,024, that a tree of sound form is refused with 7
+//! exactly where no set of sibling runs holds it within the limit, that a label 0 is refused with 14
+//! by all but the archive reader, which opens film with it as before, and that a weight of 0 is taken
+//! by all, at any node.
 
 use balduqen_tests::cases::{
-    archive_of_note_between, case_e, note_between, once_refused_tables, Kind, KINDS,
+    archive_of_note_between, case_e, long_case_e, note_between, once_refused_tables, Kind, KINDS,
+    MARKS_OF_E,
 };
 use balduqen_tests::check::{first_unfiled, show, with_copy, Lent, Seen, RETIRED};
 use balduqen_tests::entries::{Entries, LIBRARY, MODEL};
@@ -12,7 +14,8 @@ use balduqen_tests::exhaustive::{best_of_run_sets, for_each_table_and_best, Scor
 use balduqen_tests::gen::*;
 use balduqen_tests::kept::{kept, kept_filed};
 use balduqen_tests::model::{
-    archive_length, read_sound, scratch_length, sheets_length, word, Answer, MAX_LIMIT, MAX_NODES,
+    archive_length, read_sound, scratch_length, sheets_length, word, Answer, ARCHIVE_NODES,
+    MAX_LIMIT, MAX_NODES,
 };
 use balduqen_tests::rule_sheet::rebuild;
 use balduqen_tests::sheet_reader::read_sheets;
@@ -33,23 +36,31 @@ struct Asked {
 
 /// The lengths of the buffers that the entries fill, marks apart: words of a scratch, bytes of an
 /// archive and of sheets.
+#[derive(Clone, Copy)]
 struct Lengths {
     scratch: usize,
     archive: usize,
     sheets: usize,
 }
 
+impl Lengths {
+    /// What is right for the table's count and limit, with a page for each node.
+    fn of(table: &[u8]) -> Lengths {
+        let (count, limit) = (word(table, 0), word(table, 1));
+        Lengths {
+            scratch: scratch_length(count, limit),
+            archive: archive_length(count, count),
+            sheets: sheets_length(count),
+        }
+    }
+}
+
 impl Asked {
     /// Each gets buffers that are right for the table's count and limit, and the plan with a page
     /// for each node where it asks for one.
     fn of(entries: &Entries, table: &[u8]) -> Asked {
-        let (count, limit) = (word(table, 0), word(table, 1));
-        let lengths = Lengths {
-            scratch: scratch_length(count, limit),
-            archive: archive_length(count, count),
-            sheets: sheets_length(count),
-        };
-        Asked::with(entries, table, &vec![1; count], &lengths)
+        let plan = vec![1; word(table, 0)];
+        Asked::with(entries, table, &plan, &Lengths::of(table))
     }
 
     /// Each gets this plan where it asks for one, as many marks to fill, and other buffers of these
@@ -77,12 +88,17 @@ impl Asked {
         assert_eq!(self.all(), [refusal; 4 + KINDS.len()], "{}", show(table));
     }
 
-    /// The verdicts of the planners are not looked at.
+    /// The verdicts of the planners are not looked at. The archive has no more than 1,024 nodes.
     fn expect_accepted(&self, table: &[u8]) {
-        let of_ones = Answer::accepted(word(table, 0), word(table, 2) as u32);
+        let count = word(table, 0);
+        let of_ones = Answer::accepted(count, word(table, 2) as u32);
+        let written = match count <= 1024 {
+            true => of_ones,
+            false => Answer::refused(15, count),
+        };
         assert_eq!(self.read_tree, Answer::ACCEPTED, "{}", show(table));
         assert_eq!(self.judge, of_ones, "{}", show(table));
-        assert_eq!(self.write_archive, of_ones, "{}", show(table));
+        assert_eq!(self.write_archive, written, "{}", show(table));
         assert_eq!(self.print_sheets, of_ones, "{}", show(table));
         let planned = self.planners.iter().all(Answer::is_accepted);
         assert!(planned, "{:?}: {}", self.planners, show(table));
@@ -158,15 +174,21 @@ fn read_archive(entries: &Entries, archive: &[u8], table: &[u8], plan: &[u8]) ->
     answer
 }
 
+/// The most nodes of the archive, one more, and the most of a table.
+const LONG: [usize; 3] = [1024, 1025, 2048];
+
 fn as_many_nodes_as_may_be(entries: &Entries) {
     let random = &mut Random::new(1101);
     for form in FORMS {
-        for limit in [1, 9, 100] {
-            let [table, archive] = table_and_archive(random, form, MAX_NODES, limit);
+        for (count, limit) in LONG.into_iter().flat_map(|count| [1, 9, 100].map(|k| (count, k))) {
+            let [table, archive] = table_and_archive(random, form, count, limit);
             Asked::of(entries, &table).expect_accepted(&table);
-            let verdict = Answer::accepted(MAX_NODES, word(&table, 2) as u32);
-            let answer = read_archive(entries, &archive, &table, &[1; MAX_NODES]);
-            assert_eq!(answer, verdict);
+            let expected = match count <= 1024 {
+                true => Answer::accepted(count, word(&table, 2) as u32),
+                false => Answer::refused(13, 0),
+            };
+            let answer = read_archive(entries, &archive, &table, &vec![1; count]);
+            assert_eq!(answer, expected);
         }
     }
 }
@@ -176,11 +198,204 @@ fn one_node_too_many(entries: &Entries) {
     let random = &mut Random::new(1102);
     for form in FORMS {
         for limit in [1, 9, 100, 1024] {
-            let [table, archive] = table_and_archive(random, form, MAX_NODES + 1, limit);
-            Asked::of(entries, &table).expect_refused(&table, 2, 1025);
-            let answer = read_archive(entries, &archive, &table, &[1; MAX_NODES + 1]);
+            let [table, archive] = table_and_archive(random, form, 2049, limit);
+            Asked::of(entries, &table).expect_refused(&table, 2, 2049);
+            let answer = read_archive(entries, &archive, &table, &[1; 2049]);
             assert_eq!(answer, Answer::refused(13, 0));
         }
+    }
+}
+
+/// Where another length is asked for: none, one or two off, and far too long.
+fn other_lengths(asked: usize) -> [usize; 6] {
+    let far = 2 * asked + 100;
+    [0, asked - 2, asked - 1, asked + 1, asked + 2, far]
+}
+
+/// Long trees with one buffer in turn of another length, and one that is too long for all entries.
+fn long_trees_in_all_lengths(entries: &Entries) {
+    let random = &mut Random::new(1107);
+    for (count, form) in LONG.into_iter().flat_map(|count| FORMS.map(|form| (count, form))) {
+        let table = table_and_archive(random, form, count, 5)[0].clone();
+        let (plan, right) = (vec![1; count], Lengths::of(&table));
+        for length in other_lengths(table.len()) {
+            let mut other = table.clone();
+            other.resize(length, 1);
+            let (number, place) = if length < 4 { (1, 0) } else { (4, table.len()) };
+            let asked = Asked::with(entries, &other, &plan, &right);
+            asked.expect_refused(&other, number, place);
+        }
+        for length in other_lengths(count) {
+            let asked = Asked::with(entries, &table, &vec![1; length], &right);
+            assert_eq!(asked.read_tree, Answer::ACCEPTED);
+            let refusal = Answer::refused(8, count);
+            assert_eq!(asked.all()[1..], [refusal; 3 + KINDS.len()]);
+        }
+        for scratch in other_lengths(right.scratch) {
+            let refusal = Answer::refused(9, right.scratch);
+            for kind in KINDS {
+                let answer = make_plan(entries, kind, &table, count, scratch);
+                let is_short = scratch < right.scratch;
+                assert_eq!(answer == refusal, is_short, "{kind:?} {answer:?}");
+                assert_eq!(answer.is_accepted(), !is_short, "{kind:?} {answer:?}");
+            }
+        }
+        for archive in other_lengths(right.archive) {
+            let refusal = match count <= 1024 {
+                true => Answer::refused(12, right.archive),
+                false => Answer::refused(15, count),
+            };
+            let answer = fill(entries.write_archive, &table, &plan, archive);
+            assert_eq!(answer, refusal);
+        }
+        for sheets in other_lengths(right.sheets) {
+            let answer = fill(entries.print_sheets, &table, &plan, sheets);
+            assert_eq!(answer, Answer::refused(12, right.sheets));
+        }
+    }
+    let table = table_and_archive(random, Form::Mixed, 2049, 5)[0].clone();
+    let right = Lengths::of(&table);
+    for length in other_lengths(table.len()).into_iter().filter(|&length| length >= 4) {
+        let mut other = table.clone();
+        other.resize(length, 1);
+        for marks in other_lengths(2049) {
+            let lengths = Lengths {
+                scratch: marks,
+                ..right
+            };
+            let asked = Asked::with(entries, &other, &vec![1; marks], &lengths);
+            asked.expect_refused(&other, 2, 2049);
+        }
+    }
+}
+
+/// The archive's reader: of film with more than 1,024 nodes it says 13, whatever its buffers are.
+fn long_film_in_all_lengths(entries: &Entries) {
+    let random = &mut Random::new(1108);
+    for (count, form) in LONG.into_iter().flat_map(|count| FORMS.map(|form| (count, form))) {
+        let [table, archive] = table_and_archive(random, form, count, 5);
+        let verdict = Answer::accepted(count, word(&table, 2) as u32);
+        for table_length in other_lengths(table.len()).into_iter().chain([table.len()]) {
+            for marks_length in other_lengths(count).into_iter().chain([count]) {
+                let expected = match (table_length == table.len(), marks_length == count) {
+                    _ if count > 1024 => Answer::refused(13, 0),
+                    (true, true) => verdict,
+                    (true, false) => Answer::refused(8, count),
+                    (false, _) => Answer::refused(12, table.len()),
+                };
+                let (mut new_table, mut new_marks) = (table.clone(), vec![1; count]);
+                new_table.resize(table_length, 9);
+                new_marks.resize(marks_length, 9);
+                let answer = read_archive(entries, &archive, &new_table, &new_marks);
+                assert_eq!(answer, expected, "{count} {form:?}");
+            }
+        }
+    }
+}
+
+/// A tree that is too long for the archive, with a further fault each: what the judge refuses comes
+/// before 15, and 15 before 12. The output keeps its bytes, whatever its length.
+fn fifteen_in_its_order(entries: &Entries) {
+    for count in [1025, 2048] {
+        let refused = |number: u32, place: usize, change: &dyn Fn(&mut Table, &mut Vec<u8>)| {
+            let mut table = long_case_e(count);
+            let mut plan = MARKS_OF_E.to_vec();
+            plan.resize(count, 0);
+            change(&mut table, &mut plan);
+            // The plan of E has three pages. With 1,024 nodes the archive would be shorter.
+            let right = archive_length(3, count);
+            let lengths = other_lengths(right).into_iter();
+            for length in lengths.chain([right, archive_length(3, 1024)]) {
+                let answer = fill(entries.write_archive, &table.bytes(), &plan, length);
+                assert_eq!(answer, Answer::refused(number, place), "{count}: {length}");
+            }
+        };
+        let last = count - 1;
+        refused(15, count, &|_, _| {});
+        refused(15, count, &|_, plan| plan[last] = 1);
+        refused(15, count, &|_, plan| plan.fill(1));
+        // The judge's.
+        refused(2, 0, &|table, _| table.count = 0);
+        refused(2, 2049, &|table, _| table.count = 2049);
+        refused(3, 0, &|table, _| table.limit = 0);
+        refused(3, 1025, &|table, _| table.limit = 1025);
+        refused(4, 4 + 8 * last, &|table, _| table.count -= 1);
+        refused(14, count, &|table, _| table.records[last].label = 0);
+        refused(6, 0, &|table, _| table.records[0].next_sibling = 2);
+        refused(6, count, &|table, _| table.records[last].first_child = 1);
+        refused(7, count, &|table, _| table.records[last].weight = 6);
+        refused(8, count, &|_, plan| plan.truncate(last));
+        refused(8, count, &|_, plan| plan.push(0));
+        refused(8, count, &|_, plan| plan.clear());
+        refused(10, 1, &|_, plan| plan[0] = 0);
+        refused(10, count, &|_, plan| plan[last] = 3);
+        refused(10, count, &|_, plan| plan[last] = 2);
+        refused(11, 1, &|table, _| table.records[last].weight = 1);
+        refused(11, 2, &|_, plan| plan[3..5].fill(0));
+        // The last two nodes are a page.
+        refused(11, 4, &|table, plan| {
+            plan[last - 1..].copy_from_slice(&[1, 2]);
+            (table.records[last - 1].weight, table.records[last].weight) = (5, 1);
+        });
+        // More than one.
+        refused(10, count, &|table, plan| {
+            plan[last] = 3;
+            table.records[last].weight = 1;
+        });
+        refused(7, count, &|table, plan| {
+            plan[last] = 3;
+            table.records[last].weight = 6;
+        });
+    }
+    // At 1,024 nodes there is none.
+    let mut plan = MARKS_OF_E.to_vec();
+    plan.resize(1024, 0);
+    let right = archive_length(3, 1024);
+    for length in other_lengths(right).into_iter().chain([right]) {
+        let expected = match length == right {
+            true => Answer::accepted(3, 5),
+            false => Answer::refused(12, right),
+        };
+        let table = long_case_e(1024).bytes();
+        assert_eq!(fill(entries.write_archive, &table, &plan, length), expected);
+    }
+}
+
+/// Every planner takes exactly the 8,413,184 words that the most nodes ask for under the highest
+/// limit, and no fewer.
+fn longest_scratch(entries: &Entries) {
+    let parents = random_parents(&mut Random::new(1109), Form::Deep, 2048);
+    let weights: Vec<u16> = (0..2048).map(|node| 1024 - node % 700).collect();
+    let table = Table::new(1024, &parents, &weights).bytes();
+    for kind in KINDS {
+        let answer = make_plan(entries, kind, &table, 2048, 8_413_184);
+        assert!(answer.is_accepted(), "{kind:?}: {answer:?}");
+        for scratch in [8_413_183, 8_413_182, 4 * 1024 * 1027, 0] {
+            let answer = make_plan(entries, kind, &table, 2048, scratch);
+            assert_eq!(answer, Answer::refused(9, 8_413_184), "{kind:?}");
+        }
+    }
+}
+
+/// The heaviest pages that marks can ask for. Sums of 16 bits would find 0 or 1,024 for some.
+fn heaviest_pages(entries: &Entries) {
+    for (form, count) in [Form::Flat, Form::Deep, Form::Mixed]
+        .into_iter()
+        .flat_map(|form| [64, 65, 128, 1024, 1025, 2048].map(|count| (form, count)))
+    {
+        let parents = random_parents(&mut Random::new(1110), form, count);
+        let table = Table::new(1024, &parents, &vec![1024; count]).bytes();
+        let mut one_page = vec![0; count];
+        one_page[0] = 1;
+        heavy_on_film(entries, &table, &one_page, 1);
+        // All but node 1, as the run of its children or below the only one.
+        let run = (1..=count).map(|node| match parents[node - 1] {
+            0 => 1,
+            1 if node == 2 => 1,
+            1 => 2,
+            _ => 0,
+        });
+        heavy_on_film(entries, &table, &run.collect::<Vec<u8>>(), 2);
     }
 }
 
@@ -288,7 +503,7 @@ fn fourteen_in_its_order(entries: &Entries) {
     refused(14, 5, |table| table.records[2].label = 256);
     // What is checked before it.
     refused(2, 0, |table| table.count = 0);
-    refused(2, 1025, |table| table.count = 1025);
+    refused(2, 2049, |table| table.count = 2049);
     refused(3, 0, |table| table.limit = 0);
     refused(3, 1025, |table| table.limit = 1025);
     refused(4, 44, |table| table.count = 5);
@@ -377,16 +592,21 @@ fn kept_film_in_the_order_of_the_reader(entries: &Entries) {
 fn label_0_of_the_last_of_many(entries: &Entries) {
     let random = &mut Random::new(1104);
     for form in FORMS {
-        let [mut table, mut archive] = table_and_archive(random, form, MAX_NODES, 9);
+        let [mut table, mut archive] = table_and_archive(random, form, ARCHIVE_NODES, 9);
         // Both end in the node's record, and its label is the second word of four.
         for bytes in [&mut table, &mut archive] {
             let label = bytes.len() - 6;
             bytes[label..label + 2].fill(0);
         }
-        Asked::of(entries, &table).expect_refused(&table, 14, MAX_NODES);
-        let verdict = Answer::accepted(MAX_NODES, word(&table, 2) as u32);
-        let answer = read_archive(entries, &archive, &table, &[1; MAX_NODES]);
+        Asked::of(entries, &table).expect_refused(&table, 14, ARCHIVE_NODES);
+        let verdict = Answer::accepted(ARCHIVE_NODES, word(&table, 2) as u32);
+        let answer = read_archive(entries, &archive, &table, &[1; ARCHIVE_NODES]);
         assert_eq!(answer, verdict);
+        // Too long for film, and for its writer 14 all the same.
+        let mut table = table_and_archive(random, form, MAX_NODES, 9)[0].clone();
+        let label = table.len() - 6;
+        table[label..label + 2].fill(0);
+        Asked::of(entries, &table).expect_refused(&table, 14, MAX_NODES);
     }
 }
 
@@ -424,8 +644,12 @@ fn five_is_never_given(entries: &Entries) {
 /// A tree and a plan: the judge, the writer and the printer give this verdict, the page records and
 /// the sheets have these weights, and the reader and the rule sheet get table and marks back.
 fn on_film(entries: &Entries, table: &[u8], marks: &[u8], weights: &[usize]) {
+    on_archive(entries, table, marks, weights);
+    on_sheets(entries, table, marks, weights);
+}
+
+fn on_archive(entries: &Entries, table: &[u8], marks: &[u8], weights: &[usize]) {
     let verdict = Answer::accepted(weights.len(), weights[0] as u32);
-    assert_eq!((entries.judge)(table, marks), verdict, "{}", show(table));
     let mut archive = vec![7; archive_length(weights.len(), marks.len())];
     let answer = (entries.write_archive)(table, marks, &mut archive);
     assert_eq!(answer, verdict, "{}", show(table));
@@ -440,6 +664,11 @@ fn on_film(entries: &Entries, table: &[u8], marks: &[u8], weights: &[usize]) {
     assert_eq!(told_marks, marks, "{}", show(table));
     let sums: Vec<usize> = told.pages.iter().map(|page| page.sum).collect();
     assert_eq!(sums, weights, "{}", show(table));
+}
+
+fn on_sheets(entries: &Entries, table: &[u8], marks: &[u8], weights: &[usize]) {
+    let verdict = Answer::accepted(weights.len(), weights[0] as u32);
+    assert_eq!((entries.judge)(table, marks), verdict, "{}", show(table));
     let mut sheets = vec![7; sheets_length(weights.len())];
     let answer = (entries.print_sheets)(table, marks, &mut sheets);
     assert_eq!(answer, verdict, "{}", show(table));
@@ -535,12 +764,12 @@ fn notes_on_full_pages(entries: &Entries) {
     );
 }
 
-/// A note, two, and up to 1,024 in every form of tree, under the lowest limit and the highest: one
-/// page of weight 0 by every planner, and on film.
+/// A note, two, and up to 2,048 in every form of tree, under the lowest limit and the highest: one
+/// page of weight 0 by every planner, on sheets and, up to 1,024, on film.
 fn notes_only(entries: &Entries) {
     let random = &mut Random::new(1106);
     for form in FORMS {
-        for count in [1, 2, 30, MAX_NODES] {
+        for count in [1, 2, 30, ARCHIVE_NODES, MAX_NODES] {
             for limit in [1, 1024] {
                 let parents = random_parents(random, form, count);
                 let table = Table::new(limit, &parents, &vec![0; count]).bytes();
@@ -553,8 +782,9 @@ fn notes_only(entries: &Entries) {
                     assert_eq!(answer, Answer::accepted(1, 0), "{kind:?} {form:?} {limit}");
                     assert_eq!(marks, one_page, "{kind:?} {form:?} {limit}");
                 }
-                on_film(entries, &table, &one_page, &[0]);
-                on_film(entries, &table, &vec![1; count], &vec![0; count]);
+                let tell = if count <= 1024 { on_film } else { on_sheets };
+                tell(entries, &table, &one_page, &[0]);
+                tell(entries, &table, &vec![1; count], &vec![0; count]);
             }
         }
     }
@@ -584,11 +814,11 @@ fn numbers_of_the_header() {
         .lines()
         .filter_map(|line| line.trim().strip_prefix("BALDUQEN_")?.split_once(" = "))
         .collect();
-    let given = (0..=14).filter(|&number| number != RETIRED);
+    let given = (0..=15).filter(|&number| number != RETIRED);
     let numbers: Vec<String> = given.map(|number| number.to_string()).collect();
     let of_names = named.iter().map(|(_, number)| number.trim_end_matches(','));
     assert!(of_names.eq(&numbers), "{named:?}");
-    assert_eq!(named.last(), Some(&("NO_LABEL", "14")));
+    assert!(named.ends_with(&[("NO_LABEL", "14,"), ("MANY_NODES", "15")]));
     let listed = HEADER.lines().filter_map(|line| {
         let (number, _) = line.strip_prefix(" *")?.trim().split_once("   ")?;
         numbers.contains(&number.to_string()).then_some(number)
@@ -646,7 +876,7 @@ fn lengths_of_the_header() {
     let mut agree = |text: &str, length: usize| {
         asserts += &format!("_Static_assert({text} == {length}, \"{text}\");\n");
     };
-    let ends = [1, 2, 6, 57, 58, 59, 116, 117, 1023, 1024];
+    let ends = [1, 2, 6, 57, 58, 59, 116, 117, 1023, 1024, 1025, 2047, 2048];
     for count in ends {
         agree(&format!("BALDUQEN_TABLE_LENGTH({count})"), 4 + 8 * count);
         for other in ends {
@@ -665,6 +895,14 @@ fn lengths_of_the_header() {
     agree("BALDUQEN_SHEETS_LENGTH(59) / 2", 4860);
     agree("BALDUQEN_MAX_NODES", MAX_NODES);
     agree("BALDUQEN_MAX_LIMIT", MAX_LIMIT);
+    agree("BALDUQEN_ARCHIVE_NODES", ARCHIVE_NODES);
+    // What request Five says, and so the longest scratch and the longest sheets.
+    agree("BALDUQEN_MAX_NODES", 2048);
+    agree("BALDUQEN_ARCHIVE_NODES", 1024);
+    let longest = "BALDUQEN_SCRATCH_LENGTH(BALDUQEN_MAX_NODES, BALDUQEN_MAX_LIMIT)";
+    agree(longest, 8_413_184);
+    agree("BALDUQEN_SHEETS_LENGTH(BALDUQEN_MAX_NODES)", 36 * 4860);
+    agree("BALDUQEN_MANY_NODES", 15);
     compile(&asserts);
 }
 
@@ -718,7 +956,8 @@ macro_rules! tests_of_entries {
             fourteen_in_its_order kept_film_is_read kept_film_is_not_taken_again
             kept_film_in_the_order_of_the_reader label_0_of_the_last_of_many five_is_never_given
             film_with_a_note notes_at_every_place_of_a_run pages_of_weight_0 notes_on_full_pages
-            notes_only kept_film_is_written_again
+            notes_only kept_film_is_written_again long_trees_in_all_lengths
+            long_film_in_all_lengths fifteen_in_its_order longest_scratch heaviest_pages
         );
     };
 }

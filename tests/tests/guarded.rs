@@ -10,7 +10,7 @@ use balduqen_tests::guarded::{Guarded, Side, SIDES};
 use balduqen_tests::kept::{kept, kept_filed};
 use balduqen_tests::model::{
     self, archive_bytes, archive_length, read, scratch_length, sheets_length, word, Answer,
-    MAX_NODES,
+    ARCHIVE_NODES, MAX_NODES,
 };
 use std::env;
 use std::os::unix::process::ExitStatusExt;
@@ -112,8 +112,9 @@ fn hand_to_all(table: &[u8], marks: &[u8], limit: usize) -> Answer {
 }
 
 /// The lengths that a lent buffer is tried with where another is asked for.
-fn other_lengths(asked: usize) -> [usize; 3] {
-    [0, asked - 1, asked + 1]
+fn other_lengths(asked: usize) -> [usize; 6] {
+    let far = 2 * asked + 100;
+    [0, asked.saturating_sub(2), asked - 1, asked + 1, asked + 2, far]
 }
 
 /// The same, and also with each buffer in turn of another length.
@@ -244,22 +245,93 @@ fn good_tables() {
     }
 }
 
+/// The most nodes of the archive, one more, the most of a table, and one more.
+const LONG: [usize; 4] = [1024, 1025, 2048, 2049];
+
 #[test]
 fn largest_tables() {
     let random = &mut Random::new(1202);
-    for form in FORMS {
-        let table = random_table(random, form, MAX_NODES, 12).bytes();
-        let tree = read(&table).expect("an accepted table");
-        hand_to_all(&table, &feasible_plan(random, &tree), 12);
-        hand_in_all_lengths(&table, &ones(MAX_NODES), 12);
+    for (form, count) in FORMS.into_iter().flat_map(|form| LONG.map(|count| (form, count))) {
+        let table = random_table(random, form, count, 12).bytes();
+        let expected = match read(&table) {
+            Ok(tree) => {
+                hand_to_all(&table, &feasible_plan(random, &tree), 12);
+                Answer::ACCEPTED
+            }
+            Err(_) => Answer::refused(2, 2049),
+        };
+        assert_eq!(hand_in_all_lengths(&table, &ones(count), 12), expected);
     }
-    // The longest scratch.
-    let table = random_table(random, Form::Deep, MAX_NODES, 1024).bytes();
-    let scratch = vec![7; scratch_length(MAX_NODES, 1024)];
+}
+
+/// The longest scratch, and one that is a word short, against the guards.
+#[test]
+fn longest_scratch() {
+    let table = random_table(&mut Random::new(1208), Form::Deep, MAX_NODES, 1024).bytes();
+    let scratch = vec![7; 8_413_184];
     for kind in KINDS {
         let answer = plan(kind, &table, &ones(MAX_NODES), &scratch);
         assert!(answer.is_accepted());
-        plan(kind, &table, &ones(MAX_NODES), &scratch[1..]);
+        let refusal = plan(kind, &table, &ones(MAX_NODES), &scratch[1..]);
+        assert_eq!(refusal, Answer::refused(9, 8_413_184));
+    }
+}
+
+/// Long tables that are cut short or longer than they should be.
+#[test]
+fn long_tables_of_other_lengths() {
+    let random = &mut Random::new(1209);
+    for (form, count) in FORMS.into_iter().flat_map(|form| LONG.map(|count| (form, count))) {
+        let table = random_table(random, form, count, 3).bytes();
+        for length in other_lengths(table.len()) {
+            let mut other = table.clone();
+            other.resize(length, 1);
+            let expected = match (length, count) {
+                (0, _) => Answer::refused(1, 0),
+                (_, 2049) => Answer::refused(2, 2049),
+                _ => Answer::refused(4, table.len()),
+            };
+            assert_eq!(hand_to_all(&other, &ones(count), 3), expected);
+        }
+    }
+}
+
+/// A tree that is too long for the archive: with outputs of any length 15, after what is wrong with
+/// the plan.
+#[test]
+fn trees_too_long_for_the_archive() {
+    for count in [1025, 2048] {
+        let table = long_case_e(count).bytes();
+        let plan = |marks: [u8; 6]| [&marks[..], &vec![0; count - 6]].concat();
+        let right = archive_length(3, count);
+        let short = archive_length(3, 1024);
+        let lengths = other_lengths(right).into_iter().chain(other_lengths(short));
+        for length in lengths.chain([right, short]) {
+            let write = |marks: &[u8]| write_archive(&table, marks, &vec![7; length]);
+            assert_eq!(write(&plan(MARKS_OF_E)), Answer::refused(15, count));
+            assert_eq!(write(&ones(count)), Answer::refused(15, count));
+            assert_eq!(write(&plan([1, 0, 0, 0, 0, 0])), Answer::refused(11, 1));
+            assert_eq!(write(&plan([1, 2, 0, 0, 0, 0])), Answer::refused(10, 2));
+            assert_eq!(write(&ones(count - 1)), Answer::refused(8, count));
+            assert_eq!(write(&[]), Answer::refused(8, count));
+        }
+    }
+}
+
+/// Film that would be sound but for its more than 1,024 nodes.
+#[test]
+fn archives_of_too_many_nodes() {
+    let random = &mut Random::new(1210);
+    for (form, count) in FORMS.into_iter().flat_map(|form| [1025, 2048].map(|count| (form, count))) {
+        let table = random_table(random, form, count, 60).bytes();
+        let tree = read(&table).expect("an accepted table");
+        for marks in [feasible_plan(random, &tree), ones(count)] {
+            let archive = archive_bytes(&tree, &marks);
+            for buffers in [1024, count] {
+                let answer = hand_to_reader_in_all_lengths(&archive, buffers);
+                assert_eq!(answer, Answer::refused(13, 0));
+            }
+        }
     }
 }
 
@@ -302,7 +374,7 @@ fn tables_of_every_length() {
 #[test]
 fn heads_of_tables() {
     let mut seen = Seen::default();
-    let values = [0, 1, 5, 6, 7, 8, 511, 512, 1023, 1024, 1025, 32768, 65535];
+    let values = [0, 1, 5, 6, 7, 8, 511, 512, 1023, 1024, 1025, 2047, 2048, 2049, 32768, 65535];
     for count in values {
         for limit in values {
             let table = Table {
@@ -326,7 +398,7 @@ fn heads_of_tables() {
 fn changed_tables() {
     let table = case_e().bytes();
     for place in 0..table.len() / 2 {
-        for value in [0u16, 1, 2, 3, 6, 7, 8, 255, 256, 1024, 1025, 65535] {
+        for value in [0u16, 1, 2, 3, 6, 7, 8, 255, 256, 1024, 1025, 2048, 2049, 65535] {
             let mut changed = table.clone();
             changed[2 * place..2 * place + 2].copy_from_slice(&value.to_be_bytes());
             hand_to_all(&changed, &MARKS_OF_E, 5);
@@ -388,8 +460,11 @@ fn tables_of_notes() {
         let table = Table::new(1, &parents, &[0; MAX_NODES]).bytes();
         let answer = hand_in_all_lengths(&table, &ones(MAX_NODES), 1);
         assert_eq!(answer, Answer::ACCEPTED);
+        let parents = random_parents(random, form, ARCHIVE_NODES);
+        let table = Table::new(1, &parents, &[0; ARCHIVE_NODES]).bytes();
         let tree = read(&table).expect("an accepted table");
-        hand_to_reader(&archive_bytes(&tree, &ones(MAX_NODES)), MAX_NODES);
+        let archive = archive_bytes(&tree, &ones(ARCHIVE_NODES));
+        assert!(hand_to_reader(&archive, ARCHIVE_NODES).is_accepted());
     }
     // Of the children only the first and the last weigh something, and one run has them all.
     let parents = [&[0][..], &[1; MAX_NODES - 1]].concat();
@@ -437,7 +512,7 @@ fn good_archives() {
     let verdict = Answer::accepted(3, 5);
     assert_eq!(hand_to_reader_in_all_lengths(&archive_of_e(), 6), verdict);
     for round in 0..200 {
-        let most = if round % 50 == 0 { MAX_NODES } else { 30 };
+        let most = if round % 50 == 0 { ARCHIVE_NODES } else { 30 };
         let table = any_table(random, most, 60).bytes();
         let tree = read(&table).expect("an accepted table");
         for marks in [feasible_plan(random, &tree), ones(tree.node_count())] {
@@ -447,10 +522,10 @@ fn good_archives() {
         }
     }
     for form in FORMS {
-        let table = random_table(random, form, MAX_NODES, 1024).bytes();
+        let table = random_table(random, form, ARCHIVE_NODES, 1024).bytes();
         let tree = read(&table).expect("an accepted table");
-        let archive = archive_bytes(&tree, &ones(MAX_NODES));
-        assert!(hand_to_reader(&archive, MAX_NODES).is_accepted());
+        let archive = archive_bytes(&tree, &ones(ARCHIVE_NODES));
+        assert!(hand_to_reader(&archive, ARCHIVE_NODES).is_accepted());
     }
 }
 
@@ -471,7 +546,7 @@ fn archives_of_every_length() {
 /// case E's records, and of as many bytes as promised.
 #[test]
 fn heads_of_archives() {
-    let values: [u16; 12] = [0, 1, 2, 3, 4, 6, 7, 1023, 1024, 1025, 32768, 65535];
+    let values: [u16; 14] = [0, 1, 2, 3, 4, 6, 7, 1023, 1024, 1025, 2048, 2049, 32768, 65535];
     let rest = &archive_of_e()[6..];
     let mut accepted = 0;
     for nodes in values {
@@ -497,7 +572,7 @@ fn heads_of_archives() {
 fn changed_archives() {
     let archive = archive_of_e();
     for place in 0..archive.len() / 2 {
-        for value in [0u16, 1, 2, 3, 4, 5, 6, 7, 255, 256, 1024, 1025, 65535] {
+        for value in [0u16, 1, 2, 3, 4, 5, 6, 7, 255, 256, 1024, 1025, 2048, 65535] {
             let mut changed = archive.clone();
             changed[2 * place..2 * place + 2].copy_from_slice(&value.to_be_bytes());
             hand_to_reader(&changed, 6);

@@ -17,7 +17,7 @@ use std::{env, thread};
 const KIND: Kind = Kind::Best;
 
 /// What the program reads at most.
-const MOST_INPUT: usize = 8197;
+const MOST_INPUT: usize = 16389;
 
 /// The scratch words that it lends.
 const SCRATCH: usize = 10240;
@@ -169,9 +169,9 @@ fn unfiled_lots() {
         );
     }
     // Here the scratch that is lent would be too little.
-    let mut largest = random_table(&mut Random::new(907), Form::Mixed, 1024, 1);
-    largest.records[1023].label = 0;
-    assert_eq!(run(&largest.bytes()), "refused 14 at 1024\n");
+    let mut largest = random_table(&mut Random::new(907), Form::Mixed, 2048, 1);
+    largest.records[2047].label = 0;
+    assert_eq!(run(&largest.bytes()), "refused 14 at 2048\n");
 }
 
 #[test]
@@ -188,12 +188,13 @@ fn no_input_and_short_input() {
 #[test]
 fn long_input() {
     let random = &mut Random::new(901);
-    let mut largest = random_table(random, Form::Mixed, 1024, 1).bytes();
+    let mut largest = random_table(random, Form::Mixed, 2048, 1).bytes();
     assert_eq!(largest.len(), MOST_INPUT - 1);
-    assert_eq!(run(&largest), "refused 9 at 16384\n");
-    for length in [MOST_INPUT, MOST_INPUT + 1, 10000, 60000] {
+    assert_eq!(run(&largest), "refused 9 at 32768\n");
+    assert_eq!(run(&largest[..16387]), "refused 4 at 16388\n");
+    for length in [MOST_INPUT, MOST_INPUT + 1, 20000, 60000] {
         largest.resize(length, 0);
-        assert_eq!(run(&largest), "refused 4 at 8196\n");
+        assert_eq!(run(&largest), "refused 4 at 16388\n");
         let mut small = case_e().bytes();
         small.resize(length, 0);
         assert_eq!(run(&small), "refused 4 at 52\n");
@@ -202,25 +203,64 @@ fn long_input() {
     }
 }
 
+/// As many nodes as a table has, whose scratch is too little, up to one more.
+#[test]
+fn long_trees() {
+    let random = &mut Random::new(909);
+    for form in FORMS {
+        for (count, limit, text) in [
+            (640, 1, ""),
+            (641, 1, "refused 9 at 10256\n"),
+            (1024, 1, "refused 9 at 16384\n"),
+            (1025, 1, "refused 9 at 16400\n"),
+            (2047, 1, "refused 9 at 32752\n"),
+            (2048, 1, "refused 9 at 32768\n"),
+            (2048, 2, "refused 9 at 40960\n"),
+            (2048, 1024, "refused 9 at 8413184\n"),
+            (2049, 1, "refused 2 at 2049\n"),
+            (2049, 1024, "refused 2 at 2049\n"),
+            (2050, 1, "refused 2 at 2050\n"),
+        ] {
+            let table = random_table(random, form, count, limit).bytes();
+            match text {
+                "" => assert!(check(&table).is_accepted()),
+                _ => assert_eq!(run(&table), text),
+            }
+        }
+    }
+}
+
+/// A page for each of the most nodes that the scratch serves.
+#[test]
+fn most_pages() {
+    let parents: Parents = (0..640).collect();
+    let lines = (1..=640).map(|page| format!("page {page} first {page} last {page} weight 1\n"));
+    let text = "pages 640 root 1 limit 1\n".to_string() + &lines.collect::<String>();
+    assert_eq!(run(&Table::new(1, &parents, &[1; 640]).bytes()), text);
+}
+
 /// Inputs of this length that begin differently, and what the model says of each.
 fn inputs_of(length: usize) -> Vec<(Vec<u8>, String)> {
     let random = &mut Random::new(906);
-    let largest = random_table(random, Form::Mixed, 1024, 1).bytes();
-    [largest, case_e().bytes(), vec![0, 6, 255, 255], vec![]]
+    let [largest, long] = [2048, 1024].map(|count| random_table(random, Form::Mixed, count, 1));
+    let tables = [largest, long, case_e()].map(|table| table.bytes());
+    let heads = [vec![0, 6, 255, 255], vec![]];
+    let inputs = tables.into_iter().chain(heads);
+    inputs
         .map(|mut input| {
             input.resize(length, 1);
             let text = expected(&input).1;
             (input, text)
         })
-        .to_vec()
+        .collect()
 }
 
-/// Of a file the program reads all, but no more than 8,197 bytes. The test and the program share
+/// Of a file the program reads all, but no more than 16,389 bytes. The test and the program share
 /// one place in the file, so afterwards it is where the program stopped.
 #[test]
 fn what_is_read_of_a_file() {
     let path = concat!(env!("CARGO_TARGET_TMPDIR"), "/what_is_read_of_a_file");
-    for length in [0, 3, 52, 8195, 8196, 8197, 8198, 100_000] {
+    for length in [0, 3, 52, 8196, 8197, 16387, 16388, 16389, 16390, 100_000] {
         for (input, text) in inputs_of(length) {
             let mut options = OpenOptions::new();
             options.read(true).write(true).create(true).truncate(true);
@@ -240,7 +280,7 @@ fn what_is_read_of_a_file() {
 #[test]
 fn what_is_read_of_a_pipe() {
     // A pipe takes 65,536 bytes before they are read.
-    for length in [8196, 8197, 8198, 20_000, 60_000] {
+    for length in [8196, 8197, 8198, 16387, 16388, 16389, 16390, 20_000, 60_000] {
         for (input, text) in inputs_of(length) {
             let (mut output_end, mut input_end) = io::pipe().expect("a pipe");
             input_end.write_all(&input).expect("the pipe has room");
@@ -274,7 +314,7 @@ fn no_wait_for_more() {
     }
 }
 
-/// A pipe gives what is there; the program waits for the rest.
+/// A pipe gives what is there; the program waits for the rest, up to the most that it reads.
 #[test]
 fn input_in_pieces() {
     let random = &mut Random::new(902);
@@ -283,6 +323,15 @@ fn input_in_pieces() {
         let (low, high) = (random.between(0, 8), random.between(9, table.len()));
         let pieces = [&table[..low], &table[low..high], &table[high..]];
         assert_eq!(run_on_pieces(&pieces), expected(&table).1);
+    }
+    // A long table, where the pieces end before, at and behind half of it and its end.
+    let largest = random_table(random, Form::Mixed, 2048, 1).bytes();
+    for ends in [[8196, 8197], [8197, 16387], [1, 16388], [4096, 12288]] {
+        let [low, high] = ends;
+        let pieces = [&largest[..low], &largest[low..high], &largest[high..]];
+        assert_eq!(run_on_pieces(&pieces), "refused 9 at 32768\n");
+        let pieces = [&largest[..low], &largest[low..high], &largest[high..], &[0]];
+        assert_eq!(run_on_pieces(&pieces), "refused 4 at 16388\n");
     }
 }
 
@@ -304,6 +353,9 @@ fn scratch_that_is_lent() {
         (3, 1024),
         (1024, 1),
         (1024, 1024),
+        (1025, 1),
+        (2048, 1),
+        (2048, 1024),
     ];
     for (count, limit) in sizes {
         for form in FORMS {

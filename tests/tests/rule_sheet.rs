@@ -11,7 +11,7 @@ use balduqen_tests::gen::*;
 use balduqen_tests::kept::{kept, kept_filed};
 use balduqen_tests::model::{
     self, archive_bytes, archive_length, judge, plan_best, read, read_as_before, scratch_length,
-    word, Answer, MAX_NODES,
+    word, Answer, ARCHIVE_NODES,
 };
 use balduqen_tests::rule_sheet::{list_nodes, rebuild, Failed, Page, Place, Rebuilt};
 use std::collections::BTreeSet;
@@ -631,6 +631,7 @@ fn each_check_can_fail() {
     fails(1, 0, &good[..5]);
     fails(2, 0, &changed_e(&[(0, 0)]));
     fails(2, 0, &changed_e(&[(0, 1025)]));
+    fails(2, 0, &changed_e(&[(0, 2048)]));
     fails(3, 0, &changed_e(&[(1, 0)]));
     fails(3, 0, &changed_e(&[(1, 1025)]));
     fails(4, 0, &changed_e(&[(2, 0)]));
@@ -761,7 +762,7 @@ fn agree(archive: &[u8], reader: Reader) -> bool {
     // Buffers of the right length for all archives that can be accepted.
     let count = match archive.len() < 2 {
         true => 0,
-        false => word(archive, 0).min(MAX_NODES),
+        false => word(archive, 0).min(ARCHIVE_NODES),
     };
     let (mut table, mut marks) = (vec![7; 4 + 8 * count], vec![7; count]);
     let answer = reader(archive, &mut table, &mut marks);
@@ -830,7 +831,7 @@ fn archives_of_all_plans(visit: &mut dyn FnMut(&[u8])) {
 fn random_archives(visit: &mut dyn FnMut(&[u8])) {
     let random = &mut Random::new(2002);
     for round in 0..2000 {
-        let most = if round % 50 == 0 { MAX_NODES } else { 30 };
+        let most = if round % 50 == 0 { ARCHIVE_NODES } else { 30 };
         let limit = random.pick(&[10, 60, 1024]);
         visit(&random_archive(random, most, limit));
     }
@@ -840,9 +841,9 @@ fn random_archives(visit: &mut dyn FnMut(&[u8])) {
 fn largest_archives(visit: &mut dyn FnMut(&[u8])) {
     let random = &mut Random::new(2003);
     for form in FORMS {
-        let table = random_table(random, form, 1024, 1024).bytes();
+        let table = random_table(random, form, ARCHIVE_NODES, 1024).bytes();
         let tree = read(&table).expect("an accepted table");
-        for marks in [vec![1; 1024], feasible_plan(random, &tree)] {
+        for marks in [vec![1; ARCHIVE_NODES], feasible_plan(random, &tree)] {
             let archive = archive_bytes(&tree, &marks);
             visit(&archive);
             for _ in 0..10 {
@@ -894,7 +895,7 @@ fn changed_words(random: &mut Random, archive: &[u8]) -> Vec<u8> {
 fn changed_archives(visit: &mut dyn FnMut(&[u8])) {
     let random = &mut Random::new(2005);
     for round in 0..20000 {
-        let most = if round % 500 == 0 { MAX_NODES } else { 6 };
+        let most = if round % 500 == 0 { ARCHIVE_NODES } else { 6 };
         let archive = random_archive(random, most, 12);
         visit(&changed_words(random, &archive));
         let mut exchanged = archive.clone();
@@ -980,7 +981,7 @@ fn changed_runs(visit: &mut dyn FnMut(&[u8])) {
 
 /// Heads with counts at or near the ends, and the lengths that they ask for.
 fn heads(visit: &mut dyn FnMut(&[u8])) {
-    let values: [u16; 8] = [0, 1, 2, 3, 1023, 1024, 1025, 65535];
+    let values: [u16; 9] = [0, 1, 2, 3, 1023, 1024, 1025, 2048, 65535];
     for nodes in values {
         for limit in values {
             for pages in values {
@@ -998,20 +999,14 @@ fn heads(visit: &mut dyn FnMut(&[u8])) {
 /// Archives with one number of the head just outside its limits and all else as it should be, and
 /// some with the number just inside.
 fn around_the_limits(visit: &mut dyn FnMut(&[u8])) {
-    let flat = Table::new(1024, &[&[0][..], &[1; 1023]].concat(), &[1; 1024]);
-    let mut tree = read(&flat.bytes()).expect("an accepted table");
-    visit(&archive_bytes(&tree, &[1; 1024]));
-    visit(&archive_bytes(&tree, &[&[1][..], &[0; 1023]].concat()));
-    tree.weights.push(1);
-    tree.labels.push(1);
-    tree.parents.push(1);
-    tree.children[1].push(1025);
-    tree.children.push(vec![]);
-    tree.before.push(Some(1024));
-    tree.after[1024] = Some(1025);
-    tree.after.push(None);
-    visit(&archive_bytes(&tree, &[1; 1025]));
-    visit(&archive_bytes(&tree, &[&[1, 1][..], &[0; 1023]].concat()));
+    for nodes in [1024, 1025, 2048] {
+        let parents = [&[0][..], &vec![1; nodes - 1]].concat();
+        let weights: Vec<u16> = (0..nodes).map(|node| u16::from(node < 1024)).collect();
+        let table = Table::new(1024, &parents, &weights).bytes();
+        let tree = read(&table).expect("a table of up to 2,048 nodes");
+        visit(&archive_bytes(&tree, &vec![1; nodes]));
+        visit(&archive_bytes(&tree, &[&[1][..], &vec![0; nodes - 1]].concat()));
+    }
 
     for limit in [1023, 1024, 1025] {
         visit(&changed_e(&[(1, limit)]));
@@ -1034,7 +1029,7 @@ fn around_the_limits(visit: &mut dyn FnMut(&[u8])) {
 fn gets_back_what_is_written_by(writer: Writer) {
     let random = &mut Random::new(2007);
     for round in 0..1000 {
-        let most = if round % 50 == 0 { MAX_NODES } else { 30 };
+        let most = if round % 50 == 0 { ARCHIVE_NODES } else { 30 };
         let limit = random.pick(&[10, 60, 1024]);
         let (table, marks) = random_table_and_plan(random, most, limit);
         let verdict = judge(&table, &marks);
@@ -1095,7 +1090,7 @@ macro_rules! tests_of_reader {
 
         #[test]
         fn agree_around_the_limits() {
-            agree_on(around_the_limits, $reader, 5, 7);
+            agree_on(around_the_limits, $reader, 5, 9);
         }
     };
 }

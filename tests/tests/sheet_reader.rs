@@ -74,7 +74,7 @@ fn sheet_of_case_e() {
 
 #[test]
 fn sheets_of_the_model() {
-    for pages in [1, 57, 58, 59, 116, 117, 1024] {
+    for pages in [1, 57, 58, 59, 116, 117, 1024, 1025, 2048] {
         let told = read_sheets(&sheets(pages)).expect("sound sheets");
         let page = |number| Page {
             number,

@@ -1,11 +1,13 @@
 //! How much stack the library's entries use, against the most that include/balduqen.h gives. No entry
 //! calls itself, so that the frames of a call are the same for every tree; the trees here have the
-//! most nodes, and every form.
+//! most nodes, of a table or of the archive, and every form.
 
 use balduqen_tests::cases::KINDS;
 use balduqen_tests::entries::LIBRARY;
 use balduqen_tests::gen::*;
-use balduqen_tests::model::{archive_length, scratch_length, sheets_length, Answer, MAX_NODES};
+use balduqen_tests::model::{
+    archive_length, scratch_length, sheets_length, Answer, ARCHIVE_NODES, MAX_NODES,
+};
 use balduqen_tests::stack::stack_used;
 use std::hint::black_box;
 
@@ -19,14 +21,40 @@ fn defined(name: &str) -> usize {
     number.parse().expect(number)
 }
 
-/// The answer of a call that must be an acceptance, after a look at its stack.
+/// The answer of a call, after a look at its stack.
 fn within_stack(what: &str, mut call: impl FnMut() -> Answer) -> Answer {
     let mut answer = Answer::refused(1, 0);
     let used = stack_used(&mut || answer = call());
     let most = defined("BALDUQEN_STACK");
     assert!(used <= most, "{what}: {used} bytes, at most {most}");
+    answer
+}
+
+/// The same of a call that must be an acceptance.
+fn accepted_within_stack(what: &str, call: impl FnMut() -> Answer) -> Answer {
+    let answer = within_stack(what, call);
     assert!(answer.is_accepted(), "{what}: {answer:?}");
     answer
+}
+
+/// Plans a tree with so many nodes, judges and prints it, and hands it to the archive's writer. Gives
+/// the marks, the writer's output, and the answers of judge and writer.
+fn all_but_the_reader(table: &[u8], count: usize, limit: usize) -> (Vec<u8>, Vec<u8>, [Answer; 2]) {
+    let mut marks = vec![0; count];
+    let mut scratch = vec![0; scratch_length(count, limit)];
+    accepted_within_stack("read tree", || (LIBRARY.read_tree)(table));
+    for kind in KINDS {
+        let planner = (LIBRARY.planner)(kind);
+        accepted_within_stack("plan", || planner(table, &mut marks, &mut scratch));
+    }
+    let judged = accepted_within_stack("judge", || (LIBRARY.judge)(table, &marks));
+    let mut sheets = vec![0; sheets_length(judged.pages as usize)];
+    let print = LIBRARY.print_sheets;
+    accepted_within_stack("print", || print(table, &marks, &mut sheets));
+    let mut archive = vec![0; archive_length(judged.pages as usize, count)];
+    let write = LIBRARY.write_archive;
+    let written = within_stack("write", || write(table, &marks, &mut archive));
+    (marks, archive, [judged, written])
 }
 
 #[test]
@@ -35,23 +63,15 @@ fn every_entry() {
     for form in FORMS {
         for limit in [7, 300] {
             let table = random_table(&mut random, form, MAX_NODES, limit).bytes();
-            let mut marks = vec![0; MAX_NODES];
-            let mut scratch = vec![0; scratch_length(MAX_NODES, limit)];
-            within_stack("read tree", || (LIBRARY.read_tree)(&table));
-            for kind in KINDS {
-                let planner = (LIBRARY.planner)(kind);
-                within_stack("plan", || planner(&table, &mut marks, &mut scratch));
-            }
-            let judged = within_stack("judge", || (LIBRARY.judge)(&table, &marks));
-            let mut archive = vec![0; archive_length(judged.pages as usize, MAX_NODES)];
-            let write = LIBRARY.write_archive;
-            within_stack("write", || write(&table, &marks, &mut archive));
+            let [_, written] = all_but_the_reader(&table, MAX_NODES, limit).2;
+            assert_eq!(written, Answer::refused(15, MAX_NODES));
+            let table = random_table(&mut random, form, ARCHIVE_NODES, limit).bytes();
+            let (mut marks, archive, [judged, written]) =
+                all_but_the_reader(&table, ARCHIVE_NODES, limit);
+            assert_eq!(written, judged);
             let mut back = vec![0; table.len()];
             let read = LIBRARY.read_archive;
-            within_stack("read", || read(&archive, &mut back, &mut marks));
-            let mut sheets = vec![0; sheets_length(judged.pages as usize)];
-            let print = LIBRARY.print_sheets;
-            within_stack("print", || print(&table, &marks, &mut sheets));
+            accepted_within_stack("read", || read(&archive, &mut back, &mut marks));
         }
     }
 }

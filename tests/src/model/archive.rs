@@ -1,6 +1,9 @@
-//! The archive writer and reader: refusals 12 and 13.
+//! The archive writer and reader: refusals 12, 13 and 15.
 
 use super::{judge, pages, read, read_as_before, verdict, word, Answer, Tree};
+
+/// The most nodes of the archive, as in document 01: film decks in use size their memory by it.
+pub const ARCHIVE_NODES: usize = 1024;
 
 /// The bytes of an archive with so many pages and nodes.
 pub fn archive_length(pages: usize, nodes: usize) -> usize {
@@ -46,7 +49,11 @@ pub fn write_archive(table: &[u8], marks: &[u8], archive: &mut [u8]) -> Answer {
     if !answer.is_accepted() {
         return answer;
     }
-    let bytes = archive_bytes(&read(table).expect("the judge accepts the tree"), marks);
+    let tree = read(table).expect("the judge accepts the tree");
+    if tree.node_count() > ARCHIVE_NODES {
+        return Answer::refused(15, tree.node_count());
+    }
+    let bytes = archive_bytes(&tree, marks);
     if archive.len() != bytes.len() {
         return Answer::refused(12, bytes.len());
     }
@@ -54,7 +61,8 @@ pub fn write_archive(table: &[u8], marks: &[u8], archive: &mut [u8]) -> Answer {
     answer
 }
 
-/// A label 0 is read like any other: 13 is what the writer without 14 could not write.
+/// A label 0 is read like any other: 13 is what the writer without 14 could not write. That writer
+/// writes no more nodes than the writer does, so that more are 13, whatever else there is.
 pub fn read_archive(archive: &[u8], table: &mut [u8], marks: &mut [u8]) -> Answer {
     let Some((new_table, new_marks)) = rebuild(archive) else {
         return Answer::refused(13, 0);
@@ -85,6 +93,9 @@ fn rebuild(archive: &[u8]) -> Option<(Vec<u8>, Vec<u8>)> {
         return None;
     }
     let (count, limit, page_count) = (word(archive, 0), word(archive, 1), word(archive, 2));
+    if count > ARCHIVE_NODES {
+        return None;
+    }
     if archive.len() != archive_length(page_count, count) {
         return None;
     }

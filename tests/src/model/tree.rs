@@ -2,7 +2,8 @@
 
 use super::Answer;
 
-pub const MAX_NODES: usize = 1024;
+/// The most nodes of a table (request Five; document 01 had 1,024, which the archive keeps).
+pub const MAX_NODES: usize = 2048;
 pub const MAX_LIMIT: usize = 1024;
 
 /// A tree of sound form, or one that would be if labels could be 0. The lists are indexed by node

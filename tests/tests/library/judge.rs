@@ -44,11 +44,13 @@ fn cases() {
     }
 }
 
-/// Case E with a fault for any selection of the numbers 1 to 4, 6 to 8, 10, 11 and 14.
+/// Case E, and with as many nodes as there may be, with a fault for any selection of the numbers 1
+/// to 4, 6 to 8, 10, 11 and 14.
 #[test]
 fn order_of_the_checks() {
-    for (table, marks, expected) in faulty_plans() {
-        assert_eq!(judge(&table, marks), expected);
+    let faulty = faulty_plans().into_iter().chain(faulty_long_plans(2048));
+    for (table, marks, expected) in faulty {
+        assert_eq!(judge(&table, &marks), expected);
     }
 }
 
@@ -87,7 +89,7 @@ fn random_marks() {
     let random = &mut Random::new(701);
     let mut seen = Seen::default();
     for round in 0..20000 {
-        let most = if round % 40 == 0 { 1024 } else { 30 };
+        let most = if round % 40 == 0 { 2048 } else { 30 };
         let table = any_table(random, most, 60).bytes();
         let tree = read(&table).expect("an accepted table");
         let mut marks = match random.once_in(2) {
@@ -171,16 +173,48 @@ fn heavy_pages() {
 #[test]
 fn largest_trees() {
     let random = &mut Random::new(705);
-    for form in FORMS {
-        let table = random_table(random, form, 1024, 1024).bytes();
+    for (form, count) in FORMS
+        .into_iter()
+        .flat_map(|form| [1024, 1025, 2048].map(|count| (form, count)))
+    {
+        let table = random_table(random, form, count, 1024).bytes();
         let tree = read(&table).expect("an accepted table");
-        assert_eq!(judge(&table, &[1; 1024]).pages, 1024);
+        assert_eq!(judge(&table, &vec![1; count]).pages as usize, count);
         judge(&table, &feasible_plan(random, &tree));
-        let mut stays = [0; 1024];
+        let mut stays = vec![0; count];
         stays[0] = 1;
         judge(&table, &stays);
-        let mut late = [1; 1024];
-        late[1023] = 3;
-        assert_eq!(judge(&table, &late), Answer::refused(10, 1024));
+        let mut late = vec![1; count];
+        late[count - 1] = 3;
+        assert_eq!(judge(&table, &late), Answer::refused(10, count));
+    }
+}
+
+/// Each page of the longest tree in turn is the first heavy one.
+#[test]
+fn every_heavy_page_of_the_largest_tree() {
+    let parents = [&[0][..], &[1; 2047]].concat();
+    let mut weights = vec![1024; 2048];
+    weights[2047] = 1;
+    let table = Table::new(1024, &parents, &weights).bytes();
+    for page in 1..=2047 {
+        // The sibling after the page's only node continues its run, or the child of node 1 stays.
+        let mut marks = vec![1; 2048];
+        marks[page] = if page == 1 { 0 } else { 2 };
+        assert_eq!(judge(&table, &marks), Answer::refused(11, page));
+    }
+    assert_eq!(judge(&table, &[1; 2048]), Answer::accepted(2048, 1024));
+}
+
+/// The most that a page can weigh, 2,097,152, is more than 16 bits hold, and 0 in these.
+#[test]
+fn heaviest_page() {
+    let random = &mut Random::new(706);
+    for form in FORMS {
+        let parents = random_parents(random, form, 2048);
+        let table = Table::new(1024, &parents, &[1024; 2048]).bytes();
+        let mut marks = [0; 2048];
+        marks[0] = 1;
+        assert_eq!(judge(&table, &marks), Answer::refused(11, 1));
     }
 }

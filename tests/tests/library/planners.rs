@@ -131,8 +131,17 @@ fn comb_trees(kind: Kind) {
 fn largest_trees(kind: Kind) {
     let random = &mut Random::new(805);
     for form in FORMS {
-        for limit in [1, 9, 150, 1024] {
-            let table = random_table(random, form, 1024, limit).bytes();
+        for (count, limit) in [
+            (1024, 9),
+            (1024, 1024),
+            (1025, 9),
+            (1025, 1024),
+            (2048, 1),
+            (2048, 9),
+            (2048, 150),
+            (2048, 1024),
+        ] {
+            let table = random_table(random, form, count, limit).bytes();
             assert!(plan_with_good_buffers(kind, random, &table).0.is_accepted());
         }
     }
@@ -153,18 +162,54 @@ fn notes(kind: Kind) {
     let random = &mut Random::new(815);
     for form in FORMS {
         for limit in [1, 5, 60] {
-            let parents = random_parents(random, form, 1024);
-            let mut weights = [0; 1024];
+            let parents = random_parents(random, form, 2048);
+            let mut weights = [0; 2048];
             let table = Table::new(limit, &parents, &weights).bytes();
             let answer = plan_with_good_buffers(kind, random, &table).0;
             assert_eq!(answer, Answer::accepted(1, 0), "{form:?} {limit}");
             for _ in 0..10 {
-                weights[random.between(0, 1023)] = random.between(1, limit.into()) as u16;
+                weights[random.between(0, 2047)] = random.between(1, limit.into()) as u16;
             }
             let table = Table::new(limit, &parents, &weights).bytes();
             assert!(plan_with_good_buffers(kind, random, &table).0.is_accepted());
         }
     }
+}
+
+/// Trees of 1,024, 1,025 and 2,048 nodes with buffers that are one or two off, empty, or far too long,
+/// and one of 2,049 nodes, which is refused with whatever buffers.
+fn lengths_of_long_buffers(kind: Kind) {
+    let random = &mut Random::new(819);
+    let others = |asked: usize| [0, asked - 2, asked - 1, asked, asked + 1, asked + 2, 3 * asked];
+    for count in [1024, 1025, 2048, 2049] {
+        let form = random.pick(&FORMS);
+        let table = random_table(random, form, count, 3).bytes();
+        let asked = scratch_length(count, 3);
+        for marks in others(count) {
+            for scratch in others(asked) {
+                let answer = plan(kind, &table, &vec![7; marks], &vec![7; scratch]).0;
+                let expected = match count {
+                    2049 => Answer::refused(2, 2049),
+                    _ if marks != count => Answer::refused(8, count),
+                    _ if scratch < asked => Answer::refused(9, asked),
+                    _ => Answer::accepted(answer.pages as usize, answer.root),
+                };
+                assert_eq!(answer, expected, "{count}: {marks}, {scratch}");
+            }
+        }
+    }
+}
+
+/// The longest scratch, of 8,413,184 words, and one word less.
+fn longest_scratch(kind: Kind) {
+    let random = &mut Random::new(820);
+    let parents = random_parents(random, Form::Mixed, 2048);
+    let weights: Vec<u16> = (0..2048).map(|_| random.between(100, 1024) as u16).collect();
+    let table = Table::new(1024, &parents, &weights).bytes();
+    let (marks, scratch) = (random.bytes(2048), vec![7; 8_413_184]);
+    assert!(plan(kind, &table, &marks, &scratch).0.is_accepted());
+    let refusal = plan(kind, &table, &marks, &scratch[1..]).0;
+    assert_eq!(refusal, Answer::refused(9, 8_413_184));
 }
 
 /// Good trees with buffers that are too short, too long or just right.
@@ -215,7 +260,8 @@ macro_rules! planner_tests {
         planner_tests!(
             $name, $kind,
             cases order_of_the_checks all_small_trees all_labels_of_small_trees random_trees
-            comb_trees largest_trees notes lengths_of_buffers damaged_tables
+            comb_trees largest_trees notes lengths_of_buffers lengths_of_long_buffers
+            longest_scratch damaged_tables
         );
     };
 }
@@ -364,6 +410,41 @@ mod search {
         }
     }
 
+    /// Small trees, whose best score a search tells, with notes up to the most nodes there may be.
+    #[test]
+    fn notes_up_to_the_most_nodes() {
+        let random = &mut Random::new(821);
+        for round in 0..200 {
+            let limit = random.pick(&[3, 8, 20]);
+            let tree = read(&any_table(random, 8, limit).bytes()).expect("an accepted table");
+            let count = [1024, 1025, 2047, 2048][round % 4];
+            let noted = noted_up_to(random, &tree, count).bytes();
+            let noted_tree = read(&noted).expect("an accepted table");
+            let made = score(Kind::Best, random, &noted, &noted_tree);
+            assert_eq!(Some(made), best_of_plans(&tree), "{tree:?}");
+        }
+    }
+
+    /// Nodes of weight 1, all in one chain or all below node 1: pages are as few as the weight asks
+    /// for, and node 1's has what the others, all of them full, leave.
+    #[test]
+    fn best_of_chains_and_flat_trees() {
+        let random = &mut Random::new(822);
+        for count in [1023, 1024, 1025, 2047, 2048] {
+            let chain: Parents = (0..count).collect();
+            let flat: Parents = (0..count).map(|node| node.min(1)).collect();
+            for limit in [1, 2, 3, 16, 100, 1023, 1024] {
+                for parents in [&chain, &flat] {
+                    let table = Table::new(limit as u16, parents, &vec![1; count]).bytes();
+                    let tree = read(&table).expect("an accepted table");
+                    let made = score(Kind::Best, random, &table, &tree);
+                    let root = (count - 1) % limit + 1;
+                    assert_eq!(made, (count.div_ceil(limit), root as u32), "{count} {limit}");
+                }
+            }
+        }
+    }
+
     /// Each planner meets the fewest pages somewhere, and misses them somewhere.
     fn expect_both(seen: [[usize; 2]; 2]) {
         let mut counts = seen.iter().flatten();
@@ -398,7 +479,7 @@ mod search {
         let random = &mut Random::new(814);
         for round in 0..60 {
             let limit = random.pick(&[1, 5, 30, 200]);
-            let count = random.pick(&[50, 200, 1024]);
+            let count = random.pick(&[50, 200, 1024, 2048]);
             let table = random_table(random, FORMS[round % 5], count, limit).bytes();
             let tree = read(&table).expect("an accepted table");
             let best = score(Kind::Best, random, &table, &tree);

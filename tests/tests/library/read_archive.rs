@@ -6,7 +6,9 @@ use balduqen_tests::exhaustive::for_each_plan;
 use balduqen_tests::ffi;
 use balduqen_tests::gen::*;
 use balduqen_tests::kept::{kept, kept_filed};
-use balduqen_tests::model::{self, archive_bytes, read, read_as_before, verdict, word, Answer};
+use balduqen_tests::model::{
+    self, archive_bytes, archive_length, read, read_as_before, verdict, word, Answer, ARCHIVE_NODES,
+};
 
 /// The library's answer, table and marks, checked against the model's. The buffers hold these bytes
 /// on entry.
@@ -180,7 +182,7 @@ fn changed_words_of_kept_film() {
         for place in 0..film.archive.len() / 2 {
             let is_label = place > node_records && (place - node_records) % 4 == 1;
             let is_parent = place > node_records && (place - node_records) % 4 == 2;
-            for value in [0, 1, 2, 3, 5, 20, 40, 41, 1024, 1025, 65535] {
+            for value in [0, 1, 2, 3, 5, 20, 40, 41, 1024, 1025, 2048, 2049, 65535] {
                 let mut changed = film.archive.clone();
                 changed[2 * place..2 * place + 2].copy_from_slice(&u16::to_be_bytes(value));
                 let answer = read_archive(&changed);
@@ -201,7 +203,7 @@ fn random_archives() {
     let random = &mut Random::new(1002);
     let mut seen = Seen::default();
     for round in 0..10000 {
-        let most = if round % 50 == 0 { 1024 } else { 30 };
+        let most = if round % 50 == 0 { ARCHIVE_NODES } else { 30 };
         let (table, archive) = random_archive(random, most, 60);
         let count = word(&archive, 0);
         let table_length = table.len() - 2 + random.pick(&[0, 1, 2, 2, 2, 2, 2, 2, 3, 4]);
@@ -216,14 +218,69 @@ fn random_archives() {
 fn largest_archives() {
     let random = &mut Random::new(1003);
     for form in FORMS {
-        let table = random_table(random, form, 1024, 1024).bytes();
+        let table = random_table(random, form, ARCHIVE_NODES, 1024).bytes();
         let tree = read(&table).expect("an accepted table");
-        for marks in [vec![1; 1024], feasible_plan(random, &tree)] {
+        for marks in [vec![1; ARCHIVE_NODES], feasible_plan(random, &tree)] {
             let archive = archive_bytes(&tree, &marks);
             assert!(read_archive(&archive).is_accepted());
             for _ in 0..20 {
                 read_archive(&changed_words(random, &archive));
             }
+        }
+    }
+}
+
+/// Film that would be sound but for its more than 1,024 nodes: 13, into buffers of any length.
+#[test]
+fn longer_archives() {
+    let random = &mut Random::new(1006);
+    let refusal = Answer::refused(13, 0);
+    for (form, count) in FORMS
+        .into_iter()
+        .flat_map(|form| [1025, 1026, 2047, 2048, 2049].map(|count| (form, count)))
+    {
+        let table = random_table(random, form, count.min(2048), 1024).bytes();
+        let tree = read(&table).expect("an accepted table");
+        let ones = vec![1; tree.node_count()];
+        for marks in [ones, feasible_plan(random, &tree)] {
+            let mut archive = archive_bytes(&tree, &marks);
+            if count == 2049 {
+                // Another leaf, on the page of node 1 or not.
+                archive[..2].copy_from_slice(&2049u16.to_be_bytes());
+                archive.extend([0, 0, 0, 1, 0, 1, 0, 0]);
+            }
+            assert_eq!(read_archive(&archive), refusal);
+            for table in [0, 4, 8196, 8204, table.len() - 1, table.len(), table.len() + 1] {
+                for marks in [0, 1024, 1025, count - 1, count, count + 1] {
+                    let answer = read_into(&archive, &vec![7; table], &vec![7; marks]).0;
+                    assert_eq!(answer, refusal);
+                }
+            }
+            // The head of a shorter one, and one that is shorter.
+            let mut shorter = archive.clone();
+            shorter[..2].copy_from_slice(&1024u16.to_be_bytes());
+            assert_eq!(read_archive(&shorter), refusal);
+            shorter.truncate(archive_length(word(&archive, 2), 1024));
+            read_archive(&shorter);
+            archive.truncate(archive_length(word(&archive, 2), 1024));
+            assert_eq!(read_archive(&archive), refusal);
+        }
+    }
+}
+
+/// Every number of nodes around the archive's most, on one page and with a page each.
+#[test]
+fn every_number_of_nodes() {
+    for count in (1000..=1050).chain(2040..=2048) {
+        let table = long_case_e(count).bytes();
+        let tree = read(&table).expect("an accepted table");
+        let marks = [&MARKS_OF_E[..], &vec![0; count - 6]].concat();
+        for marks in [marks, vec![1; count]] {
+            let expected = match count {
+                ..=1024 => verdict(&tree, &marks),
+                _ => Answer::refused(13, 0),
+            };
+            assert_eq!(read_archive(&archive_bytes(&tree, &marks)), expected);
         }
     }
 }
@@ -274,7 +331,7 @@ fn changed_archives() {
     let random = &mut Random::new(1004);
     let mut seen = Seen::default();
     for round in 0..40000 {
-        let most = if round % 200 == 0 { 1024 } else { 6 };
+        let most = if round % 200 == 0 { ARCHIVE_NODES } else { 6 };
         let limit = random.pick(&[12, 100]);
         let (_, archive) = random_archive(random, most, limit);
         seen.add(read_archive(&changed_words(random, &archive)));
@@ -317,9 +374,9 @@ fn exchanged_records() {
 /// Heads with counts at or near the ends, and the lengths that they ask for.
 #[test]
 fn heads() {
-    let values = [0, 1, 2, 3, 1023, 1024, 1025, 65535];
+    let values = [0, 1, 2, 3, 1023, 1024, 1025, 2048, 2049, 65535];
     for nodes in values {
-        for limit in values {
+        for limit in [0, 1, 2, 3, 1023, 1024, 1025, 65535] {
             for pages in values {
                 let words: [u16; 3] = [nodes, limit, pages];
                 let head: Vec<u8> = words.iter().flat_map(|word| word.to_be_bytes()).collect();

@@ -180,7 +180,7 @@ fn valid_tables() {
     }
     for _ in 0..200 {
         assert_eq!(
-            read_tree(&any_table(random, 1024, 1024).bytes()),
+            read_tree(&any_table(random, 2048, 1024).bytes()),
             Answer::ACCEPTED
         );
     }
@@ -191,7 +191,7 @@ fn damaged_tables() {
     let random = &mut Random::new(603);
     let mut seen = Seen::default();
     for round in 0..40000 {
-        let most = if round % 100 == 0 { 1024 } else { 20 };
+        let most = if round % 100 == 0 { 2048 } else { 20 };
         let table = any_table(random, most, 20);
         seen.add(read_tree(&damaged(random, &table)));
     }
@@ -205,7 +205,7 @@ fn random_links() {
     let random = &mut Random::new(604);
     let mut seen = Seen::default();
     for round in 0..40000 {
-        let most = if round % 50 == 0 { 1024 } else { 12 };
+        let most = if round % 50 == 0 { 2048 } else { 12 };
         let mut table = any_table(random, most, 20);
         if random.once_in(4) {
             table = table.unfiled(random);
@@ -239,7 +239,7 @@ fn many_faults() {
             let place = random.between(0, count - 1);
             let record = &mut table.records[place];
             match random.between(1, 9) {
-                1 => table.count = random.pick(&[0, 1025]),
+                1 => table.count = random.pick(&[0, 2049]),
                 2 => table.limit = random.pick(&[0, 1025]),
                 3 => record.weight = 0,
                 4 | 5 => record.weight = random.pick(&[21, 1024, 65535]),
@@ -258,35 +258,65 @@ fn many_faults() {
     seen.expect(&[0, 2, 3, 4, 6, 7, 14], 50);
 }
 
-/// The longest tables of each form, whole and with one fault.
+/// Long tables of each form, up to the longest, whole and with one fault.
 #[test]
 fn longest_tables() {
     let random = &mut Random::new(606);
-    for form in FORMS {
-        let table = random_table(random, form, 1024, 1024);
+    for (form, count) in FORMS
+        .into_iter()
+        .flat_map(|form| [1024, 1025, 2047, 2048].map(|count| (form, count)))
+    {
+        let table = random_table(random, form, count, 1024);
         assert_eq!(read_tree(&table.bytes()), Answer::ACCEPTED);
-        for _ in 0..300 {
+        for _ in 0..100 {
             read_tree(&damaged(random, &table));
         }
+        let last = count - 1;
         let mut heavy = table.clone();
-        heavy.records[1023].weight = 1025;
-        assert_eq!(read_tree(&heavy.bytes()), Answer::refused(7, 1024));
+        heavy.records[last].weight = 1025;
+        assert_eq!(read_tree(&heavy.bytes()), Answer::refused(7, count));
         let mut light = heavy.clone();
-        light.records[1023].weight = 0;
+        light.records[last].weight = 0;
         assert_eq!(read_tree(&light.bytes()), Answer::ACCEPTED);
         let mut longer = heavy.clone();
-        longer.records[1023].next_sibling = 1025;
-        assert_eq!(read_tree(&longer.bytes()), Answer::refused(6, 1024));
+        longer.records[last].next_sibling = count as u16 + 1;
+        assert_eq!(read_tree(&longer.bytes()), Answer::refused(6, count));
         let mut unfiled = longer.clone();
-        unfiled.records[1023].label = 0;
-        assert_eq!(read_tree(&unfiled.bytes()), Answer::refused(14, 1024));
-        longer.count = 1025;
-        longer.records.push(table.records[1023]);
-        assert_eq!(read_tree(&longer.bytes()), Answer::refused(2, 1025));
+        unfiled.records[last].label = 0;
+        assert_eq!(read_tree(&unfiled.bytes()), Answer::refused(14, count));
+        // One node more, which is a leaf: too many only after 2,048.
+        let mut more = light.clone();
+        more.records[last].next_sibling = count as u16 + 1;
+        more.count += 1;
+        more.records.push(light.records[last]);
+        let expected = match count {
+            2048 => Answer::refused(2, 2049),
+            _ => Answer::ACCEPTED,
+        };
+        assert_eq!(read_tree(&more.bytes()), expected);
         let over = Table {
             limit: 1025,
             ..table
         };
         assert_eq!(read_tree(&over.bytes()), Answer::refused(3, 1025));
+    }
+}
+
+/// Every number of nodes with as many records: a tree up to 2,048.
+#[test]
+fn every_number_of_nodes() {
+    let table = random_table(&mut Random::new(607), Form::Flat, 2050, 9);
+    for count in 2..=2050 {
+        let mut shorter = Table {
+            count: count as u16,
+            limit: 9,
+            records: table.records[..count].to_vec(),
+        };
+        shorter.records[count - 1].next_sibling = 0;
+        let expected = match count {
+            ..=2048 => Answer::ACCEPTED,
+            _ => Answer::refused(2, count),
+        };
+        assert_eq!(read_tree(&shorter.bytes()), expected);
     }
 }

@@ -39,13 +39,15 @@ fn right_length(table: &[u8], marks: &[u8]) -> usize {
     sheets_length(judge(table, marks).pages.max(1) as usize)
 }
 
-/// None, and a byte, a line and a sheet less and more.
-fn other_lengths(length: usize) -> [usize; 7] {
+/// None, and a byte, two, a line and a sheet less and more.
+fn other_lengths(length: usize) -> [usize; 9] {
     let (line, sheet) = (81, 4860);
     [
         0,
+        length - 2,
         length - 1,
         length + 1,
+        length + 2,
         length - line,
         length + line,
         length - sheet,
@@ -98,9 +100,18 @@ fn order_of_the_checks() {
             _ => judged,
         };
         for length in other_lengths(4860) {
-            assert_eq!(print_sheets(&table, marks, &pattern(length)).0, refusal);
+            assert_eq!(print_sheets(&table, &marks, &pattern(length)).0, refusal);
         }
-        assert_eq!(print_sheets(&table, marks, &pattern(4860)).0, judged);
+        assert_eq!(print_sheets(&table, &marks, &pattern(4860)).0, judged);
+    }
+    // The archive's most nodes are none to the sheets.
+    for (table, marks, judged) in faulty_long_plans(2048) {
+        let refusal = match judged.number {
+            0 => Answer::refused(12, 4860),
+            _ => judged,
+        };
+        assert_eq!(print_sheets(&table, &marks, &pattern(4859)).0, refusal);
+        assert_eq!(print_sheets(&table, &marks, &pattern(4860)).0, judged);
     }
     for (table, number, place) in refused_tables() {
         for length in [0, 4860] {
@@ -182,10 +193,16 @@ fn all_labels_of_small_trees() {
 #[test]
 fn plans_of_so_many_pages() {
     let random = &mut Random::new(1001);
+    let short = [1, 57, 58, 59, 115, 116, 117, 174, 175, 986, 987, 1023, 1024];
+    let long = [1, 58, 59, 1024, 1025, 1972, 1973, 2030, 2031, 2047, 2048];
+    let sizes = short.map(|pages| (pages, 1024)).into_iter();
+    let sizes: Vec<_> = sizes.chain(long.map(|pages| (pages, 2048))).collect();
     for form in FORMS {
-        for pages in [1, 57, 58, 59, 115, 116, 117, 174, 175, 986, 987, 1023, 1024] {
-            let parents = random_parents(random, form, 1024);
-            let weights: Vec<u16> = (0..1024).map(|_| random.pick(&[0, 1, 1, 1])).collect();
+        for &(pages, nodes) in &sizes {
+            let parents = random_parents(random, form, nodes);
+            // At most 1,024 in all.
+            let choices = if nodes <= 1024 { [0, 1, 1, 1] } else { [0, 0, 0, 1] };
+            let weights: Vec<u16> = (0..nodes).map(|_| random.pick(&choices)).collect();
             let table = Table::new(1024, &parents, &weights).with_random_labels(random);
             let tree = read(&table.bytes()).expect("an accepted table");
             let marks = plan_of_pages(random, &tree, pages);
@@ -199,9 +216,12 @@ fn plans_of_so_many_pages() {
 #[test]
 fn every_number_of_pages() {
     let random = &mut Random::new(1002);
-    let table = Table::new(1024, &random_parents(random, Form::Mixed, 1024), &[1; 1024]).bytes();
+    let parents = random_parents(random, Form::Mixed, 2048);
+    // 1,024 in all.
+    let weights: Vec<u16> = (0..2048).map(|node| node % 2).collect();
+    let table = Table::new(1024, &parents, &weights).bytes();
     let tree = read(&table).expect("an accepted table");
-    for pages in 1..=1024 {
+    for pages in 1..=2048 {
         let marks = plan_of_pages(random, &tree, pages);
         let answer = print_sheets(&table, &marks, &pattern(sheets_length(pages))).0;
         assert_eq!(answer.pages as usize, pages);
@@ -233,16 +253,21 @@ fn every_weight_of_every_limit() {
 /// The highest page, node and weight on one line, and runs up to the last node.
 #[test]
 fn widest_numbers() {
-    let parents = [&[0][..], &[1; 1023]].concat();
-    let table = Table::new(1024, &parents, &[1024; 1024]).bytes();
-    let (_, sheets) = print_in_all_lengths(&table, &[1; 1024]);
-    // 17 sheets have 986 pages, so this is page 38 of the last.
-    let last = &sheets[81 * (17 * 60 + 38)..][..28];
-    assert_eq!(last, b"  1024  1024  1024  1024 100");
-    let table = Table::new(1024, &parents, &[1; 1024]).bytes();
-    let marks = [&[1, 1][..], &[2; 1022]].concat();
+    let parents = [&[0][..], &[1; 2047]].concat();
+    let table = Table::new(1024, &parents, &[1024; 2048]).bytes();
+    let (_, sheets) = print_in_all_lengths(&table, &[1; 2048]);
+    assert_eq!(sheets.len(), 36 * 4860);
+    assert_eq!(&sheets[35 * 4860..][..12], b"PAGES   2048");
+    // 35 sheets have 2,030 pages, so this is page 18 of the last.
+    let last = &sheets[81 * (35 * 60 + 18)..][..28];
+    assert_eq!(last, b"  2048  2048  2048  1024 100");
+    assert_eq!(&sheets[81 * (36 * 60 - 1)..][..6], b"    36");
+    // Every second child weighs 1, from the third on.
+    let weights: Vec<u16> = (0..2048).map(|node| u16::from(node % 2 == 1 && node > 1)).collect();
+    let table = Table::new(1024, &parents, &weights).bytes();
+    let marks = [&[1, 1][..], &[2; 2046]].concat();
     let (_, sheets) = print_in_all_lengths(&table, &marks);
-    assert_eq!(&sheets[2 * 81..][..28], b"     2     2  1024  1023  99");
+    assert_eq!(&sheets[2 * 81..][..28], b"     2     2  2048  1023  99");
 }
 
 /// Notes alone, and notes beside others: pages that weigh nothing are 0 per cent.
@@ -273,7 +298,7 @@ fn plans_of_all_planners() {
     let random = &mut Random::new(1004);
     for kind in KINDS {
         for form in FORMS {
-            for (count, limit) in [(1, 1), (60, 9), (300, 5), (1024, 2), (1024, 100)] {
+            for (count, limit) in [(1, 1), (60, 9), (300, 5), (1024, 2), (1025, 9), (2048, 100)] {
                 let table = random_table(random, form, count, limit).bytes();
                 let mut marks = vec![7; count];
                 let mut scratch = vec![7; scratch_length(count, limit)];
@@ -290,7 +315,7 @@ fn random_plans() {
     let random = &mut Random::new(1005);
     let mut seen = Seen::default();
     for round in 0..5000 {
-        let most = if round % 50 == 0 { 1024 } else { 150 };
+        let most = if round % 50 == 0 { 2048 } else { 150 };
         let limit = random.pick(&[3, 60, 1024]);
         let table = any_table(random, most, limit).bytes();
         let tree = read(&table).expect("an accepted table");

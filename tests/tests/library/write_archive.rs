@@ -4,7 +4,9 @@ use balduqen_tests::cases::*;
 use balduqen_tests::check::{show, with_copy, Lent, Seen};
 use balduqen_tests::ffi;
 use balduqen_tests::gen::*;
-use balduqen_tests::model::{self, archive_length, judge, read, word, Answer};
+use balduqen_tests::model::{
+    self, archive_length, judge, read, scratch_length, word, Answer, ARCHIVE_NODES,
+};
 
 /// The library's answer and archive, checked against the model's. The buffer holds these bytes on
 /// entry.
@@ -60,7 +62,7 @@ fn order_of_the_checks() {
             _ => judged,
         };
         for (length, expected) in [(0, refusal), (77, refusal), (78, judged)] {
-            assert_eq!(write_archive(&table, marks, &vec![7; length]).0, expected);
+            assert_eq!(write_archive(&table, &marks, &vec![7; length]).0, expected);
         }
     }
     for (table, number, place) in refused_tables() {
@@ -74,6 +76,103 @@ fn order_of_the_checks() {
         let length = archive_length(marks.len(), marks.len());
         assert_eq!(write_archive(&table, &marks, &vec![7; length]).0, expected);
     }
+}
+
+/// The same with as many nodes as the archive takes, and with more: 15 comes after all that the judge
+/// refuses and before 12, whether the output is as long as it would have to be or not.
+#[test]
+fn order_of_the_checks_of_long_trees() {
+    for count in [1024, 1025, 2048] {
+        let right = archive_length(3, count);
+        for (table, marks, judged) in faulty_long_plans(count) {
+            for length in [0, right - 1, right, right + 1] {
+                let expected = match judged.number {
+                    0 if count > 1024 => Answer::refused(15, count),
+                    0 if length != right => Answer::refused(12, right),
+                    _ => judged,
+                };
+                let answer = write_archive(&table, &marks, &vec![7; length]).0;
+                assert_eq!(answer, expected, "{count} nodes, {length} bytes");
+            }
+        }
+    }
+}
+
+/// Outputs that are short, just right and long for the pages and nodes, and for 1,024 nodes.
+fn some_lengths(pages: usize, nodes: usize) -> Vec<usize> {
+    let mut lengths = vec![0, 1, 40_000];
+    for nodes in [nodes, 1024] {
+        let right = archive_length(pages, nodes);
+        lengths.extend(right - 2..=right + 2);
+        lengths.extend([right - 8, right + 8, 2 * right]);
+    }
+    lengths
+}
+
+/// From 1,025 nodes on no plan is written, whichever planner made it.
+#[test]
+fn fifteen() {
+    let random = &mut Random::new(906);
+    for kind in KINDS {
+        for form in FORMS {
+            for count in [1024, 1025, 1026, 2047, 2048] {
+                let table = random_table(random, form, count, 7).bytes();
+                let mut marks = vec![7; count];
+                let mut scratch = vec![7; scratch_length(count, 7)];
+                let planned = kind.library()(&table, &mut marks, &mut scratch);
+                let pages = planned.pages as usize;
+                for length in some_lengths(pages, count) {
+                    let right = archive_length(pages, count);
+                    let expected = match length == right {
+                        _ if count > 1024 => Answer::refused(15, count),
+                        true => planned,
+                        false => Answer::refused(12, right),
+                    };
+                    let answer = write_archive(&table, &marks, &random.bytes(length)).0;
+                    assert_eq!(answer, expected, "{kind:?} {form:?} {count}");
+                }
+            }
+        }
+    }
+}
+
+/// Every number of nodes from just below the archive's most to the table's.
+#[test]
+fn every_number_of_nodes() {
+    for count in 1000..=2048 {
+        let table = long_case_e(count).bytes();
+        let mut marks = MARKS_OF_E.to_vec();
+        marks.resize(count, 0);
+        let expected = match count {
+            ..=1024 => Answer::accepted(3, 5),
+            _ => Answer::refused(15, count),
+        };
+        let length = archive_length(3, count);
+        assert_eq!(write_archive(&table, &marks, &vec![7; length]).0, expected);
+    }
+}
+
+/// 10 and 11 come before 15, at any node and page of a tree that is too long.
+#[test]
+fn faulty_plans_of_long_trees() {
+    let random = &mut Random::new(907);
+    let mut seen = Seen::default();
+    for round in 0..400 {
+        let count = random.pick(&[1024, 1025, 1500, 2048]);
+        let table = random_table(random, FORMS[round % 5], count, 60).bytes();
+        let tree = read(&table).expect("an accepted table");
+        let mut marks = feasible_plan(random, &tree);
+        let place = random.between(1, count - 1);
+        match random.between(1, 3) {
+            1 => marks[place] = 3,
+            2 => marks[place] = 0,
+            _ => {}
+        }
+        let length = right_length(&table, &marks);
+        let length = random.pick(&[length, length, length - 1, 0]);
+        seen.add(write_archive(&table, &marks, &vec![7; length]).0);
+    }
+    seen.expect(&[0, 10, 11, 12, 15], 10);
 }
 
 #[test]
@@ -112,7 +211,7 @@ fn random_plans() {
     let random = &mut Random::new(901);
     let mut seen = Seen::default();
     for round in 0..10000 {
-        let most = if round % 50 == 0 { 1024 } else { 30 };
+        let most = if round % 50 == 0 { ARCHIVE_NODES } else { 30 };
         let table = any_table(random, most, 60).bytes();
         let tree = read(&table).expect("an accepted table");
         let marks = any_plan(random, &tree);
@@ -128,9 +227,9 @@ fn random_plans() {
 fn largest_archives() {
     let random = &mut Random::new(902);
     for form in FORMS {
-        let table = random_table(random, form, 1024, 1024).bytes();
+        let table = random_table(random, form, ARCHIVE_NODES, 1024).bytes();
         let tree = read(&table).expect("an accepted table");
-        for marks in [vec![1; 1024], feasible_plan(random, &tree)] {
+        for marks in [vec![1; ARCHIVE_NODES], feasible_plan(random, &tree)] {
             let length = right_length(&table, &marks);
             assert!(write_archive(&table, &marks, &vec![7; length])
                 .0
@@ -183,7 +282,7 @@ mod round_trips {
     fn of_random_trees() {
         let random = &mut Random::new(904);
         for round in 0..5000 {
-            let most = if round % 50 == 0 { 1024 } else { 30 };
+            let most = if round % 50 == 0 { ARCHIVE_NODES } else { 30 };
             let limit = random.pick(&[10, 100, 1024]);
             let table = any_table(random, most, limit).bytes();
             let tree = read(&table).expect("an accepted table");
@@ -197,9 +296,9 @@ mod round_trips {
         let random = &mut Random::new(905);
         for form in FORMS {
             for limit in [1, 30, 1024] {
-                let table = random_table(random, form, 1024, limit).bytes();
+                let table = random_table(random, form, ARCHIVE_NODES, limit).bytes();
                 let tree = read(&table).expect("an accepted table");
-                round_trip(&table, &tree, &[1; 1024]);
+                round_trip(&table, &tree, &[1; ARCHIVE_NODES]);
                 for _ in 0..5 {
                     let marks = feasible_plan(random, &tree);
                     round_trip(&table, &tree, &marks);

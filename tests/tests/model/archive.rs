@@ -1,6 +1,6 @@
 //! The archive writer and reader.
 
-use balduqen_tests::cases::{archive_of_e, case_e, MARKS_OF_E};
+use balduqen_tests::cases::{archive_of_e, long_case_e, MARKS_OF_E};
 use balduqen_tests::check::{file_all, first_unfiled};
 use balduqen_tests::exhaustive::{for_each_plan, score_of_plan};
 use balduqen_tests::gen::*;
@@ -66,7 +66,7 @@ fn round_trip(table: &[u8], marks: &[u8]) {
 fn round_trips() {
     let random = &mut Random::new(501);
     for round in 0..2000 {
-        let most = if round % 20 == 0 { 1024 } else { 30 };
+        let most = if round % 20 == 0 { ARCHIVE_NODES } else { 30 };
         let table = any_table(random, most, 40).bytes();
         let tree = read(&table).expect("an accepted table");
         round_trip(&table, &feasible_plan(random, &tree));
@@ -91,10 +91,10 @@ fn film_of_unfiled_trees() {
 fn round_trips_of_the_largest() {
     let random = &mut Random::new(502);
     for form in FORMS {
-        let table = random_table(random, form, 1024, 1024).bytes();
+        let table = random_table(random, form, ARCHIVE_NODES, 1024).bytes();
         let tree = read(&table).expect("an accepted table");
         round_trip(&table, &feasible_plan(random, &tree));
-        round_trip(&table, &[1; 1024]);
+        round_trip(&table, &[1; ARCHIVE_NODES]);
     }
 }
 
@@ -236,20 +236,47 @@ fn order_of_the_reader() {
     }
 }
 
-/// The writer's own refusals come before 12.
+/// The judge's refusals come before 15, which comes from 1,025 nodes on, and that before 12.
 #[test]
 fn order_of_the_writer() {
-    let table = case_e().bytes();
-    let heavy = [1, 0, 0, 0, 0, 0];
-    let bad = [1, 2, 0, 0, 0, 3];
-    for (marks, refusal) in [
-        (&MARKS_OF_E[..5], Answer::refused(8, 6)),
-        (&bad[..], Answer::refused(10, 2)),
-        (&heavy[..], Answer::refused(11, 1)),
-        (&MARKS_OF_E[..], Answer::refused(12, 78)),
-    ] {
-        let mut archive = vec![7; 77];
-        assert_eq!(write_archive(&table, marks, &mut archive), refusal);
-        assert_eq!(archive, vec![7; 77]);
+    for count in [6, 1024, 1025, 2048] {
+        let table = long_case_e(count).bytes();
+        let all = |marks: [u8; 6]| [&marks[..], &vec![0; count - 6]].concat();
+        let right = archive_length(3, count);
+        let of_length = match count {
+            ..=1024 => Answer::refused(12, right),
+            _ => Answer::refused(15, count),
+        };
+        let of_right_length = match count {
+            ..=1024 => Answer::accepted(3, 5),
+            _ => Answer::refused(15, count),
+        };
+        for length in [0, right - 1, right, right + 1] {
+            let answered = if length == right { of_right_length } else { of_length };
+            for (marks, answer) in [
+                (all(MARKS_OF_E)[..count - 1].to_vec(), Answer::refused(8, count)),
+                (all([1, 2, 0, 0, 0, 3]), Answer::refused(10, 2)),
+                (all([1, 0, 0, 0, 0, 0]), Answer::refused(11, 1)),
+                (all(MARKS_OF_E), answered),
+            ] {
+                let mut archive = vec![7; length];
+                assert_eq!(write_archive(&table, &marks, &mut archive), answer);
+                assert!(answer.is_accepted() || archive.iter().all(|&byte| byte == 7));
+            }
+        }
+    }
+}
+
+/// The bytes of a longer tree are told, but they are no archive.
+#[test]
+fn archives_of_too_many_nodes() {
+    for count in [1024, 1025, 2048] {
+        let tree = read(&long_case_e(count).bytes()).expect("an accepted table");
+        let mut marks = MARKS_OF_E.to_vec();
+        marks.resize(count, 0);
+        for marks in [marks, vec![1; count]] {
+            let back = read_back(&archive_bytes(&tree, &marks));
+            assert_eq!(back.is_some(), count <= 1024);
+        }
     }
 }

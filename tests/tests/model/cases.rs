@@ -113,16 +113,16 @@ fn empty_archive() {
 #[test]
 fn largest_tree_and_limit() {
     let random = &mut Random::new(101);
-    let table = random_table(random, Form::Mixed, 1024, 1024);
+    let table = random_table(random, Form::Mixed, 2048, 1024);
     for kind in KINDS {
         assert!(plan(kind, &table.bytes()).0.is_accepted());
     }
     let longer = Table {
-        count: 1025,
-        records: table.records.repeat(2)[..1025].to_vec(),
+        count: 2049,
+        records: table.records.repeat(2)[..2049].to_vec(),
         limit: 9,
     };
-    assert_eq!(read_tree(&longer.bytes()), Answer::refused(2, 1025));
+    assert_eq!(read_tree(&longer.bytes()), Answer::refused(2, 2049));
     let over = Table {
         limit: 1025,
         ..table

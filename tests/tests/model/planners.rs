@@ -120,6 +120,18 @@ fn notes_cost_nothing() {
     assert!(beyond > 500, "{beyond}");
 }
 
+/// Small trees, whose best score a search tells, with notes up to the most nodes there may be.
+#[test]
+fn notes_up_to_the_most_nodes() {
+    let random = &mut Random::new(409);
+    for _ in 0..20 {
+        let table = any_table(random, 8, 8).bytes();
+        let tree = read(&table).expect("an accepted table");
+        let noted = noted_up_to(random, &tree, 2048).bytes();
+        assert_eq!(Some(score(Kind::Best, &noted)), best_of_plans(&tree));
+    }
+}
+
 #[test]
 fn best_of_random_small_trees() {
     let random = &mut Random::new(401);
@@ -213,7 +225,7 @@ fn plans_of_large_trees() {
     let random = &mut Random::new(406);
     for round in 0..30 {
         let limit = random.pick(&[1, 5, 30, 200, 1024]);
-        let count = random.pick(&[50, 200, 1024]);
+        let count = random.pick(&[50, 200, 1024, 2048]);
         let table = random_table(random, FORMS[round % 5], count, limit).bytes();
         let best = score(Kind::Best, &table);
         for kind in KINDS {

@@ -132,7 +132,7 @@ fn properties_in_large_trees() {
     let random = &mut Random::new(413);
     for round in 0..200 {
         let limit = random.pick(&[1, 5, 30, 200, 1024]);
-        let count = random.pick(&[50, 200, 1024]);
+        let count = random.pick(&[50, 200, 1024, 2048]);
         let table = random_table(random, FORMS[round % 5], count, limit).bytes();
         let tree = read(&table).expect("an accepted table");
         for kind in QUICK {
@@ -147,7 +147,7 @@ fn properties_in_large_trees() {
 /// root's page that rightmost leaves the odd nodes, and depth-first the last one.
 #[test]
 fn chains_and_flat_trees() {
-    for count in (1..40).chain([1023, 1024]) {
+    for count in (1..40).chain([1023, 1024, 1025, 2047, 2048]) {
         let chain: Parents = (0..count).collect();
         let flat: Parents = (0..count).map(|node| node.min(1)).collect();
         for limit in [1, 2, 3, 5, 16, 39, 1023, 1024] {

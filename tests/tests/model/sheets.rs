@@ -31,6 +31,9 @@ fn lengths() {
         (116, 2),
         (117, 3),
         (1024, 18),
+        (2030, 35),
+        (2031, 36),
+        (2048, 36),
     ] {
         assert_eq!(sheets_length(pages), 4860 * sheets, "{pages} pages");
     }
@@ -109,15 +112,15 @@ fn per_cents() {
 /// The last line of a page has the highest page, node and weight there can be.
 #[test]
 fn widest_numbers() {
-    let parents = [&[0][..], &[1; 1023]].concat();
-    let table = Table::new(1024, &parents, &[1024; 1024]).bytes();
-    let lines = lines(&printed(&table, &[1; 1024]));
-    assert_eq!(lines.len(), 18 * 60);
-    assert_eq!(lines[17 * 60], "PAGES   1024");
-    // 17 sheets have 986 pages, so this is page 38 of the last.
-    assert_eq!(lines[17 * 60 + 38], "  1024  1024  1024  1024 100");
-    assert_eq!(lines[17 * 60 + 39], "");
-    assert_eq!(lines[17 * 60 + 59], "    18");
+    let parents = [&[0][..], &[1; 2047]].concat();
+    let table = Table::new(1024, &parents, &[1024; 2048]).bytes();
+    let lines = lines(&printed(&table, &[1; 2048]));
+    assert_eq!(lines.len(), 36 * 60);
+    assert_eq!(lines[35 * 60], "PAGES   2048");
+    // 35 sheets have 2,030 pages, so this is page 18 of the last.
+    assert_eq!(lines[35 * 60 + 18], "  2048  2048  2048  1024 100");
+    assert_eq!(lines[35 * 60 + 19], "");
+    assert_eq!(lines[35 * 60 + 59], "    36");
 }
 
 /// With weights from 0, and pages up to full ones.
@@ -142,7 +145,7 @@ fn all_plans_of_small_trees() {
 fn random_plans() {
     let random = &mut Random::new(601);
     for round in 0..2000 {
-        let most = if round % 20 == 0 { 1024 } else { 100 };
+        let most = if round % 20 == 0 { 2048 } else { 100 };
         let table = any_table(random, most, 1024).bytes();
         let tree = read(&table).expect("an accepted table");
         let marks = feasible_plan(random, &tree);
