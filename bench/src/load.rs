@@ -1,10 +1,15 @@
 //! The trees to plan: the same ones in each run.
 
-const NODES: usize = 1024;
+/// The nodes of most trees here, and the most that a tree has.
+pub const NODES: usize = 1024;
+pub const MOST_NODES: usize = 2048;
 const LIMITS: [usize; 3] = [64, 256, 1024];
 
 /// The numbers of nodes that the quick planners are timed with.
-pub const SIZES: [usize; 3] = [256, 512, NODES];
+pub const SIZES: [usize; 4] = [256, 512, NODES, MOST_NODES];
+
+/// Those that the growth of best and level is told by, each twice the one before.
+pub const DOUBLES: [usize; 3] = [512, NODES, MOST_NODES];
 
 #[derive(Clone, Copy)]
 pub enum Shape {
@@ -70,15 +75,21 @@ impl Load {
         let (shape, weights) = (self.shape.name(), self.weights());
         format!("{shape}, weights {weights}, K {}", self.limit)
     }
+
+    /// The same form of tree, weights and limit in these sizes.
+    pub fn in_sizes<const S: usize>(&self, sizes: [usize; S]) -> [Load; S] {
+        let weights = [self.lightest, self.heaviest];
+        sizes.map(|nodes| Load::new(self.shape, nodes, self.limit, weights))
+    }
 }
 
 /// Each shape and limit, with light weights and with weights up to a quarter of the limit.
-pub fn loads() -> Vec<Load> {
+pub fn loads(nodes: usize) -> Vec<Load> {
     let mut list = vec![];
     for shape in SHAPES {
         for limit in LIMITS {
             for heaviest in [3, limit / 4] {
-                list.push(Load::new(shape, NODES, limit, [1, heaviest]));
+                list.push(Load::new(shape, nodes, limit, [1, heaviest]));
             }
         }
     }
@@ -91,7 +102,9 @@ pub fn loads_with_notes() -> Vec<Load> {
     let mut list = vec![];
     for shape in SHAPES {
         for (limit, heaviest) in [(1, 0), (4, 1), (64, 3), (64, 16), (1024, 3)] {
-            list.push(Load::new(shape, NODES, limit, [0, heaviest]));
+            for nodes in [NODES, MOST_NODES] {
+                list.push(Load::new(shape, nodes, limit, [0, heaviest]));
+            }
         }
     }
     list

@@ -17,31 +17,30 @@ mod sheets;
 mod show;
 mod tree;
 
-use planner::{KINDS, QUICK};
-use show::{Row, SheetRow};
+use load::{Load, DOUBLES, MOST_NODES, NODES};
+use planner::{COLUMNS, KINDS, QUICK};
+use show::{GrowthRow, Row, SheetRow};
 
 fn main() {
-    let loads = load::loads();
+    let [loads, long_loads] = [NODES, MOST_NODES].map(load::loads);
     let noted = load::loads_with_notes();
-    for load in loads.iter().chain(&noted) {
+    let mut all = 0;
+    for load in loads.iter().chain(&long_loads).chain(&noted) {
         for kind in KINDS {
             measure::check_agreement(load, kind);
         }
+        all += 1;
     }
-    let (all, noted) = (loads.len() + noted.len(), noted.len());
+    let noted = noted.len();
     println!("All forms agree on {all} trees, {noted} of them with weights of 0.");
 
     show::print_head();
-    let mut rows = vec![];
-    for load in &loads {
-        for kind in KINDS {
-            let times = measure::times(load, kind);
-            let row = Row { load, kind, times };
-            row.print();
-            rows.push(row);
-        }
-    }
+    let rows = rows_of(&loads);
+    rows.iter().for_each(Row::print);
     show::print_worst(&rows);
+
+    show::print_head_of_most();
+    show::print_worst(&rows_of(&long_loads));
 
     show::print_head_by_size();
     for loads in &load::loads_by_size() {
@@ -54,16 +53,47 @@ fn main() {
         }
     }
 
-    show::print_head_of_sheets();
+    show::print_head_of_growth();
     let mut rows = vec![];
     for load in &loads {
-        rows.push(measure::plans(load).map(|plan| {
+        let sizes = load.in_sizes(DOUBLES);
+        for kind in COLUMNS {
+            measure::check_agreement(&sizes[0], kind);
+            let times = measure::growth(&sizes, kind);
+            let row = GrowthRow { load, kind, times };
+            row.print();
+            rows.push(row);
+        }
+    }
+    show::print_worst_growth(&rows, COLUMNS);
+
+    show::print_head_of_sheets();
+    let rows = sheet_rows_of(&loads);
+    rows.iter().flatten().for_each(SheetRow::print);
+    show::print_worst_of_sheets(&rows);
+    show::print_head_of_most();
+    show::print_worst_of_sheets(&sheet_rows_of(&long_loads));
+}
+
+/// The times of all planners.
+fn rows_of(loads: &[Load]) -> Vec<Row<'_>> {
+    let of_load = |load| {
+        KINDS.map(|kind| {
+            let times = measure::times(load, kind);
+            Row { load, kind, times }
+        })
+    };
+    loads.iter().flat_map(of_load).collect()
+}
+
+/// The times of the sheets of two plans.
+fn sheet_rows_of(loads: &[Load]) -> Vec<[SheetRow<'_>; 2]> {
+    let of_load = |load| {
+        measure::plans(load).map(|plan| {
             measure::check_sheets(load, &plan);
             let times = measure::sheet_times(load, &plan);
-            let row = SheetRow { load, plan, times };
-            row.print();
-            row
-        }));
-    }
-    show::print_worst_of_sheets(&rows);
+            SheetRow { load, plan, times }
+        })
+    };
+    loads.iter().map(of_load).collect()
 }

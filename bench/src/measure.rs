@@ -3,7 +3,7 @@
 
 use crate::clock::time;
 use crate::dhw::{self, Entries};
-use crate::load::Load;
+use crate::load::{Load, DOUBLES, NODES};
 use crate::planner::{scratch_words, Answer, Kind, Planner};
 use crate::sheets::{self, sheets_bytes, Printer};
 use crate::{library, plain};
@@ -53,9 +53,9 @@ impl Form {
 }
 
 /// Whether the report's DHW is tried. With light weights and a high limit its intervals are long,
-/// and each is ordered anew for each start: that takes minutes.
+/// and each is ordered anew for each start: that takes minutes. Nor is it tried on longer trees.
 fn has_dhw(load: &Load, kind: Kind) -> bool {
-    kind == Kind::Best && 32 * load.heaviest > load.limit
+    kind == Kind::Best && load.nodes <= NODES && 32 * load.heaviest > load.limit
 }
 
 /// The buffers that a planner is lent.
@@ -110,6 +110,29 @@ pub fn times(load: &Load, kind: Kind) -> Times {
     buffers.scratch.fill(0);
     let is_tried = |form: Form| form.is_tried(load, kind);
     in_turns(FORMS, is_tried, |form| form.run(load, kind, &mut buffers))
+}
+
+/// The times of the library and of plain Rust in each of the sizes.
+pub type Growth = [[Option<Duration>; DOUBLES.len()]; 2];
+
+/// Who takes turns with whom, so that the ratios are of the same time: forms by size.
+const TURNS: [(usize, Form); 2 * DOUBLES.len()] = [
+    (0, Form::Library),
+    (0, Form::Plain),
+    (1, Form::Library),
+    (1, Form::Plain),
+    (2, Form::Library),
+    (2, Form::Plain),
+];
+
+pub fn growth(loads: &[Load; DOUBLES.len()], kind: Kind) -> Growth {
+    let mut buffers = loads.each_ref().map(Buffers::soiled);
+    for buffers in &mut buffers {
+        buffers.scratch.fill(0);
+    }
+    let run = |(size, form): (usize, Form)| form.run(&loads[size], kind, &mut buffers[size]);
+    let times = in_turns(TURNS, |_| true, run);
+    [0, 1].map(|form| [0, 1, 2].map(|size| times[2 * size + form]))
 }
 
 /// The time of each form; none where it is not tried. The forms take turns, so that a change in the

@@ -1,8 +1,8 @@
-//! The table of times and ratios, the worst ratios, the quick planners' times by size, and the
-//! table of the leader sheets.
+//! The table of times and ratios, the worst ratios, the quick planners' times by size, the growth of
+//! level and best, and the table of the leader sheets.
 
-use crate::load::{Load, SIZES};
-use crate::measure::{Form, Plan, Times};
+use crate::load::{Load, DOUBLES, MOST_NODES, SIZES};
+use crate::measure::{Form, Growth, Plan, Times};
 use crate::planner::{Kind, KINDS};
 use std::time::Duration;
 
@@ -109,6 +109,10 @@ fn print_figure(figure: Option<f64>, digits: usize) {
     }
 }
 
+pub fn print_head_of_most() {
+    println!("\nThe worst with {MOST_NODES} nodes, of the same forms of tree, weights and limits:");
+}
+
 /// The worst of each ratio for each planner, with its tree, and the best beside it.
 pub fn print_worst(rows: &[Row]) {
     println!();
@@ -151,7 +155,7 @@ pub fn print_head_by_size() {
     // A name stands above the last of its sizes.
     print!("{:34}", "");
     for (name, _, _) in BY_SIZE {
-        print!("{name:>30}");
+        print!("{name:>0$}", 10 * SIZES.len());
     }
     println!();
     print_names("planner");
@@ -176,6 +180,69 @@ pub fn print_by_size(rows: &[Row; SIZES.len()]) {
         }
     }
     println!();
+}
+
+const NOTES_OF_GROWTH: &str = "\
+Level and best with 512, 1,024 and 2,048 nodes, with the same form of tree, weights and limit: lib in
+milliseconds; how many times as long lib and Rust take for twice the nodes; and lib/Rust for the most
+nodes. All of a line take turns. Where the time is linear in the nodes, it is 2 for twice the nodes.
+";
+
+pub fn print_head_of_growth() {
+    println!("\n{NOTES_OF_GROWTH}");
+    print_names("planner");
+    for nodes in DOUBLES {
+        print!("{nodes:>10}");
+    }
+    for form in ["lib", "Rust"] {
+        for two in DOUBLES.windows(2) {
+            print!("{:>16}", format!("{form} {}/{}", two[1], two[0]));
+        }
+    }
+    println!("{:>10}", "lib/Rust");
+}
+
+pub struct GrowthRow<'a> {
+    pub load: &'a Load,
+    pub kind: Kind,
+    pub times: Growth,
+}
+
+impl GrowthRow<'_> {
+    /// How many times as long each form takes for twice the nodes.
+    fn ratios(&self) -> [[Option<f64>; DOUBLES.len() - 1]; 2] {
+        let of_form = |[one, two, four]: [_; 3]| [quotient([two, one]), quotient([four, two])];
+        self.times.map(of_form)
+    }
+
+    pub fn print(&self) {
+        print_name(self.load, self.kind.name());
+        let [library, plain] = self.times;
+        for time in library {
+            print_figure(time.map(|time| 1e3 * time.as_secs_f64()), 3);
+        }
+        for ratio in self.ratios().as_flattened() {
+            print!("{:6}", "");
+            print_figure(*ratio, 2);
+        }
+        print_figure(quotient([library[2], plain[2]]), 2);
+        println!();
+    }
+}
+
+/// The largest growth for each planner and doubling, with its tree, and the smallest beside it.
+pub fn print_worst_growth(rows: &[GrowthRow], kinds: [Kind; 2]) {
+    println!();
+    for kind in kinds {
+        for (form, name) in ["lib", "Rust"].into_iter().enumerate() {
+            for (step, two) in DOUBLES.windows(2).enumerate() {
+                let of_kind = rows.iter().filter(|row| row.kind == kind);
+                let figures = of_kind.filter_map(|row| Some((row.ratios()[form][step]?, row.load)));
+                let name = format!("{:<5} {name:<4} {:>4}/{:<4}", kind.name(), two[1], two[0]);
+                print_ends(&name, figures.collect(), true);
+            }
+        }
+    }
 }
 
 const NOTES_OF_SHEETS: &str = "\

@@ -3,7 +3,8 @@
 use crate::planner::Answer;
 use std::iter::{once, successors};
 
-const MOST: usize = 1024;
+const MOST_NODES: usize = 2048;
+const MOST_LIMIT: usize = 1024;
 
 /// Nodes by number; index 0 is no node, and a link of 0 leads nowhere.
 pub struct Tree {
@@ -133,10 +134,10 @@ fn read_head(table: &[u8]) -> Result<(usize, usize), Answer> {
         return Err(Answer::refused(1, 0));
     }
     let (count, limit) = (word(table, 0), word(table, 1));
-    if !(1..=MOST).contains(&count) {
+    if !(1..=MOST_NODES).contains(&count) {
         return Err(Answer::refused(2, count));
     }
-    if !(1..=MOST).contains(&limit) {
+    if !(1..=MOST_LIMIT).contains(&limit) {
         return Err(Answer::refused(3, limit));
     }
     let length = 4 + 8 * count;

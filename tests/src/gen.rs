@@ -61,6 +61,12 @@ pub enum Form {
 
 pub const FORMS: [Form; 5] = [Form::Flat, Form::Bushy, Form::Deep, Form::Mixed, Form::Comb];
 
+/// Each form with each of these numbers of nodes.
+pub fn forms_with(counts: &[usize]) -> Vec<(Form, usize)> {
+    let of_form = |form| counts.iter().map(move |&count| (form, count));
+    FORMS.into_iter().flat_map(of_form).collect()
+}
+
 pub fn random_parents(random: &mut Random, form: Form, count: usize) -> Parents {
     if let Form::Bushy = form {
         return bushy_parents(random, count);

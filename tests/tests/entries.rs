@@ -179,8 +179,8 @@ const LONG: [usize; 3] = [1024, 1025, 2048];
 
 fn as_many_nodes_as_may_be(entries: &Entries) {
     let random = &mut Random::new(1101);
-    for form in FORMS {
-        for (count, limit) in LONG.into_iter().flat_map(|count| [1, 9, 100].map(|k| (count, k))) {
+    for (form, count) in forms_with(&LONG) {
+        for limit in [1, 9, 100] {
             let [table, archive] = table_and_archive(random, form, count, limit);
             Asked::of(entries, &table).expect_accepted(&table);
             let expected = match count <= 1024 {
@@ -215,7 +215,7 @@ fn other_lengths(asked: usize) -> [usize; 6] {
 /// Long trees with one buffer in turn of another length, and one that is too long for all entries.
 fn long_trees_in_all_lengths(entries: &Entries) {
     let random = &mut Random::new(1107);
-    for (count, form) in LONG.into_iter().flat_map(|count| FORMS.map(|form| (count, form))) {
+    for (form, count) in forms_with(&LONG) {
         let table = table_and_archive(random, form, count, 5)[0].clone();
         let (plan, right) = (vec![1; count], Lengths::of(&table));
         for length in other_lengths(table.len()) {
@@ -255,7 +255,7 @@ fn long_trees_in_all_lengths(entries: &Entries) {
     }
     let table = table_and_archive(random, Form::Mixed, 2049, 5)[0].clone();
     let right = Lengths::of(&table);
-    for length in other_lengths(table.len()).into_iter().filter(|&length| length >= 4) {
+    for length in [4, table.len() - 1, table.len(), table.len() + 1] {
         let mut other = table.clone();
         other.resize(length, 1);
         for marks in other_lengths(2049) {
@@ -272,7 +272,7 @@ fn long_trees_in_all_lengths(entries: &Entries) {
 /// The archive's reader: of film with more than 1,024 nodes it says 13, whatever its buffers are.
 fn long_film_in_all_lengths(entries: &Entries) {
     let random = &mut Random::new(1108);
-    for (count, form) in LONG.into_iter().flat_map(|count| FORMS.map(|form| (count, form))) {
+    for (form, count) in forms_with(&LONG) {
         let [table, archive] = table_and_archive(random, form, count, 5);
         let verdict = Answer::accepted(count, word(&table, 2) as u32);
         for table_length in other_lengths(table.len()).into_iter().chain([table.len()]) {
@@ -379,10 +379,7 @@ fn longest_scratch(entries: &Entries) {
 
 /// The heaviest pages that marks can ask for. Sums of 16 bits would find 0 or 1,024 for some.
 fn heaviest_pages(entries: &Entries) {
-    for (form, count) in [Form::Flat, Form::Deep, Form::Mixed]
-        .into_iter()
-        .flat_map(|form| [64, 65, 128, 1024, 1025, 2048].map(|count| (form, count)))
-    {
+    for (form, count) in forms_with(&[64, 65, 128, 1024, 1025, 2048]) {
         let parents = random_parents(&mut Random::new(1110), form, count);
         let table = Table::new(1024, &parents, &vec![1024; count]).bytes();
         let mut one_page = vec![0; count];

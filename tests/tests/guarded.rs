@@ -114,7 +114,14 @@ fn hand_to_all(table: &[u8], marks: &[u8], limit: usize) -> Answer {
 /// The lengths that a lent buffer is tried with where another is asked for.
 fn other_lengths(asked: usize) -> [usize; 6] {
     let far = 2 * asked + 100;
-    [0, asked.saturating_sub(2), asked - 1, asked + 1, asked + 2, far]
+    [
+        0,
+        asked.saturating_sub(2),
+        asked - 1,
+        asked + 1,
+        asked + 2,
+        far,
+    ]
 }
 
 /// The same, and also with each buffer in turn of another length.
@@ -251,7 +258,7 @@ const LONG: [usize; 4] = [1024, 1025, 2048, 2049];
 #[test]
 fn largest_tables() {
     let random = &mut Random::new(1202);
-    for (form, count) in FORMS.into_iter().flat_map(|form| LONG.map(|count| (form, count))) {
+    for (form, count) in forms_with(&LONG) {
         let table = random_table(random, form, count, 12).bytes();
         let expected = match read(&table) {
             Ok(tree) => {
@@ -281,7 +288,7 @@ fn longest_scratch() {
 #[test]
 fn long_tables_of_other_lengths() {
     let random = &mut Random::new(1209);
-    for (form, count) in FORMS.into_iter().flat_map(|form| LONG.map(|count| (form, count))) {
+    for (form, count) in forms_with(&LONG) {
         let table = random_table(random, form, count, 3).bytes();
         for length in other_lengths(table.len()) {
             let mut other = table.clone();
@@ -322,7 +329,7 @@ fn trees_too_long_for_the_archive() {
 #[test]
 fn archives_of_too_many_nodes() {
     let random = &mut Random::new(1210);
-    for (form, count) in FORMS.into_iter().flat_map(|form| [1025, 2048].map(|count| (form, count))) {
+    for (form, count) in forms_with(&[1025, 2048]) {
         let table = random_table(random, form, count, 60).bytes();
         let tree = read(&table).expect("an accepted table");
         for marks in [feasible_plan(random, &tree), ones(count)] {
@@ -374,7 +381,9 @@ fn tables_of_every_length() {
 #[test]
 fn heads_of_tables() {
     let mut seen = Seen::default();
-    let values = [0, 1, 5, 6, 7, 8, 511, 512, 1023, 1024, 1025, 2047, 2048, 2049, 32768, 65535];
+    let values = [
+        0, 1, 5, 6, 7, 8, 511, 512, 1023, 1024, 1025, 2047, 2048, 2049, 32768, 65535,
+    ];
     for count in values {
         for limit in values {
             let table = Table {
@@ -398,7 +407,9 @@ fn heads_of_tables() {
 fn changed_tables() {
     let table = case_e().bytes();
     for place in 0..table.len() / 2 {
-        for value in [0u16, 1, 2, 3, 6, 7, 8, 255, 256, 1024, 1025, 2048, 2049, 65535] {
+        for value in [
+            0u16, 1, 2, 3, 6, 7, 8, 255, 256, 1024, 1025, 2048, 2049, 65535,
+        ] {
             let mut changed = table.clone();
             changed[2 * place..2 * place + 2].copy_from_slice(&value.to_be_bytes());
             hand_to_all(&changed, &MARKS_OF_E, 5);
@@ -546,7 +557,9 @@ fn archives_of_every_length() {
 /// case E's records, and of as many bytes as promised.
 #[test]
 fn heads_of_archives() {
-    let values: [u16; 14] = [0, 1, 2, 3, 4, 6, 7, 1023, 1024, 1025, 2048, 2049, 32768, 65535];
+    let values: [u16; 14] = [
+        0, 1, 2, 3, 4, 6, 7, 1023, 1024, 1025, 2048, 2049, 32768, 65535,
+    ];
     let rest = &archive_of_e()[6..];
     let mut accepted = 0;
     for nodes in values {

@@ -1005,7 +1005,10 @@ fn around_the_limits(visit: &mut dyn FnMut(&[u8])) {
         let table = Table::new(1024, &parents, &weights).bytes();
         let tree = read(&table).expect("a table of up to 2,048 nodes");
         visit(&archive_bytes(&tree, &vec![1; nodes]));
-        visit(&archive_bytes(&tree, &[&[1][..], &vec![0; nodes - 1]].concat()));
+        visit(&archive_bytes(
+            &tree,
+            &[&[1][..], &vec![0; nodes - 1]].concat(),
+        ));
     }
 
     for limit in [1023, 1024, 1025] {

@@ -73,7 +73,10 @@ fn notes() {
 /// As many nodes as a table has: text, table and picture. One more is too many, both ways.
 #[test]
 fn the_longest_shift() {
-    let text = format!("limit 9\n3 1\n{}", "  0 7\n    9 8\n".repeat(1023) + "  1 9\n");
+    let text = format!(
+        "limit 9\n3 1\n{}",
+        "  0 7\n    9 8\n".repeat(1023) + "  1 9\n"
+    );
     let table = result(&["table", "-"], text.as_bytes());
     assert_eq!(table.len(), 4 + 8 * 2048);
     assert_eq!(table[..4], [8, 0, 0, 9]);
@@ -84,7 +87,10 @@ fn the_longest_shift() {
     let picture = String::from_utf8(picture).expect("a text");
     assert!(picture.contains("<title>node 2048, weight 1, label 9, page 2048</title>"));
     let wanted = "tree: -: line 2050: too many nodes; a table has at most 2048\n";
-    assert_eq!(fault(&["table", "-"], (text + "  1 1\n").as_bytes()), wanted);
+    assert_eq!(
+        fault(&["table", "-"], (text + "  1 1\n").as_bytes()),
+        wanted
+    );
     let longer = [&[8, 1], &table[2..], &[0, 1, 0, 1, 0, 0, 0, 0]].concat();
     let wanted = "tree: -: 2049 nodes; a table has 1 to 2048\n";
     assert_eq!(fault(&["text", "-"], &longer), wanted);

@@ -173,10 +173,7 @@ fn heavy_pages() {
 #[test]
 fn largest_trees() {
     let random = &mut Random::new(705);
-    for (form, count) in FORMS
-        .into_iter()
-        .flat_map(|form| [1024, 1025, 2048].map(|count| (form, count)))
-    {
+    for (form, count) in forms_with(&[1024, 1025, 2048]) {
         let table = random_table(random, form, count, 1024).bytes();
         let tree = read(&table).expect("an accepted table");
         assert_eq!(judge(&table, &vec![1; count]).pages as usize, count);

@@ -180,7 +180,17 @@ fn notes(kind: Kind) {
 /// and one of 2,049 nodes, which is refused with whatever buffers.
 fn lengths_of_long_buffers(kind: Kind) {
     let random = &mut Random::new(819);
-    let others = |asked: usize| [0, asked - 2, asked - 1, asked, asked + 1, asked + 2, 3 * asked];
+    let others = |asked: usize| {
+        [
+            0,
+            asked - 2,
+            asked - 1,
+            asked,
+            asked + 1,
+            asked + 2,
+            3 * asked,
+        ]
+    };
     for count in [1024, 1025, 2048, 2049] {
         let form = random.pick(&FORMS);
         let table = random_table(random, form, count, 3).bytes();
@@ -204,7 +214,9 @@ fn lengths_of_long_buffers(kind: Kind) {
 fn longest_scratch(kind: Kind) {
     let random = &mut Random::new(820);
     let parents = random_parents(random, Form::Mixed, 2048);
-    let weights: Vec<u16> = (0..2048).map(|_| random.between(100, 1024) as u16).collect();
+    let weights: Vec<u16> = (0..2048)
+        .map(|_| random.between(100, 1024) as u16)
+        .collect();
     let table = Table::new(1024, &parents, &weights).bytes();
     let (marks, scratch) = (random.bytes(2048), vec![7; 8_413_184]);
     assert!(plan(kind, &table, &marks, &scratch).0.is_accepted());
@@ -439,7 +451,11 @@ mod search {
                     let tree = read(&table).expect("an accepted table");
                     let made = score(Kind::Best, random, &table, &tree);
                     let root = (count - 1) % limit + 1;
-                    assert_eq!(made, (count.div_ceil(limit), root as u32), "{count} {limit}");
+                    assert_eq!(
+                        made,
+                        (count.div_ceil(limit), root as u32),
+                        "{count} {limit}"
+                    );
                 }
             }
         }

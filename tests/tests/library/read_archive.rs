@@ -235,10 +235,7 @@ fn largest_archives() {
 fn longer_archives() {
     let random = &mut Random::new(1006);
     let refusal = Answer::refused(13, 0);
-    for (form, count) in FORMS
-        .into_iter()
-        .flat_map(|form| [1025, 1026, 2047, 2048, 2049].map(|count| (form, count)))
-    {
+    for (form, count) in forms_with(&[1025, 1026, 2047, 2048, 2049]) {
         let table = random_table(random, form, count.min(2048), 1024).bytes();
         let tree = read(&table).expect("an accepted table");
         let ones = vec![1; tree.node_count()];
@@ -250,7 +247,15 @@ fn longer_archives() {
                 archive.extend([0, 0, 0, 1, 0, 1, 0, 0]);
             }
             assert_eq!(read_archive(&archive), refusal);
-            for table in [0, 4, 8196, 8204, table.len() - 1, table.len(), table.len() + 1] {
+            for table in [
+                0,
+                4,
+                8196,
+                8204,
+                table.len() - 1,
+                table.len(),
+                table.len() + 1,
+            ] {
                 for marks in [0, 1024, 1025, count - 1, count, count + 1] {
                     let answer = read_into(&archive, &vec![7; table], &vec![7; marks]).0;
                     assert_eq!(answer, refusal);

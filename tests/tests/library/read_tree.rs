@@ -262,10 +262,7 @@ fn many_faults() {
 #[test]
 fn longest_tables() {
     let random = &mut Random::new(606);
-    for (form, count) in FORMS
-        .into_iter()
-        .flat_map(|form| [1024, 1025, 2047, 2048].map(|count| (form, count)))
-    {
+    for (form, count) in forms_with(&[1024, 1025, 2047, 2048]) {
         let table = random_table(random, form, count, 1024);
         assert_eq!(read_tree(&table.bytes()), Answer::ACCEPTED);
         for _ in 0..100 {

@@ -201,7 +201,11 @@ fn plans_of_so_many_pages() {
         for &(pages, nodes) in &sizes {
             let parents = random_parents(random, form, nodes);
             // At most 1,024 in all.
-            let choices = if nodes <= 1024 { [0, 1, 1, 1] } else { [0, 0, 0, 1] };
+            let choices = if nodes <= 1024 {
+                [0, 1, 1, 1]
+            } else {
+                [0, 0, 0, 1]
+            };
             let weights: Vec<u16> = (0..nodes).map(|_| random.pick(&choices)).collect();
             let table = Table::new(1024, &parents, &weights).with_random_labels(random);
             let tree = read(&table.bytes()).expect("an accepted table");
@@ -263,7 +267,9 @@ fn widest_numbers() {
     assert_eq!(last, b"  2048  2048  2048  1024 100");
     assert_eq!(&sheets[81 * (36 * 60 - 1)..][..6], b"    36");
     // Every second child weighs 1, from the third on.
-    let weights: Vec<u16> = (0..2048).map(|node| u16::from(node % 2 == 1 && node > 1)).collect();
+    let weights: Vec<u16> = (0..2048)
+        .map(|node| u16::from(node % 2 == 1 && node > 1))
+        .collect();
     let table = Table::new(1024, &parents, &weights).bytes();
     let marks = [&[1, 1][..], &[2; 2046]].concat();
     let (_, sheets) = print_in_all_lengths(&table, &marks);

@@ -114,23 +114,21 @@ fn some_lengths(pages: usize, nodes: usize) -> Vec<usize> {
 fn fifteen() {
     let random = &mut Random::new(906);
     for kind in KINDS {
-        for form in FORMS {
-            for count in [1024, 1025, 1026, 2047, 2048] {
-                let table = random_table(random, form, count, 7).bytes();
-                let mut marks = vec![7; count];
-                let mut scratch = vec![7; scratch_length(count, 7)];
-                let planned = kind.library()(&table, &mut marks, &mut scratch);
-                let pages = planned.pages as usize;
-                for length in some_lengths(pages, count) {
-                    let right = archive_length(pages, count);
-                    let expected = match length == right {
-                        _ if count > 1024 => Answer::refused(15, count),
-                        true => planned,
-                        false => Answer::refused(12, right),
-                    };
-                    let answer = write_archive(&table, &marks, &random.bytes(length)).0;
-                    assert_eq!(answer, expected, "{kind:?} {form:?} {count}");
-                }
+        for (form, count) in forms_with(&[1024, 1025, 1026, 2047, 2048]) {
+            let table = random_table(random, form, count, 7).bytes();
+            let mut marks = vec![7; count];
+            let mut scratch = vec![7; scratch_length(count, 7)];
+            let planned = kind.library()(&table, &mut marks, &mut scratch);
+            let pages = planned.pages as usize;
+            let right = archive_length(pages, count);
+            for length in some_lengths(pages, count) {
+                let expected = match length == right {
+                    _ if count > 1024 => Answer::refused(15, count),
+                    true => planned,
+                    false => Answer::refused(12, right),
+                };
+                let answer = write_archive(&table, &marks, &random.bytes(length)).0;
+                assert_eq!(answer, expected, "{kind:?} {form:?} {count}");
             }
         }
     }

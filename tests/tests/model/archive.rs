@@ -252,9 +252,16 @@ fn order_of_the_writer() {
             _ => Answer::refused(15, count),
         };
         for length in [0, right - 1, right, right + 1] {
-            let answered = if length == right { of_right_length } else { of_length };
+            let answered = if length == right {
+                of_right_length
+            } else {
+                of_length
+            };
             for (marks, answer) in [
-                (all(MARKS_OF_E)[..count - 1].to_vec(), Answer::refused(8, count)),
+                (
+                    all(MARKS_OF_E)[..count - 1].to_vec(),
+                    Answer::refused(8, count),
+                ),
                 (all([1, 2, 0, 0, 0, 3]), Answer::refused(10, 2)),
                 (all([1, 0, 0, 0, 0, 0]), Answer::refused(11, 1)),
                 (all(MARKS_OF_E), answered),
