@@ -61,9 +61,9 @@ extern "C" {
 /* The most nodes of the archive, which film decks size their memory by. */
 #define BALDUQEN_ARCHIVE_NODES 1024
 
-/* The bytes of stack that a call uses at most, on x86-64. As measured: balduqen_read_archive 76 KiB,
- * balduqen_write_archive 43, balduqen_print_sheets 39, the planners 37, the judge 27,
- * balduqen_read_tree 3. */
+/* The bytes of stack that a call uses at most, on x86-64. As measured: balduqen_read_archive 66 KiB,
+ * the planners 47, balduqen_write_archive 33, balduqen_print_sheets 29, the judge 29,
+ * balduqen_read_tree 5. */
 #define BALDUQEN_STACK 98304
 
 /* Buffer lengths: bytes of a table, 32-bit words of a planner's scratch, bytes of an archive and of
