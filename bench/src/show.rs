@@ -185,7 +185,8 @@ pub fn print_by_size(rows: &[Row; SIZES.len()]) {
 const NOTES_OF_GROWTH: &str = "\
 Level and best with 512, 1,024 and 2,048 nodes, with the same form of tree, weights and limit: lib in
 milliseconds; how many times as long lib and Rust take for twice the nodes; and lib/Rust for the most
-nodes. All of a line take turns. Where the time is linear in the nodes, it is 2 for twice the nodes.
+nodes. All of a line take turns. Where the time is linear in the nodes, it is 2 for twice the nodes;
+while a page has room for more siblings than there are, runs grow with the tree, and it is up to 4.
 ";
 
 pub fn print_head_of_growth() {
