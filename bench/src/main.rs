@@ -18,7 +18,7 @@ mod show;
 mod tree;
 
 use load::{Load, DOUBLES, MOST_NODES, NODES};
-use planner::{COLUMNS, KINDS, QUICK};
+use planner::{Kind, COLUMNS, GREEDY, KINDS, QUICK};
 use show::{GrowthRow, Row, SheetRow};
 
 fn main() {
@@ -35,12 +35,13 @@ fn main() {
     println!("All forms agree on {all} trees, {noted} of them with weights of 0.");
 
     show::print_head();
-    let rows = rows_of(&loads);
+    let rows = rows_of(&loads, &KINDS);
     rows.iter().for_each(Row::print);
     show::print_worst(&rows);
 
     show::print_head_of_most();
-    show::print_worst(&rows_of(&long_loads));
+    // Level and best have a table of their own below.
+    show::print_worst(&rows_of(&long_loads, &[QUICK, GREEDY].concat()));
 
     show::print_head_by_size();
     for loads in &load::loads_by_size() {
@@ -75,10 +76,10 @@ fn main() {
     show::print_worst_of_sheets(&sheet_rows_of(&long_loads));
 }
 
-/// The times of all planners.
-fn rows_of(loads: &[Load]) -> Vec<Row<'_>> {
-    let of_load = |load| {
-        KINDS.map(|kind| {
+/// The times of these planners.
+fn rows_of<'a>(loads: &'a [Load], kinds: &[Kind]) -> Vec<Row<'a>> {
+    let of_load = |load: &'a Load| {
+        kinds.iter().map(move |&kind| {
             let times = measure::times(load, kind);
             Row { load, kind, times }
         })

@@ -56,6 +56,9 @@ pub const KINDS: [Kind; 6] = [
 /// Those whose steps are linear in the nodes.
 pub const QUICK: [Kind; 2] = [Kind::Rightmost, Kind::DepthFirst];
 
+/// Those that cut the heaviest first.
+pub const GREEDY: [Kind; 2] = [Kind::Single, Kind::Pair];
+
 /// Those that fill columns of the scratch.
 pub const COLUMNS: [Kind; 2] = [Kind::Level, Kind::Best];
 

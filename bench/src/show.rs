@@ -216,25 +216,35 @@ impl GrowthRow<'_> {
         self.times.map(of_form)
     }
 
+    /// lib/Rust for the most nodes.
+    fn ratio(&self) -> Option<f64> {
+        let [library, plain] = self.times;
+        quotient([library[2], plain[2]])
+    }
+
     pub fn print(&self) {
         print_name(self.load, self.kind.name());
-        let [library, plain] = self.times;
-        for time in library {
+        for time in self.times[0] {
             print_figure(time.map(|time| 1e3 * time.as_secs_f64()), 3);
         }
         for ratio in self.ratios().as_flattened() {
             print!("{:6}", "");
             print_figure(*ratio, 2);
         }
-        print_figure(quotient([library[2], plain[2]]), 2);
+        print_figure(self.ratio(), 2);
         println!();
     }
 }
 
-/// The largest growth for each planner and doubling, with its tree, and the smallest beside it.
+/// The largest growth for each planner and doubling, with its tree, and the smallest beside it, and
+/// the worst lib/Rust for the most nodes.
 pub fn print_worst_growth(rows: &[GrowthRow], kinds: [Kind; 2]) {
     println!();
     for kind in kinds {
+        let of_kind = rows.iter().filter(|row| row.kind == kind);
+        let figures = of_kind.filter_map(|row| Some((row.ratio()?, row.load)));
+        let name = format!("{:<5} lib/Rust {MOST_NODES:>5}", kind.name());
+        print_ends(&name, figures.collect(), true);
         for (form, name) in ["lib", "Rust"].into_iter().enumerate() {
             for (step, two) in DOUBLES.windows(2).enumerate() {
                 let of_kind = rows.iter().filter(|row| row.kind == kind);
