@@ -1,9 +1,9 @@
 //! A tree read from its table, and the pages and the figures of a plan.
 
+use crate::load::MOST_NODES;
 use crate::planner::Answer;
 use std::iter::{once, successors};
 
-const MOST_NODES: usize = 2048;
 const MOST_LIMIT: usize = 1024;
 
 /// Nodes by number; index 0 is no node, and a link of 0 leads nowhere.

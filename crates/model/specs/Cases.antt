@@ -216,7 +216,7 @@ back-hold = refl
 abbrev ofFive : Edition
 ofFive = record { head = 3; page = 4; most = 5 }
 
--- the limits, by words of N; and that 15 is given after 11 and before 12, and to neither tree reader nor judge
+-- the limits, by words of N, and the highest place; and that 15 is given after 11 and before 12
 pub longer : List Bool
 longer =
     let lent : List ℕ = replicate 78 7 in
@@ -224,6 +224,7 @@ longer =
     let film : List ℕ = archiveOf ofFive (treeE 5 1) bestE in
     answers (readTree (8 ∷ 0 ∷ 0 ∷ 0 ∷ [])) 3 0
     ∷ answers (readTree (8 ∷ 1 ∷ 0 ∷ 0 ∷ [])) 2 2049
+    ∷ eqb (scratchWords 2048 1024) 8413184
     ∷ answers (firstOf (manyNodes firstEdition (4 ∷ 0 ∷ []) ∷ []) accepted) 0 0
     ∷ answers (firstOf (manyNodes firstEdition (4 ∷ 1 ∷ []) ∷ []) accepted) 15 1025
     ∷ answers (writeArchive ofFive (treeE 5 1) (replicate 5 0) [] .answer) 8 6
