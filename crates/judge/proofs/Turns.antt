@@ -2,7 +2,7 @@
 -- Defines LayoutTo. Assumes nothing.
 use mathlib.Core.Path.{_≡_, refl, sym, ap, ap₂, _∙_}
 use mathlib.Core.Bool.{Bool, true, false, not, _&&_, _||_}
-use mathlib.Core.List.{List}
+use mathlib.Core.List.{List, [], _∷_}
 use lib.Dec.{eqb, ltb}
 use Prim.Native.Nat.{ℕ, zero, suc, _+_, _-_, _*_, _≤_, _<_}
 use native.Mathlib.Omega.{arith}
@@ -163,8 +163,7 @@ pub record LayoutTo (t m : List ℕ) (v : ℕ) (before : List ℕ) (r : Layout) 
   pub bad-to : placed bad ≡ firstTo v (λ u. not (goodMark t m u))
 
 pub layout-start : (t m : List ℕ)
-    → LayoutTo t m 0 (replicate slots 0)
-    (layoutOf (replicate slots 0) (replicate slots 0) (replicate slots 0) (replicate slots 0) (replicate slots 0) 0) 0
+    → LayoutTo t m 0 (replicate slots 0) (layoutOf (replicate 4 (replicate slots 0)) (replicate slots 0) 0) 0
 unfolding when
 layout-start t m =
     record {
@@ -180,6 +179,52 @@ layout-start t m =
       pages-to = sym (countTo-zero (hasMark m begins));
       bad-to = sym (firstTo-zero (λ u. not (goodMark t m u)));
     }
+
+-- ---- The rows, written in their order
+
+four : (rows : List (List ℕ)) → length rows ≡ 4
+    → rows ≡ getD rows 0 [] ∷ getD rows 1 [] ∷ getD rows 2 [] ∷ getD rows 3 [] ∷ []
+four (p ∷ g ∷ f ∷ l ∷ []) e = refl
+four [] e = absurd (omega arith)
+four (p ∷ []) e = absurd (omega arith)
+four (p ∷ g ∷ []) e = absurd (omega arith)
+four (p ∷ g ∷ f ∷ []) e = absurd (omega arith)
+four (p ∷ g ∷ f ∷ l ∷ x ∷ more) e = absurd (omega arith)
+
+-- as a turn leaves them: node i with its parent on page q, and q's first node and last sibling
+abbrev rowsAfter : List (List ℕ) → ℕ → ℕ → ℕ → ℕ → ℕ → List (List ℕ)
+rowsAfter rows i q parent first last =
+    let one : List (List ℕ) = set rows 0 (set (getD rows 0 []) i parent) in
+    let two : List (List ℕ) = set one 1 (set (getD one 1 []) i q) in
+    let three : List (List ℕ) = set two 2 (set (getD two 2 []) q first) in
+    set three 3 (set (getD three 3 []) q last)
+
+module _ (rows : List (List ℕ)) (e : length rows ≡ 4) where
+  -- each is read before it is written
+  pub rows-next : (a b c : List ℕ)
+      → (getD (set rows 0 a) 1 [] ≡ getD rows 1 []) × (getD (set (set rows 0 a) 1 b) 2 [] ≡ getD rows 2 [])
+      × (getD (set (set (set rows 0 a) 1 b) 2 c) 3 [] ≡ getD rows 3 [])
+  rows-next a b c = (
+    ap (λ l. getD (set l 0 a) 1 []) (four rows e),
+    ap (λ l. getD (set (set l 0 a) 1 b) 2 []) (four rows e),
+    ap (λ l. getD (set (set (set l 0 a) 1 b) 2 c) 3 []) (four rows e),
+  )
+
+  pub rows-turn : (i q parent first last : ℕ) (weights : List ℕ) (pages : ℕ)
+      → (length (rowsAfter rows i q parent first last) ≡ 4)
+      × (layoutOf (rowsAfter rows i q parent first last) weights pages
+      ≡ record {
+        parents = set (getD rows 0 []) i parent;
+        page = set (getD rows 1 []) i q;
+        firsts = set (getD rows 2 []) q first;
+        lasts = set (getD rows 3 []) q last;
+        weights = weights;
+        pages = pages;
+      })
+  rows-turn i q parent first last weights pages = (
+    ap (λ l. length (rowsAfter l i q parent first last)) (four rows e),
+    ap (λ l. layoutOf (rowsAfter l i q parent first last) weights pages) (four rows e),
+  )
 
 -- the turn of node v + 1: what its locals are, and that they have places in the arrays
 module _ {t m : List ℕ} {v : ℕ} {before : List ℕ} {r : Layout} {wrong : ℕ} (a : AcceptedFacts t)

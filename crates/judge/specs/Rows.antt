@@ -3,7 +3,7 @@
 use Prim.Native.Nat.{ℕ, _<_}
 use mathlib.Core.Path.{_≡_}
 use mathlib.Core.Bool.{Bool, not, _&&_, _||_}
-use mathlib.Core.List.{List}
+use mathlib.Core.List.{List, []}
 use lib.ListN.{getD, replicate}
 use lib.Dec.{eqb}
 use Rattle.model.specs.Basics.{pick}
@@ -28,15 +28,21 @@ pub record Layout : Type 0 where
   pub weights : List ℕ
   pub pages : ℕ
 
-abbrev pub layoutOf : List ℕ → List ℕ → List ℕ → List ℕ → List ℕ → ℕ → Layout
-layoutOf parents page firsts lasts weights pages =
-    record { parents = parents; page = page; firsts = firsts; lasts = lasts; weights = weights; pages = pages }
+-- as the arrays hold it: the first four in rows
+abbrev pub layoutOf : List (List ℕ) → List ℕ → ℕ → Layout
+layoutOf rows weights pages =
+    record {
+      parents = getD rows 0 [];
+      page = getD rows 1 [];
+      firsts = getD rows 2 [];
+      lasts = getD rows 3 [];
+      weights = weights;
+      pages = pages;
+    }
 
 -- the arrays as they are made
-abbrev pub Cleared : List ℕ → List ℕ → List ℕ → List ℕ → List ℕ → Type 0
-Cleared parents page firsts lasts weights =
-    (parents ≡ replicate slots 0) × (page ≡ replicate slots 0) × (firsts ≡ replicate slots 0)
-    × (lasts ≡ replicate slots 0) × (weights ≡ replicate slots 0)
+abbrev pub Cleared : List (List ℕ) → List ℕ → Type 0
+Cleared rows weights = (rows ≡ replicate 4 (replicate slots 0)) × (weights ≡ replicate slots 0)
 
 -- what the plan m makes of the tree t
 pub record IsLayout (t m : List ℕ) (r : Layout) : Type 0 where

@@ -8,6 +8,11 @@ use model::Beside;
 use model::Cause;
 use model::Place;
 use model::Verdict;
+pub use pages::FIRSTS;
+pub use pages::LASTS;
+pub use pages::PAGE;
+pub use pages::PARENTS;
+pub use pages::ROWS;
 use pages::first_heavy;
 pub use pages::lay_pages;
 use table::SLOTS;
@@ -92,19 +97,16 @@ fn without_pages(answer: Answer) -> Judgement
 fn judge_marks(
     table: &[u8],
     marks: &[u8],
-    parents: &mut [u16; SLOTS],
-    page: &mut [u16; SLOTS],
-    firsts: &mut [u16; SLOTS],
-    lasts: &mut [u16; SLOTS],
+    rows: &mut [[u16; SLOTS]; ROWS],
     weights: &mut [u32; SLOTS],
 ) -> Judgement
     requires { ⌜ AcceptedFacts (now table)
-        × Cleared (now parents) (now page) (now firsts) (now lasts) (now weights) ⌝ }
+        × Cleared (now rows) (now weights) ⌝ }
     ensures { λ r. ⌜ r .answer ≡ answerOf (verdictOf (now (table .entry)) (now (marks .entry))) ⌝ }
-    ensures { λ r. ⌜ IsLayout (now (table .entry)) (now (marks .entry)) (layoutOf (now (parents .exit))
-        (now (page .exit)) (now (firsts .exit)) (now (lasts .exit)) (now (weights .exit)) (r .pages)) ⌝ }
+    ensures { λ r. ⌜ IsLayout (now (table .entry)) (now (marks .entry))
+        (layoutOf (now (rows .exit)) (now (weights .exit)) (r .pages)) ⌝ }
 {
-    let laid = lay_pages(table, marks, parents, page, firsts, lasts, weights);
+    let laid = lay_pages(table, marks, rows, weights);
     let heavy = first_heavy(weights, laid.pages, limit_of(table));
     let bad = place_if(laid.bad != 0, laid.bad as u32);
     let answer = give(find_verdict(bad, heavy, laid.pages, weights[1]));
@@ -120,18 +122,15 @@ pub fn judge_pages(
     tree: Answer,
     table: &[u8],
     marks: &[u8],
-    parents: &mut [u16; SLOTS],
-    page: &mut [u16; SLOTS],
-    firsts: &mut [u16; SLOTS],
-    lasts: &mut [u16; SLOTS],
+    rows: &mut [[u16; SLOTS]; ROWS],
     weights: &mut [u32; SLOTS],
 ) -> Judgement
     requires { ⌜ (tree .number ≡ 0 → AcceptedFacts (now table))
-        × Cleared (now parents) (now page) (now firsts) (now lasts) (now weights) ⌝ }
+        × Cleared (now rows) (now weights) ⌝ }
     ensures { λ r. ⌜ r .answer ≡ andThen tree (marksAnswer (now (table .entry)) (now (marks .entry))) ⌝ }
     ensures { λ r. ⌜ (r .answer .number ≡ 0
-        → IsLayout (now (table .entry)) (now (marks .entry)) (layoutOf (now (parents .exit)) (now (page .exit))
-        (now (firsts .exit)) (now (lasts .exit)) (now (weights .exit)) (r .pages))) ⌝ }
+        → IsLayout (now (table .entry)) (now (marks .entry))
+        (layoutOf (now (rows .exit)) (now (weights .exit)) (r .pages))) ⌝ }
 {
     if tree.number != 0 {
         return without_pages(tree);
@@ -140,7 +139,7 @@ pub fn judge_pages(
     if marks.len() != nodes as usize {
         return without_pages(refuse(8, nodes as u32));
     }
-    judge_marks(table, marks, parents, page, firsts, lasts, weights)
+    judge_marks(table, marks, rows, weights)
 }
 
 // The same for who wants the answer alone.
@@ -148,21 +147,9 @@ pub fn judge_answer(tree: Answer, table: &[u8], marks: &[u8]) -> Answer
     requires { ⌜ (tree .number ≡ 0 → AcceptedFacts (now table)) ⌝ }
     ensures { λ r. ⌜ r ≡ andThen tree (marksAnswer (now (table .entry)) (now (marks .entry))) ⌝ }
 {
-    let mut parents = [0u16; SLOTS];
-    let mut page = [0u16; SLOTS];
-    let mut firsts = [0u16; SLOTS];
-    let mut lasts = [0u16; SLOTS];
+    let mut rows = [[0u16; SLOTS]; ROWS];
     let mut weights = [0u32; SLOTS];
-    judge_pages(
-        tree,
-        table,
-        marks,
-        &mut parents,
-        &mut page,
-        &mut firsts,
-        &mut lasts,
-        &mut weights,
-    ).answer
+    judge_pages(tree, table, marks, &mut rows, &mut weights).answer
 }
 
 // Entry: the judge of plans.

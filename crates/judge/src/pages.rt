@@ -18,6 +18,18 @@ ghost use Rattle.model.specs.Plan.{badMark};
 ghost use Rattle.theory.specs.TableFacts.{AcceptedFacts};
 ghost use Rattle.judge.specs.Rows.{Cleared, IsLayout, layoutOf};
 
+// What a plan makes of a tree is left in rows: by node its parent and its page; by page its first node and the last
+// sibling of its run.
+pub const PARENTS: usize = 0;
+
+pub const PAGE: usize = 1;
+
+pub const FIRSTS: usize = 2;
+
+pub const LASTS: usize = 3;
+
+pub const ROWS: usize = 4;
+
 // What the pass counts: the pages, and the first node whose mark is bad, or 0.
 pub struct Laid {
     pub pages: u16,
@@ -30,24 +42,20 @@ fn choose(test: bool, yes: u16, no: u16) -> u16
     if test { yes } else { no }
 }
 
-// One pass in node order, which fills arrays that are lent: by node its parent and its page; by page its first node,
-// the last sibling of its run, and its weight. A node with no sibling before it comes just after its parent. A 1 opens
-// the next page and is its first node, a 2 joins the page of the sibling before it, and a 0 its parent's; the node's
-// weight is added to that page. Siblings come in rising order, so the last 1 or 2 on a page is the last sibling of its
-// run.
+// One pass in node order, which fills the rows and, by page, the weights. A node with no sibling before it comes just
+// after its parent. A 1 opens the next page and is its first node, a 2 joins the page of the sibling before it, and a 0
+// its parent's; the node's weight is added to that page. Siblings come in rising order, so the last 1 or 2 on a page is
+// the last sibling of its run.
 pub fn lay_pages(
     table: &[u8],
     marks: &[u8],
-    parents: &mut [u16; SLOTS],
-    page: &mut [u16; SLOTS],
-    firsts: &mut [u16; SLOTS],
-    lasts: &mut [u16; SLOTS],
+    rows: &mut [[u16; SLOTS]; ROWS],
     weights: &mut [u32; SLOTS],
 ) -> Laid
     requires { ⌜ AcceptedFacts (now table)
-        × Cleared (now parents) (now page) (now firsts) (now lasts) (now weights) ⌝ }
-    ensures { λ r. ⌜ IsLayout (now (table .entry)) (now (marks .entry)) (layoutOf (now (parents .exit))
-        (now (page .exit)) (now (firsts .exit)) (now (lasts .exit)) (now (weights .exit)) (r .pages)) ⌝ }
+        × Cleared (now rows) (now weights) ⌝ }
+    ensures { λ r. ⌜ IsLayout (now (table .entry)) (now (marks .entry))
+        (layoutOf (now (rows .exit)) (now (weights .exit)) (r .pages)) ⌝ }
     ensures { λ r. ⌜ when (not (eqb (r .bad) 0)) (r .bad) ≡ badMark (now (table .entry)) (now (marks .entry)) ⌝ }
 {
     let nodes = node_count(table);
@@ -62,15 +70,15 @@ pub fn lay_pages(
         let u = before[i];
         let good = is_good(v, mark, u, mark_at(marks, u));
         bad = choose((bad == 0) & !good, v, bad);
-        let parent = choose(u == 0, v - 1, parents[u as usize]);
-        parents[i] = parent;
+        let parent = choose(u == 0, v - 1, rows[PARENTS][u as usize]);
+        rows[PARENTS][i] = parent;
         pages = choose(mark == 1, pages + 1, pages);
         let home = choose(mark == 2, u, parent);
-        let p = choose(mark == 1, pages, page[home as usize]);
-        page[i] = p;
+        let p = choose(mark == 1, pages, rows[PAGE][home as usize]);
+        rows[PAGE][i] = p;
         let q = p as usize;
-        firsts[q] = choose(mark == 1, v, firsts[q]);
-        lasts[q] = choose((mark == 1) | (mark == 2), v, lasts[q]);
+        rows[FIRSTS][q] = choose(mark == 1, v, rows[FIRSTS][q]);
+        rows[LASTS][q] = choose((mark == 1) | (mark == 2), v, rows[LASTS][q]);
         weights[q] = weights[q] + (weight_at(table, v) as u32);
         before[next_at(table, v) as usize] = v;
     }

@@ -1,21 +1,22 @@
--- The loop over the pages: the lines of the pages passed stand in the report. Defines Listed. Assumes nothing.
+-- The loop over a layout's pages: the lines of the pages passed stand in the report. Defines Listed. Assumes nothing.
 use Prim.Native.Nat.{ℕ, _+_, _*_, _≤_, _<_}
 use native.Mathlib.Omega.{arith}
 use mathlib.Core.Path.{_≡_, refl, _∙_, ap}
 use mathlib.Core.List.{List}
 use lib.ListN.{length}
+use Rattle.judge.specs.Rows.{Layout}
 use Rattle.theory.specs.Appended.{Appended, Filled, filled-first, filled-then}
 use Rattle.pages.specs.Text.{lineBytes}
-use Rattle.pages.specs.Listing.{Pages, lineOf, headOf, linesTo, pagesLines, lines-start, lines-more}
+use Rattle.pages.specs.Listing.{lineOf, headOf, linesTo, layoutLines, lines-start, lines-more}
 
 -- p pages are listed, up to the position at
-pub record Listed (l : Pages) (limit : ℕ) (out₀ : List ℕ) (p at : ℕ) (out : List ℕ) : Type 0 where
+pub record Listed (l : Layout) (limit : ℕ) (out₀ : List ℕ) (p at : ℕ) (out : List ℕ) : Type 0 where
   pub high : p ≤ l .pages
   pub room : at ≤ lineBytes * (p + 1)
   pub long : length out ≡ length out₀
   pub lines : Filled (linesTo l limit p) out at
 
-module _ (l : Pages) (limit : ℕ) where
+module _ (l : Layout) (limit : ℕ) where
   pub listed-start : {o out : List ℕ} {at : ℕ} → Appended o 0 (headOf l limit) out at → at ≤ 0 + lineBytes
       → Listed l limit out 0 at out
   listed-start {out} {at} h small =
@@ -38,8 +39,8 @@ module _ (l : Pages) (limit : ℕ) where
       }
 
   pub listed-end : {out₀ out : List ℕ} {p at : ℕ} → Listed l limit out₀ p at out → l .pages ≤ p
-      → Filled (pagesLines l limit) out at
-  unfolding pagesLines
+      → Filled (layoutLines l limit) out at
+  unfolding layoutLines
   listed-end {out} {p} {at} x low =
       let all : p ≡ l .pages = omega (arith, x .high) in
       rw (ap (linesTo l limit) all) at (x .lines)

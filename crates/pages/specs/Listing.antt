@@ -1,6 +1,5 @@
--- The lines of a plan, from its pages as they are laid, and those of a planner's answer, by its number.
--- Defines Pages, pagesOf, lineOf, headOf, linesTo, pagesLines. Proves layout-lines, lines-refused, lines-planned.
--- Assumes nothing.
+-- The lines of a plan, from its layout, and those of a planner's answer, by its number.
+-- Defines lineOf, headOf, linesTo, layoutLines. Proves layout-lines, lines-refused, lines-planned. Assumes nothing.
 use Prim.Native.Nat.{ℕ, suc, _+_, _≤_, _<_}
 use native.Mathlib.Omega.{arith}
 use native.Mathlib.Numerals.{add-one}
@@ -22,33 +21,23 @@ use Rattle.judge.specs.Rows.{Layout, IsLayout}
 use Rattle.planner.specs.Outcome.{outcome}
 use Rattle.pages.specs.Text.{headLine, pageLine, refusalLine, planLines, answerLines}
 
--- ---- Lines of pages
-
--- by page its first node, the last sibling of its run, and its weight; how many pages
-pub record Pages : Type 0 where
-  pub firsts : List ℕ
-  pub lasts : List ℕ
-  pub weights : List ℕ
-  pub pages : ℕ
-
-abbrev pub pagesOf : List ℕ → List ℕ → List ℕ → ℕ → Pages
-pagesOf firsts lasts weights pages = record { firsts = firsts; lasts = lasts; weights = weights; pages = pages }
+-- ---- Lines of a layout
 
 -- the line of page p
-unfoldable pub lineOf : Pages → ℕ → List ℕ
+unfoldable pub lineOf : Layout → ℕ → List ℕ
 lineOf l p = pageLine p (getD (l .firsts) p 0) (getD (l .lasts) p 0) (getD (l .weights) p 0)
 
-abbrev pub headOf : Pages → ℕ → List ℕ
+abbrev pub headOf : Layout → ℕ → List ℕ
 headOf l limit = headLine (l .pages) (getD (l .weights) 1 0) limit
 
 -- the head line, and the lines of the pages 1 to n
-unfoldable pub linesTo : Pages → ℕ → ℕ → List ℕ
+unfoldable pub linesTo : Layout → ℕ → ℕ → List ℕ
 linesTo l limit n = headOf l limit ++ listTo n (lineOf l)
 
-unfoldable pub pagesLines : Pages → ℕ → List ℕ
-pagesLines l limit = linesTo l limit (l .pages)
+unfoldable pub layoutLines : Layout → ℕ → List ℕ
+layoutLines l limit = linesTo l limit (l .pages)
 
-module _ (l : Pages) (limit : ℕ) where
+module _ (l : Layout) (limit : ℕ) where
   pub lines-start : linesTo l limit 0 ≡ headOf l limit
   unfolding linesTo
   lines-start = ap (λ (x : List ℕ). headOf l limit ++ x) (listTo-zero (lineOf l)) ∙ append-nil (headOf l limit)
@@ -61,9 +50,6 @@ module _ (l : Pages) (limit : ℕ) where
       ∙ sym (append-assoc (headOf l limit) (listTo n (lineOf l)) (lineOf l (suc n))))
 
 module _ {t m : List ℕ} (j : Judged t m) {l : Layout} (is : IsLayout t m l) where
-  abbrev laid : Pages
-  laid = pagesOf (l .firsts) (l .lasts) (l .weights) (l .pages)
-
   -- a page's number is a place of the arrays
   page-slot : (q : ℕ) → q ≤ pageCount t m → q < slots
   page-slot q high = omega (arith, pageCount-le t m, j .tree .sound .count-high)
@@ -72,17 +58,17 @@ module _ {t m : List ℕ} (j : Judged t m) {l : Layout} (is : IsLayout t m l) wh
   pages-most = omega (arith, is .pages-are, page-slot (pageCount t m) (omega arith))
 
   -- the layout of a plan gives the plan's lines
-  pub layout-lines : pagesLines (pagesOf (l .firsts) (l .lasts) (l .weights) (l .pages)) (limitOf t) ≡ planLines t m
-  unfolding pagesLines linesTo lineOf planLines
+  pub layout-lines : layoutLines l (limitOf t) ≡ planLines t m
+  unfolding layoutLines linesTo lineOf planLines
   layout-lines =
       ap₂ (λ (h x : List ℕ). h ++ x)
       (ap₂ (λ n w. headLine n w (limitOf t)) (is .pages-are) (is .weights-are 1 (omega arith)))
-      (ap (λ n. listTo n (lineOf laid)) (is .pages-are)
-      ∙ listTo-cong (pageCount t m) (lineOf laid)
+      (ap (λ n. listTo n (lineOf l)) (is .pages-are)
+      ∙ listTo-cong (pageCount t m) (lineOf l)
       (λ q. pageLine q (pageRun t m q .first) (pageRun t m q .last) (pageWeight t m q)) line)
     where
       line : Upto (pageCount t m)
-          (λ q. lineOf laid q ≡ pageLine q (pageRun t m q .first) (pageRun t m q .last) (pageWeight t m q))
+          (λ q. lineOf l q ≡ pageLine q (pageRun t m q .first) (pageRun t m q .last) (pageWeight t m q))
       line q low high =
           let good = j .marked in
           ap₂ (λ x y. pageLine q x y (getD (l .weights) q 0)) (is .firsts-are good q low high)

@@ -2,6 +2,9 @@
 use crate::text::head_line;
 use crate::text::page_line;
 use crate::text::refusal_line;
+use judge::FIRSTS;
+use judge::LASTS;
+use judge::ROWS;
 use judge::lay_pages;
 use planner::plan_best;
 use table::SLOTS;
@@ -15,7 +18,8 @@ ghost use Rattle.model.specs.Table.{maxNodes};
 ghost use Rattle.model.specs.Refusals.{planBest};
 ghost use Rattle.theory.specs.Appended.{Filled};
 ghost use Rattle.pages.specs.Text.{reportBytes, answerLines, reportOf};
-ghost use Rattle.pages.specs.Listing.{pagesOf, pagesLines};
+ghost use Rattle.judge.specs.Rows.{layoutOf};
+ghost use Rattle.pages.specs.Listing.{layoutLines};
 
 // As many marks as a word can ask for: N may be anything until it is checked.
 const MARKS: usize = 65535;
@@ -23,18 +27,16 @@ const MARKS: usize = 65535;
 // Serves N × (K + 3) up to 2,560.
 const SCRATCH_WORDS: usize = 10240;
 
-// The lines of a plan, from its pages and the limit.
+// The lines of a plan, from its layout and the limit.
 fn list_pages(
-    firsts: &[u16; SLOTS],
-    lasts: &[u16; SLOTS],
+    rows: &[[u16; SLOTS]; ROWS],
     weights: &[u32; SLOTS],
     pages: u16,
     limit: u16,
     out: &mut [u8],
 ) -> usize
     requires { ⌜ (pages ≤ maxNodes) × (reportBytes ≤ length (now out)) ⌝ }
-    ensures { λ r. ⌜ Filled
-        (pagesLines (pagesOf (now (firsts .entry)) (now (lasts .entry)) (now (weights .entry)) pages) limit)
+    ensures { λ r. ⌜ Filled (layoutLines (layoutOf (now (rows .entry)) (now (weights .entry)) pages) limit)
         (now (out .exit)) r ⌝ }
     ensures { λ r. ⌜ r ≤ reportBytes ⌝ }
 {
@@ -44,7 +46,7 @@ fn list_pages(
     while p < pages {
         p += 1;
         let i = p as usize;
-        at = page_line(out, at, p, firsts[i], lasts[i], weights[i]);
+        at = page_line(out, at, p, rows[FIRSTS][i], rows[LASTS][i], weights[i]);
     }
     at
 }
@@ -60,21 +62,10 @@ fn report_plan(table: &[u8], marks: &mut [u8], scratch: &mut [u32], out: &mut [u
     if answer.number != 0 {
         return refusal_line(out, 0, answer.number, answer.place);
     }
-    let mut parents = [0u16; SLOTS];
-    let mut page = [0u16; SLOTS];
-    let mut firsts = [0u16; SLOTS];
-    let mut lasts = [0u16; SLOTS];
+    let mut rows = [[0u16; SLOTS]; ROWS];
     let mut weights = [0u32; SLOTS];
-    let laid = lay_pages(
-        table,
-        marks,
-        &mut parents,
-        &mut page,
-        &mut firsts,
-        &mut lasts,
-        &mut weights,
-    );
-    list_pages(&firsts, &lasts, &weights, laid.pages, limit_of(table), out)
+    let laid = lay_pages(table, marks, &mut rows, &mut weights);
+    list_pages(&rows, &weights, laid.pages, limit_of(table), out)
 }
 
 // All that the program writes for a table.

@@ -1,6 +1,9 @@
 // The entry. It judges the plan, and prints the pages of the layout that the judge found.
 use crate::sheet::put_sheets;
 use crate::sheet::sheet_bytes;
+use judge::FIRSTS;
+use judge::LASTS;
+use judge::ROWS;
 use judge::judge_pages;
 use model::Answer;
 use table::SLOTS;
@@ -8,9 +11,32 @@ use table::read_tree;
 use table::refuse;
 use table::words::limit_of;
 ghost use mathlib.Core.Path.{_≡_};
+ghost use Prim.Native.Nat.{_*_};
+ghost use lib.ListN.{length};
+ghost use Rattle.model.specs.Sheets.{sheetBytes, sheetCount, sheetsOf};
 ghost use Rattle.model.specs.Refusals.{printSheets};
 ghost use Rattle.model.specs.Demand.{PrintPromise};
+ghost use Rattle.theory.specs.PlanFeasible.{Judged};
 ghost use Rattle.theory.specs.Outputs.{written};
+ghost use Rattle.judge.specs.Rows.{layoutOf, IsLayout};
+
+// The sheets of a feasible plan, into an output of their length.
+fn fill_sheets<'a>(
+    table: &[u8],
+    marks: &[u8],
+    rows: &'a [[u16; SLOTS]; ROWS],
+    weights: &'a [u32; SLOTS],
+    pages: u16,
+    out: &mut [u8],
+)
+    requires { ⌜ Judged (now table) (now marks)
+        × IsLayout (now table) (now marks) (layoutOf (now rows) (now weights) pages)
+        × (length (now out) ≡ sheetBytes * sheetCount pages) ⌝ }
+    ensures { λ r. ⌜ now (out .exit) ≡ sheetsOf (now (table .entry)) (now (marks .entry)) ⌝ }
+{
+    let limit = limit_of(table);
+    put_sheets(&rows[FIRSTS], &rows[LASTS], weights, pages, limit, out);
+}
 
 // Entry: the printer of leader sheets. The refusals of the judge, and 12. Any feasible plan is printed.
 pub fn print_sheets(table: &[u8], marks: &[u8], out: &mut [u8]) -> Answer
@@ -20,21 +46,9 @@ pub fn print_sheets(table: &[u8], marks: &[u8], out: &mut [u8]) -> Answer
         r (now (out .exit)) ⌝ }
 {
     let tree = read_tree(table);
-    let mut parents = [0u16; SLOTS];
-    let mut page = [0u16; SLOTS];
-    let mut firsts = [0u16; SLOTS];
-    let mut lasts = [0u16; SLOTS];
+    let mut rows = [[0u16; SLOTS]; ROWS];
     let mut weights = [0u32; SLOTS];
-    let judged = judge_pages(
-        tree,
-        table,
-        marks,
-        &mut parents,
-        &mut page,
-        &mut firsts,
-        &mut lasts,
-        &mut weights,
-    );
+    let judged = judge_pages(tree, table, marks, &mut rows, &mut weights);
     let pages = judged.pages;
     let answer = judged.answer;
     if answer.number != 0 {
@@ -44,6 +58,6 @@ pub fn print_sheets(table: &[u8], marks: &[u8], out: &mut [u8]) -> Answer
     if out.len() != size as usize {
         return refuse(12, size);
     }
-    put_sheets(&firsts, &lasts, &weights, pages, limit_of(table), out);
+    fill_sheets(table, marks, &rows, &weights, pages, out);
     answer
 }

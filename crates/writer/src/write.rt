@@ -6,6 +6,11 @@ use crate::records::put_nodes;
 use crate::records::put_pages;
 use crate::size::archive_bytes;
 use crate::size::first_edition;
+use judge::FIRSTS;
+use judge::LASTS;
+use judge::PAGE;
+use judge::PARENTS;
+use judge::ROWS;
 use judge::judge_pages;
 use model::Answer;
 use model::Edition;
@@ -37,27 +42,23 @@ fn fill_archive<'a>(
     e: Edition,
     table: &[u8],
     marks: &[u8],
-    parents: &[u16; SLOTS],
-    page: &[u16; SLOTS],
-    firsts: &'a [u16; SLOTS],
-    lasts: &'a [u16; SLOTS],
+    rows: &'a [[u16; SLOTS]; ROWS],
     weights: &'a [u32; SLOTS],
     pages: u16,
     out: &mut [u8],
 )
     requires { ⌜ InRoom e × Judged (now table) (now marks)
-        × IsLayout (now table) (now marks)
-        (layoutOf (now parents) (now page) (now firsts) (now lasts) (now weights) pages)
+        × IsLayout (now table) (now marks) (layoutOf (now rows) (now weights) pages)
         × (nodeCount (now table) ≤ e .most)
         × (length (now out) ≡ archiveBytes e pages (nodeCount (now table))) ⌝ }
     ensures { λ r. ⌜ now (out .exit) ≡ archiveOf e (now (table .entry)) (now (marks .entry)) ⌝ }
 {
     let nodes = node_count(table);
     let limit = limit_of(table);
-    let nexts = link_next(page, nodes);
+    let nexts = link_next(&rows[PAGE], nodes);
     put_head(e, nodes, limit, pages, out);
-    put_pages(e, firsts, lasts, weights, pages, out);
-    put_nodes(e, table, parents, &nexts, pages, out);
+    put_pages(e, &rows[FIRSTS], &rows[LASTS], weights, pages, out);
+    put_nodes(e, table, &rows[PARENTS], &nexts, pages, out);
 }
 
 // What is checked of the film, with 15 and 12, or else the judge's answer.
@@ -76,21 +77,9 @@ pub fn write_edition(e: Edition, tree: Answer, table: &[u8], marks: &[u8], out: 
     ensures { λ r. ⌜ written r (now (out .exit))
         ≡ writeFrom e (now (table .entry)) (now (marks .entry)) (now (out .entry)) tree ⌝ }
 {
-    let mut parents = [0u16; SLOTS];
-    let mut page = [0u16; SLOTS];
-    let mut firsts = [0u16; SLOTS];
-    let mut lasts = [0u16; SLOTS];
+    let mut rows = [[0u16; SLOTS]; ROWS];
     let mut weights = [0u32; SLOTS];
-    let judged = judge_pages(
-        tree,
-        table,
-        marks,
-        &mut parents,
-        &mut page,
-        &mut firsts,
-        &mut lasts,
-        &mut weights,
-    );
+    let judged = judge_pages(tree, table, marks, &mut rows, &mut weights);
     let pages = judged.pages;
     let verdict = judged.answer;
     if verdict.number != 0 {
@@ -102,18 +91,7 @@ pub fn write_edition(e: Edition, tree: Answer, table: &[u8], marks: &[u8], out: 
     if answer.number != 0 {
         return answer;
     }
-    fill_archive(
-        e,
-        table,
-        marks,
-        &parents,
-        &page,
-        &firsts,
-        &lasts,
-        &weights,
-        pages,
-        out,
-    );
+    fill_archive(e, table, marks, &rows, &weights, pages, out);
     answer
 }
 

@@ -19,7 +19,7 @@ use Rattle.judge.proofs.judge_marks.Tie as tie
 -- ---- The places that the needs below go back to
 
 abbrev start : tie.After-lay-pages → tie.Start
-start c = c .before .before .before .before .before .before .before .before
+start c = c .before .before .before .before .before
 
 abbrev laid : tie.After-limit-of → tie.After-lay-pages
 laid c = c .before .before

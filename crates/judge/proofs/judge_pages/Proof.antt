@@ -29,12 +29,12 @@ returns-2 c =
 
 judge-marks-requires : tie.Need-judge-marks-requires
 judge-marks-requires c κs =
-    let t = c .before .before .before .before .before .before .before in
+    let t = c .before .before .before .before in
     let start = t .before .before .before .before in (start .pre .0 (t .if1 .left), start .pre .1)
 
 returns-3 : tie.Need-returns-3
 returns-3 c =
-    let e = c .before .before .before .before .before .before in
+    let e = c .before .before .before in
     let n = e .before in (
       c .judge-marks .ensures .0
           ∙ marks-verdict _ _ (omega (arith, e .if2, n .node-count .ensures))

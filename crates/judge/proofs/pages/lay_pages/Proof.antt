@@ -1,12 +1,16 @@
 -- `judge::pages::lay_pages` meets its contract. Assumes nothing.
-use mathlib.Core.Path.{_≡_}
-use Prim.Native.Nat.{_+_, _-_, _≤_, _<_}
+use mathlib.Core.Path.{_≡_, _∙_, ap}
+use Prim.Native.Nat.{ℕ, _+_, _-_, _≤_, _<_}
 use native.Mathlib.Omega.{arith}
-use lib.ListN.{getD}
+use mathlib.Core.Bool.{_||_}
+use mathlib.Core.List.{List, []}
+use lib.ListN.{length, getD, set}
+use lib.Dec.{eqb}
+use Rattle.model.specs.Basics.{pick}
 use Rattle.model.specs.Table.{slots, nodeCount}
 use Rattle.model.specs.Plan.{pageOf}
 use Rattle.judge.proofs.Turns.{LayoutTo, layout-start, u-fits, next-fits, count-fits, home-fits, page-here}
-use Rattle.judge.proofs.Turns.{page-fits, weight-fits, layout-turn, layout-end}
+use Rattle.judge.proofs.Turns.{page-fits, weight-fits, rows-next, rows-turn, layout-turn, layout-end}
 use Rattle.judge.specs.Rows.{layoutOf}
 use denote.Ref.{now}
 use borrow.Author.Needs.{needs}
@@ -14,14 +18,11 @@ use Rattle.judge.proofs.pages.lay_pages.Statement.{statement}
 use Rattle.judge.proofs.pages.lay_pages.Tie as tie
 
 abbrev Inv-loop : tie.InvT-loop
-Inv-loop table marks parents₀ page₀ firsts₀ lasts₀ weights₀ nodes before₀ pages₀ bad₀ v₀ parents page firsts lasts
-    weights before pages bad v =
-    (v ≤ nodes) × LayoutTo table marks v before (layoutOf parents page firsts lasts weights pages) bad
+Inv-loop table marks rows₀ weights₀ nodes before₀ pages₀ bad₀ v₀ rows weights before pages bad v =
+    (v ≤ nodes) × LayoutTo table marks v before (layoutOf rows weights pages) bad × (length rows ≡ 4)
 
 abbrev μ-loop : tie.MeasureT-loop
-μ-loop table marks parents₀ page₀ firsts₀ lasts₀ weights₀ nodes before₀ pages₀ bad₀ v₀ parents page firsts lasts weights
-    before pages bad v =
-    nodes - v
+μ-loop table marks rows₀ weights₀ nodes before₀ pages₀ bad₀ v₀ rows weights before pages bad v = nodes - v
 
 -- ---- The places that the needs below go back to
 
@@ -58,6 +59,16 @@ home c =
     home-fits (start (d .before) .pre .0) (d .before .loop .inv .1) (less d) _ _ _ (g .mark-at .ensures)
     (c .before .before .choose2 .ensures) (c .choose4 .ensures)
 
+-- the rows before this turn
+abbrev rows : tie.After-choose5 Inv-loop μ-loop → List (List ℕ)
+rows c = head c .before .loop .rows
+
+next-rows : (c : tie.After-choose5 Inv-loop μ-loop) (a b d : List ℕ)
+    → (getD (set (rows c) 0 a) 1 [] ≡ getD (rows c) 1 [])
+    × (getD (set (set (rows c) 0 a) 1 b) 2 [] ≡ getD (rows c) 2 [])
+    × (getD (set (set (set (rows c) 0 a) 1 b) 2 d) 3 [] ≡ getD (rows c) 3 [])
+next-rows c = rows-next (rows c) (head c .before .loop .inv .2)
+
 -- the page of the node of the turn
 here : (c : tie.After-choose5 Inv-loop μ-loop)
     → let l = head c .before in
@@ -65,8 +76,12 @@ here : (c : tie.After-choose5 Inv-loop μ-loop)
 here c =
     let k = c .before .before in
     let d = head c in
+    let mark = marked k .mark-at .result in
+    let next = k .before .choose3 .result in
     page-here (start (d .before) .pre .0) (d .before .loop .inv .1) (less d) _ _ _ (marked k .mark-at .ensures)
-    (k .before .before .choose2 .ensures) (k .choose4 .ensures) _ _ (k .before .choose3 .ensures) (c .choose5 .ensures)
+    (k .before .before .choose2 .ensures) (k .choose4 .ensures) _ _ (k .before .choose3 .ensures)
+    (c .choose5 .ensures
+    ∙ ap (λ (l : List ℕ). pick (eqb mark 1) next (getD l (k .choose4 .result) 0)) (next-rows c _ [] [] .0))
 
 fits : (c : tie.After-choose5 Inv-loop μ-loop) → c .choose5 .result < slots
 fits c = let d = head c in page-fits (start (d .before) .pre .0) (d .before .loop .inv .1) (less d) _ (here c)
@@ -76,7 +91,7 @@ fits c = let d = head c in page-fits (start (d .before) .pre .0) (d .before .loo
 loop-holds : tie.Need-loop-holds Inv-loop μ-loop
 loop-holds c =
     let clear = c .before .before .before .pre .1 in
-    (omega arith, rw (clear .0, clear .1, clear .2, clear .3, clear .4) (layout-start _ _))
+    (omega arith, rw (clear .0, clear .1) (layout-start _ _), ap length (clear .0))
 
 cast-choose : tie.Need-cast-choose Inv-loop μ-loop
 cast-choose c = omega (arith, prior (c .before .before .before .before))
@@ -84,28 +99,28 @@ cast-choose c = omega (arith, prior (c .before .before .before .before))
 mul-choose : tie.Need-mul-choose Inv-loop μ-loop
 mul-choose c = omega (arith, prior (c .before .before .before .before))
 
-element-copy-out-choose : tie.Need-element-copy-out-choose Inv-loop μ-loop
-element-copy-out-choose c = omega (arith, prior (c .before .before .before .before))
+index-2-choose : tie.Need-index-2-choose Inv-loop μ-loop
+index-2-choose c = omega (arith, prior (c .before .before .before .before))
 
 add-choose : tie.Need-add-choose Inv-loop μ-loop
 add-choose c =
     let d = c .before .before .before .before .before .before in
     omega (arith, count-fits (start (d .before) .pre .0) (d .before .loop .inv .1) (less d))
 
-element-copy-out-choose-2 : tie.Need-element-copy-out-choose-2 Inv-loop μ-loop
-element-copy-out-choose-2 c = omega (arith, home c)
+index-2-choose-2 : tie.Need-index-2-choose-2 Inv-loop μ-loop
+index-2-choose-2 c = omega (arith, home c)
 
-element-copy-out-choose-3 : tie.Need-element-copy-out-choose-3 Inv-loop μ-loop
-element-copy-out-choose-3 c = omega (arith, fits c)
+index-2-choose-3 : tie.Need-index-2-choose-3 Inv-loop μ-loop
+index-2-choose-3 c = omega (arith, fits c)
 
-element-write-firsts : tie.Need-element-write-firsts Inv-loop μ-loop
-element-write-firsts c = omega (arith, fits (c .before .before))
+index-2-rows-3 : tie.Need-index-2-rows-3 Inv-loop μ-loop
+index-2-rows-3 c = omega (arith, fits (c .before .before))
 
-element-copy-out-choose-4 : tie.Need-element-copy-out-choose-4 Inv-loop μ-loop
-element-copy-out-choose-4 c = omega (arith, fits (c .before .before))
+index-2-choose-4 : tie.Need-index-2-choose-4 Inv-loop μ-loop
+index-2-choose-4 c = omega (arith, fits (c .before .before))
 
-element-write-lasts : tie.Need-element-write-lasts Inv-loop μ-loop
-element-write-lasts c = omega (arith, fits (paged c))
+index-2-rows-4 : tie.Need-index-2-rows-4 Inv-loop μ-loop
+index-2-rows-4 c = omega (arith, fits (paged c))
 
 element-copy-out-weights : tie.Need-element-copy-out-weights Inv-loop μ-loop
 element-copy-out-weights c = omega (arith, fits (paged c))
@@ -133,18 +148,33 @@ loop-again : tie.Need-loop-again Inv-loop μ-loop
 loop-again c =
     let w = c .before in
     let lasts = w .before .before in
+    let firsts = lasts .before .before in
     let p = paged lasts in
     let k = p .before .before in
     let parent = k .before .before in
     let bad = parent .before .before in
     let g = marked k in
-    let d = g .before in (
+    let d = g .before in
+    let l = d .before .loop in
+    let v = l .v + 1 in
+    let q = p .choose5 .result in
+    let mark = g .mark-at .result in
+    let one : List ℕ = set (getD (l .rows) 0 []) v (parent .choose2 .result) in
+    let two : List ℕ = set (getD (set (l .rows) 0 one) 1 []) v q in
+    let three : List ℕ = set (getD (set (set (l .rows) 0 one) 1 two) 2 []) q (firsts .choose6 .result) in
+    let next = next-rows p one two three in
+    let turn =
+    rows-turn (l .rows) (l .inv .2) v q (parent .choose2 .result) (firsts .choose6 .result) (lasts .choose7 .result)
+    (set (l .weights) q (getD (l .weights) q 0 + w .weight-at .result)) (k .before .choose3 .result) in (
       omega arith,
-      layout-turn (start (d .before) .pre .0) (d .before .loop .inv .1) (less d) _ _ _ _ _ _ _ _ _ _ _
+      rw (turn .1)
+          (layout-turn (start (d .before) .pre .0) (l .inv .1) (less d) _ _ _ _ _ _ _ _ _ _ _
           (g .mark-at .ensures) (bad .before .before .mark-at2 .ensures) (bad .before .is-good .ensures)
           (bad .choose .ensures) (parent .choose2 .ensures) (k .before .choose3 .ensures) (here p)
-          (lasts .before .before .choose6 .ensures)
-          (lasts .choose7 .ensures) (w .weight-at .ensures) (c .next-at .ensures),
+          (firsts .choose6 .ensures ∙ ap (λ (l : List ℕ). pick (eqb mark 1) v (getD l q 0)) (next .1))
+          (lasts .choose7 .ensures ∙ ap (λ (l : List ℕ). pick (eqb mark 1 || eqb mark 2) v (getD l q 0)) (next .2))
+          (w .weight-at .ensures) (c .next-at .ensures)),
+      turn .0,
     )
 
 returns : tie.Need-returns Inv-loop μ-loop
@@ -155,11 +185,13 @@ lay-pages-spec =
     tie.close
     (tie.spec Inv-loop μ-loop (λ c κs. search needs) loop-holds (λ c. search needs) (λ c. search needs)
     (λ c κs. search needs) (λ c. search needs) (λ c. search needs) (λ c κs. search needs) (λ c κs. search needs)
-    (λ c κs. search needs) (λ c. search needs) cast-choose mul-choose element-copy-out-choose (λ c κs. search needs)
-    (λ c. search needs) (λ c. search needs) add-choose (λ c κs. search needs) (λ c κs. search needs)
-    (λ c. search needs) (λ c. search needs) element-copy-out-choose-2 (λ c κs. search needs) (λ c. search needs)
-    (λ c. search needs) (λ c. search needs) (λ c. search needs) element-copy-out-choose-3 (λ c κs. search needs)
-    (λ c. search needs) element-write-firsts (λ c. search needs) element-copy-out-choose-4 (λ c κs. search needs)
-    (λ c. search needs) element-write-lasts (λ c. search needs) element-copy-out-weights (λ c κs. search needs)
-    (λ c. search needs) add-weights (λ c. search needs) element-write-weights (λ c κs. search needs)
-    (λ c. search needs) (λ c. search needs) array-write-before (λ c. search needs) loop-again returns)
+    (λ c κs. search needs) (λ c. search needs) cast-choose mul-choose (λ c. search needs) index-2-choose
+    (λ c κs. search needs) (λ c. search needs) (λ c. search needs) (λ c. search needs) add-choose
+    (λ c κs. search needs) (λ c κs. search needs) (λ c. search needs) (λ c. search needs) (λ c. search needs)
+    index-2-choose-2 (λ c κs. search needs) (λ c. search needs) (λ c. search needs) (λ c. search needs)
+    (λ c. search needs) (λ c. search needs) (λ c. search needs) index-2-choose-3 (λ c κs. search needs)
+    (λ c. search needs) (λ c. search needs) index-2-rows-3 (λ c. search needs) (λ c. search needs) index-2-choose-4
+    (λ c κs. search needs) (λ c. search needs) (λ c. search needs) index-2-rows-4 (λ c. search needs)
+    element-copy-out-weights (λ c κs. search needs) (λ c. search needs) add-weights (λ c. search needs)
+    element-write-weights (λ c κs. search needs) (λ c. search needs) (λ c. search needs) array-write-before
+    (λ c. search needs) loop-again returns)

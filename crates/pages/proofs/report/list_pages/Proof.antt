@@ -4,19 +4,20 @@ use Prim.Native.Nat.{_-_, _≤_}
 use native.Mathlib.Omega.{arith}
 use lib.ListN.{length}
 use Rattle.model.specs.Table.{maxNodes}
+use Rattle.judge.specs.Rows.{layoutOf}
 use Rattle.pages.specs.Text.{reportBytes}
-use Rattle.pages.specs.Listing.{pagesOf, lineOf}
+use Rattle.pages.specs.Listing.{lineOf}
 use Rattle.pages.proofs.Listed.{Listed, listed-start, listed-turn, listed-end}
 use borrow.Author.Needs.{needs}
 use Rattle.pages.proofs.report.list_pages.Statement.{statement}
 use Rattle.pages.proofs.report.list_pages.Tie as tie
 
 abbrev Inv-loop : tie.InvT-loop
-Inv-loop firsts lasts weights pages limit out₀ root at₀ p₀ out at p =
-    (pages ≤ maxNodes) × (reportBytes ≤ length out₀) × Listed (pagesOf firsts lasts weights pages) limit out₀ p at out
+Inv-loop rows weights pages limit out₀ root at₀ p₀ out at p =
+    (pages ≤ maxNodes) × (reportBytes ≤ length out₀) × Listed (layoutOf rows weights pages) limit out₀ p at out
 
 abbrev μ-loop : tie.MeasureT-loop
-μ-loop firsts lasts weights pages limit out₀ root at₀ p₀ out at p = pages - p
+μ-loop rows weights pages limit out₀ root at₀ p₀ out at p = pages - p
 
 loop-holds : tie.Need-loop-holds Inv-loop μ-loop
 loop-holds c =
@@ -63,4 +64,5 @@ list-pages-spec =
     tie.close
     (tie.spec Inv-loop μ-loop (λ c. search needs) (λ c κs. search needs) loop-holds (λ c. search needs)
     (λ c. search needs) (λ c. search needs) (λ c. search needs) (λ c. search needs) (λ c. search needs)
-    (λ c. search needs) (λ c. search needs) page-line-requires (λ c. search needs) loop-again same-length returns)
+    (λ c. search needs) (λ c. search needs) (λ c. search needs) (λ c. search needs) page-line-requires
+    (λ c. search needs) loop-again same-length returns)

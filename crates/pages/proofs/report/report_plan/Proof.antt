@@ -8,7 +8,7 @@ use Rattle.theory.specs.Appended.{filled-first}
 use Rattle.theory.specs.PlanFeasible.{Judged, feasible-judged}
 use Rattle.theory.specs.PromisePlanner.{best-lent}
 use Rattle.judge.specs.Rows.{Layout, layoutOf, IsLayout}
-use Rattle.pages.specs.Listing.{pagesOf, pagesLines, pages-most, layout-lines, lines-refused, lines-planned}
+use Rattle.pages.specs.Listing.{layoutLines, pages-most, layout-lines, lines-refused, lines-planned}
 use borrow.Author.Needs.{needs}
 use Rattle.pages.proofs.report.report_plan.Statement.{statement}
 use Rattle.pages.proofs.report.report_plan.Tie as tie
@@ -41,12 +41,11 @@ module _ (e : tie.Else1) where
 
 module _ (l : tie.After-lay-pages) where
   abbrev e : tie.Else1
-  e = l .before .before .before .before .before .before .before
+  e = l .before .before .before .before
 
   abbrev found : Layout
   found =
-      let a = l .lay-pages .last .1 .1 in
-      layoutOf (a .0) (a .1 .0) (a .1 .1 .0) (a .1 .1 .1 .0) (a .1 .1 .1 .1 .0) (l .lay-pages .result .pages)
+      let a = l .lay-pages .last .1 .1 in layoutOf (a .0) (a .1 .0) (l .lay-pages .result .pages)
 
   layout : IsLayout (table e) (marks e) found
   layout = l .lay-pages .ensures .0
@@ -66,20 +65,19 @@ returns c =
 
 lay-pages-requires : tie.Need-lay-pages-requires
 lay-pages-requires c κs =
-    (judged (c .before .before .before .before .before .before) .tree, (refl, refl, refl, refl, refl))
+    (judged (c .before .before .before) .tree, (refl, refl))
 
 list-pages-requires : tie.Need-list-pages-requires
 list-pages-requires c κs =
-    let l = c .before .before .before .before .before in (pages-most (judged (e l)) (layout l), start (p (e l)) .pre)
+    let l = c .before .before .before .before in (pages-most (judged (e l)) (layout l), start (p (e l)) .pre)
 
 returns-2 : tie.Need-returns-2
 returns-2 c =
     let f = c .before .before in
     let k = f .before .before in
-    let l = k .before .before .before .before in
+    let l = k .before .before .before in
     let a = p (e l) .plan-best in
-    let lines = ap (pagesLines (pagesOf (found l .firsts) (found l .lasts) (found l .weights) (found l .pages)))
-    (k .limit-of .ensures) ∙ layout-lines (judged (e l)) (layout l)
+    let lines = ap (layoutLines (found l)) (k .limit-of .ensures) ∙ layout-lines (judged (e l)) (layout l)
     ∙ lines-planned (table (e l)) (a .result) _ _ (a .ensures .0) (e l .if1 .left) in
     (rw lines at (f .list-pages .ensures .0), f .list-pages .ensures .1)
 

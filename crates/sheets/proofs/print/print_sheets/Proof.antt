@@ -1,11 +1,10 @@
 -- `sheets::print::print_sheets` meets its contract. Assumes nothing.
 use mathlib.Core.List.{List}
-use mathlib.Core.Path.{_≡_, refl, sym, ap, subst, _∙_}
+use mathlib.Core.Path.{_≡_, refl, sym, ap, _∙_}
 use Prim.Native.Nat.{ℕ, _*_}
 use native.Mathlib.Omega.{arith}
-use Rattle.model.specs.Table.{limitOf}
 use Rattle.model.specs.Plan.{pageCount}
-use Rattle.model.specs.Sheets.{sheetBytes, sheetCount, sheetsBy, sheetsOf}
+use Rattle.model.specs.Sheets.{sheetBytes, sheetCount}
 use Rattle.model.specs.Refusals.{refused}
 use Rattle.model.specs.Demand.{PrintPromise}
 use Rattle.model.specs.declared.Answer.{Answer}
@@ -15,8 +14,7 @@ use Rattle.theory.specs.PlanFeasible.{Judged}
 use Rattle.theory.specs.Outputs.{written, promised, judged-from, output-refused, output-stopped, output-done}
 use Rattle.theory.specs.PromiseSheets.{sheet-short, sheet-long, print-entry, print-promise}
 use Rattle.judge.specs.Rows.{Layout, layoutOf, IsLayout}
-use Rattle.sheets.specs.Lines.{pageIn, Printable}
-use Rattle.sheets.specs.LayoutSheets.{printable, layout-sheets}
+use Rattle.sheets.specs.LayoutSheets.{printable}
 use borrow.Author.Needs.{needs}
 use Rattle.sheets.proofs.print.print_sheets.Statement.{statement}
 use Rattle.sheets.proofs.print.print_sheets.Tie as tie
@@ -27,7 +25,7 @@ abbrev start : tie.After-read-tree → tie.Start
 start r = r .before .before .before .before
 
 abbrev read : tie.After-judge-pages → tie.After-read-tree
-read j = j .before .before .before .before .before .before
+read j = j .before .before .before
 
 facts : (r : tie.After-read-tree) → r .read-tree .result .number ≡ 0 → AcceptedFacts (start r .args .table .now)
 facts r z = tree-facts _ (sym (ap (λ (x : Answer). x .number) (r .read-tree .ensures .0)) ∙ z)
@@ -35,8 +33,7 @@ facts r z = tree-facts _ (sym (ap (λ (x : Answer). x .number) (r .read-tree .en
 -- the layout that it left
 abbrev found : tie.After-judge-pages → Layout
 found j =
-    let a = j .judge-pages .last .1 .1 .1 in
-    layoutOf (a .0) (a .1 .0) (a .1 .1 .0) (a .1 .1 .1 .0) (a .1 .1 .1 .1 .0) (j .judge-pages .result .pages)
+    let a = j .judge-pages .last .1 .1 .1 in layoutOf (a .0) (a .1 .0) (j .judge-pages .result .pages)
 
 module _ (p : tie.Else1) where
   abbrev j : tie.After-judge-pages
@@ -61,20 +58,11 @@ size-is : (b : tie.After-sheet-bytes)
     → b .sheet-bytes .result ≡ sheetBytes * sheetCount (pageCount (table (b .before)) (marks (b .before)))
 size-is b = b .sheet-bytes .ensures ∙ ap (λ n. sheetBytes * sheetCount n) (layout (b .before) .pages-are)
 
--- the sheets of the layout are the plan's
-sheets-are : (p : tie.Else1) (limit : ℕ) → limit ≡ limitOf (table p)
-    → sheetsBy (found (j p) .pages) limit (pageIn (found (j p) .firsts) (found (j p) .lasts) (found (j p) .weights))
-    ≡ sheetsOf (table p) (marks p)
-sheets-are p limit is =
-    let l = found (j p) in
-    ap (λ k. sheetsBy (l .pages) k (pageIn (l .firsts) (l .lasts) (l .weights))) is
-    ∙ layout-sheets (judged p) (layout p)
-
 -- ---- The needs
 
 judge-pages-requires : tie.Need-judge-pages-requires
 judge-pages-requires c κs =
-    (facts (c .before .before .before .before .before), (refl, refl, refl, refl, refl))
+    (facts (c .before .before), (refl, refl))
 
 returns : tie.Need-returns
 returns c =
@@ -101,26 +89,21 @@ returns-2 c =
     (λ z. omega arith))
     (read (j p) .read-tree .ensures .0))
 
-put-sheets-requires : tie.Need-put-sheets-requires
-put-sheets-requires c κs =
-    let l = c .before in
-    let e = l .before .before .before .before in
-    let p = e .before .before in (
-      subst (λ k. Printable (found (j p) .weights) (found (j p) .pages) k) (sym (l .limit-of .ensures))
-          (printable (judged p) (layout p)),
-      e .if2 .left ∙ e .before .sheet-bytes .ensures,
-    )
+fill-sheets-requires : tie.Need-fill-sheets-requires
+fill-sheets-requires c κs =
+    let e = c .before .before .before in
+    let b = e .before in
+    (judged (b .before), layout (b .before), e .if2 .left ∙ b .sheet-bytes .ensures)
 
 returns-3 : tie.Need-returns-3
 returns-3 c =
     let f = c .before .before in
-    let l = f .before .before in
-    let e = l .before .before .before .before in
+    let e = f .before .before .before .before in
     let b = e .before in
     let p = b .before in
     promised (PrintPromise (table p) (marks p) (out p)) (print-promise (table p) (marks p) (out p))
     (print-entry (table p) (marks p) (out p) _
-    (ap (written _) (f .put-sheets .ensures ∙ sheets-are p _ (l .limit-of .ensures))
+    (ap (written _) (f .fill-sheets .ensures)
     ∙ output-done (table p) (marks p) _ (out p) _ _ _ (j p .judge-pages .ensures .0) (facts (read (j p)))
     (p .if1 .left) (sheet-long (table p) (marks p) (out p) (e .if2 .left ∙ size-is b)))
     (read (j p) .read-tree .ensures .0))
@@ -129,4 +112,4 @@ pub print-sheets-spec : {M : Type 1} → statement M
 print-sheets-spec =
     tie.close
     (tie.spec (λ c κs. search needs) judge-pages-requires returns sheet-bytes-requires (λ c. search needs)
-    (λ c κs. search needs) returns-2 (λ c κs. search needs) put-sheets-requires (λ c. search needs) returns-3)
+    (λ c κs. search needs) returns-2 fill-sheets-requires (λ c. search needs) returns-3)

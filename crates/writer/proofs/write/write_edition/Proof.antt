@@ -28,7 +28,7 @@ module _ (f : tie.After-check-film) where
   judge = accepted .before .before .before
 
   abbrev start : tie.Start
-  start = judge .before .before .before .before .before .before .before .before .before
+  start = judge .before .before .before .before .before .before
 
   abbrev edition : Edition
   edition = start .args .e
@@ -45,8 +45,7 @@ module _ (f : tie.After-check-film) where
   -- the layout that the judge left
   abbrev found : Layout
   found =
-      let a = judge .judge-pages .last .1 .1 .1 in
-      layoutOf (a .0) (a .1 .0) (a .1 .1 .0) (a .1 .1 .1 .0) (a .1 .1 .1 .1 .0) (judge .judge-pages .result .pages)
+      let a = judge .judge-pages .last .1 .1 .1 in layoutOf (a .0) (a .1 .0) (judge .judge-pages .result .pages)
 
   layout : IsLayout table marks found
   layout = judge .judge-pages .ensures .1 (accepted .if1 .left)
@@ -73,11 +72,11 @@ module _ (f : tie.After-check-film) where
 
 judge-pages-requires : tie.Need-judge-pages-requires
 judge-pages-requires c κs =
-    (c .before .before .before .before .before .before .before .before .pre .1, (refl, refl, refl, refl, refl))
+    (c .before .before .before .before .before .pre .1, (refl, refl))
 
 returns : tie.Need-returns
 returns c =
-    let a = c .before .before .before .before .before .before .before .before .before .before .before .before .args in
+    let a = c .before .before .before .before .before .before .before .before .before .args in
     output-refused (a .table .now) (a .marks .now) _ (a .out .now) _ (a .tree) _
     (c .before .before .before .judge-pages .ensures .0) (c .if1 .taken)
 
@@ -89,7 +88,7 @@ returns-2 c =
 
 fill-archive-requires : tie.Need-fill-archive-requires
 fill-archive-requires c κs =
-    let e = c .before .before .before .before .before .before in
+    let e = c .before .before .before in
     let f = e .before .before in
     let fits = film-few (edition f) (table f) (marks f) (out f) (checked f (e .if2 .left)) in (
       start f .pre .0,
@@ -101,7 +100,7 @@ fill-archive-requires c κs =
 
 returns-3 : tie.Need-returns-3
 returns-3 c =
-    let e = c .before .before .before .before .before .before .before .before .before in
+    let e = c .before .before .before .before .before .before in
     let f = e .before .before in
     ap₂ written (given f (e .if2 .left)) (c .before .before .fill-archive .ensures)
     ∙ output-done (table f) (marks f) _ (out f) _ _ _ (judge f .judge-pages .ensures .0) (start f .pre .1)
