@@ -62,7 +62,7 @@ extern "C" {
 #define BALDUQEN_ARCHIVE_NODES 1024
 
 /* The bytes of stack that a call uses at most, on x86-64. As measured: balduqen_read_archive 66 KiB,
- * the planners 47, balduqen_write_archive 33, balduqen_print_sheets 29, the judge 29,
+ * the planners 55, balduqen_write_archive 33, balduqen_print_sheets 29, the judge 29,
  * balduqen_read_tree 5. */
 #define BALDUQEN_STACK 98304
 
