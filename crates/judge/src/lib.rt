@@ -100,8 +100,7 @@ fn judge_marks(
     rows: &mut [[u16; SLOTS]; ROWS],
     weights: &mut [u32; SLOTS],
 ) -> Judgement
-    requires { ⌜ AcceptedFacts (now table)
-        × Cleared (now rows) (now weights) ⌝ }
+    requires { ⌜ AcceptedFacts (now table) × Cleared (now rows) (now weights) ⌝ }
     ensures { λ r. ⌜ r .answer ≡ answerOf (verdictOf (now (table .entry)) (now (marks .entry))) ⌝ }
     ensures { λ r. ⌜ IsLayout (now (table .entry)) (now (marks .entry))
         (layoutOf (now (rows .exit)) (now (weights .exit)) (r .pages)) ⌝ }
@@ -125,8 +124,7 @@ pub fn judge_pages(
     rows: &mut [[u16; SLOTS]; ROWS],
     weights: &mut [u32; SLOTS],
 ) -> Judgement
-    requires { ⌜ (tree .number ≡ 0 → AcceptedFacts (now table))
-        × Cleared (now rows) (now weights) ⌝ }
+    requires { ⌜ (tree .number ≡ 0 → AcceptedFacts (now table)) × Cleared (now rows) (now weights) ⌝ }
     ensures { λ r. ⌜ r .answer ≡ andThen tree (marksAnswer (now (table .entry)) (now (marks .entry))) ⌝ }
     ensures { λ r. ⌜ (r .answer .number ≡ 0
         → IsLayout (now (table .entry)) (now (marks .entry))
@@ -142,7 +140,7 @@ pub fn judge_pages(
     judge_marks(table, marks, rows, weights)
 }
 
-// The same for who wants the answer alone.
+// The same, for whoever wants the answer alone.
 pub fn judge_answer(tree: Answer, table: &[u8], marks: &[u8]) -> Answer
     requires { ⌜ (tree .number ≡ 0 → AcceptedFacts (now table)) ⌝ }
     ensures { λ r. ⌜ r ≡ andThen tree (marksAnswer (now (table .entry)) (now (marks .entry))) ⌝ }

@@ -52,8 +52,7 @@ pub fn lay_pages(
     rows: &mut [[u16; SLOTS]; ROWS],
     weights: &mut [u32; SLOTS],
 ) -> Laid
-    requires { ⌜ AcceptedFacts (now table)
-        × Cleared (now rows) (now weights) ⌝ }
+    requires { ⌜ AcceptedFacts (now table) × Cleared (now rows) (now weights) ⌝ }
     ensures { λ r. ⌜ IsLayout (now (table .entry)) (now (marks .entry))
         (layoutOf (now (rows .exit)) (now (weights .exit)) (r .pages)) ⌝ }
     ensures { λ r. ⌜ when (not (eqb (r .bad) 0)) (r .bad) ≡ badMark (now (table .entry)) (now (marks .entry)) ⌝ }

@@ -21,13 +21,13 @@ use table::place_if;
 use table::words::limit_of;
 use table::words::node_count;
 ghost use mathlib.Core.Path.{_≡_};
-ghost use lib.ListN.{length};
-ghost use Rattle.model.specs.Table.{nodeCount};
-ghost use Rattle.model.specs.Archive.{firstEdition, archiveOf, archiveBytes};
 ghost use mathlib.Core.Bool.{not};
-ghost use Prim.Native.Nat.{_≤_, _<_};
+ghost use Prim.Native.Nat.{_≤_};
+ghost use lib.ListN.{length};
 ghost use lib.Dec.{eqb, ltb};
 ghost use Rattle.model.specs.Basics.{when, atPlace};
+ghost use Rattle.model.specs.Table.{nodeCount};
+ghost use Rattle.model.specs.Archive.{firstEdition, archiveOf, archiveBytes};
 ghost use Rattle.model.specs.Refusals.{refused, writeArchive};
 ghost use Rattle.model.specs.Demand.{WritePromise};
 ghost use Rattle.theory.specs.TableFacts.{AcceptedFacts};
@@ -81,18 +81,18 @@ pub fn write_edition(e: Edition, tree: Answer, table: &[u8], marks: &[u8], out: 
     let mut weights = [0u32; SLOTS];
     let judged = judge_pages(tree, table, marks, &mut rows, &mut weights);
     let pages = judged.pages;
-    let verdict = judged.answer;
-    if verdict.number != 0 {
-        return verdict;
-    }
-    let nodes = node_count(table);
-    let size = archive_bytes(e, pages, nodes);
-    let answer = check_film(e, nodes, size, out.len(), verdict);
+    let answer = judged.answer;
     if answer.number != 0 {
         return answer;
     }
+    let nodes = node_count(table);
+    let size = archive_bytes(e, pages, nodes);
+    let checked = check_film(e, nodes, size, out.len(), answer);
+    if checked.number != 0 {
+        return checked;
+    }
     fill_archive(e, table, marks, &rows, &weights, pages, out);
-    answer
+    checked
 }
 
 // Entry: the archive writer. The refusals of the judge, 15 and 12. The archive of a best plan is the lowest there is.
