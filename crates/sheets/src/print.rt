@@ -49,15 +49,14 @@ pub fn print_sheets(table: &[u8], marks: &[u8], out: &mut [u8]) -> Answer
     let mut rows = [[0u16; SLOTS]; ROWS];
     let mut weights = [0u32; SLOTS];
     let judged = judge_pages(tree, table, marks, &mut rows, &mut weights);
-    let pages = judged.pages;
     let answer = judged.answer;
     if answer.number != 0 {
         return answer;
     }
-    let size = sheet_bytes(pages);
+    let size = sheet_bytes(judged.pages);
     if out.len() != size as usize {
         return refuse(12, size);
     }
-    fill_sheets(table, marks, &rows, &weights, pages, out);
+    fill_sheets(table, marks, &rows, &weights, judged.pages, out);
     answer
 }
