@@ -1,33 +1,46 @@
--- Document 01, 'The archive': the bytes of a tree and a plan, and the tree and the plan that an archive's bytes tell.
--- The layout is a description of the edition, which writing and reading share; document 01 has one edition.
+-- Document 01, 'The archive', and document 02, Six: the bytes of a tree and a plan, and the tree and the plan that an
+-- archive's bytes tell. The layout is a description of the edition, which writing and reading share: document 01 has the
+-- first edition, and document 02 the second.
 use Prim.Native.Nat.{ℕ, _+_, _-_, _*_}
-use mathlib.Core.Bool.{Bool, _&&_}
+use mathlib.Core.Bool.{Bool, true, false, _&&_}
 use mathlib.Core.List.{List, [], _∷_, _++_}
+use lib.ListN.{take, drop}
 use lib.Dec.{eqb, ltb, leb}
 use Rattle.model.specs.Basics.{pick, atPlace, countTo, firstTo, listTo}
 use Rattle.model.specs.Table.{wordAt, bytesOf, nodeCount, limitOf, weightAt, labelAt}
-use Rattle.model.specs.Plan.{stays, begins, continues, parentAt, pageOf, pageCount, pageWeight}
+use Rattle.model.specs.Plan.{stays, begins, continues, parentAt, pageOf, pageCount, pageWeight, pageNodes}
 use Rattle.model.specs.Runs.{pageRun}
 use Rattle.model.specs.declared.Edition.{Edition}
 
--- the archive of document 01: N, K, P; four words a page; at most 1,024 nodes, by which film decks size their memory
+-- the archive of document 01: N, K, P; four words a page; at most 1,024 nodes, by which film decks size their memory;
+-- film written before document 02, One, may have labels 0
 abbrev pub firstEdition : Edition
-firstEdition = record { head = 3; page = 4; most = 1024 }
+firstEdition = record { head = 3; page = 4; most = 1024; filed = false }
+
+-- that of document 02, Six: 8,194, N, K, P; five words a page; at most 2,048 nodes; no label 0
+abbrev pub secondEdition : Edition
+secondEdition = record { head = 4; page = 5; most = 2048; filed = true }
 
 -- ---- Writing
 
--- the head, whose last three words are N, K and P (page count)
+-- the word that tells the second edition, which is above the N of every archive of the first
+abbrev pub editionWord : ℕ
+editionWord = 8194
+
+-- the head: of the edition's word, N, K and P (page count), as many of the last as the edition has
 unfoldable pub headWords : Edition → List ℕ → List ℕ → List ℕ
-headWords e t m = nodeCount t ∷ limitOf t ∷ pageCount t m ∷ []
+headWords e t m = drop (4 - e .head) (editionWord ∷ nodeCount t ∷ limitOf t ∷ pageCount t m ∷ [])
 
 -- p + 1, or zero after the last
 unfoldable pub nextPage : ℕ → ℕ → ℕ
 nextPage p pages = pick (ltb p pages) (p + 1) 0
 
--- a page record: first node, last sibling of the run, weight, next page
+-- a page record: of first node, last sibling of the run, weight, next page and number of nodes, as many of the first as
+-- the edition has
 unfoldable pub pageRecord : Edition → List ℕ → List ℕ → ℕ → List ℕ
 pageRecord e t m p =
-    pageRun t m p .first ∷ pageRun t m p .last ∷ pageWeight t m p ∷ nextPage p (pageCount t m) ∷ []
+    take (e .page)
+    (pageRun t m p .first ∷ pageRun t m p .last ∷ pageWeight t m p ∷ nextPage p (pageCount t m) ∷ pageNodes t m p ∷ [])
 
 -- the next node of the same page in rising order, or zero
 unfoldable pub nextOnPage : List ℕ → List ℕ → ℕ → ℕ
@@ -41,7 +54,7 @@ unfoldable pub archiveOf : Edition → List ℕ → List ℕ → List ℕ
 archiveOf e t m =
     bytesOf (headWords e t m ++ listTo (pageCount t m) (pageRecord e t m) ++ listTo (nodeCount t) (nodeRecord t m))
 
--- 6 + 8 × P + 8 × N for the first edition
+-- 6 + 8 × P + 8 × N for the first edition, 8 + 10 × P + 8 × N for the second
 abbrev pub archiveBytes : Edition → ℕ → ℕ → ℕ
 archiveBytes e pages nodes = 2 * e .head + 2 * e .page * pages + 8 * nodes
 

@@ -1,10 +1,11 @@
 -- Document 01, 'Trees on both sides' and the examples of 'What is refused', computed from the definitions: one result
 -- for the starred cases and one for the refusals; one for the quick planners, one for trees with unfiled lots, one for
--- trees with notes that weigh nothing, one for the limits of nodes and two for leader sheets.
+-- trees with notes that weigh nothing, one for the limits of nodes, one for edition 2 and film that is converted, and
+-- two for leader sheets.
 -- Assumes nothing.
 use mathlib.Core.Path.{_≡_, refl}
 use Prim.Native.Nat.{ℕ, _-_}
-use mathlib.Core.Bool.{Bool, true, not, _&&_}
+use mathlib.Core.Bool.{Bool, true, false, not, _&&_}
 use mathlib.Core.List.{List, [], _∷_, _++_}
 use lib.ListN.{replicate}
 use lib.Dec.{eqb}
@@ -21,13 +22,13 @@ use Rattle.model.specs.Basics.{listTo, every, sameList}
 use Rattle.model.specs.Table.{bytesOf, nodeCount, limitOf}
 use Rattle.model.specs.Runs.{Run, holds, withinLimit, runsOf, runCount, rootWeight}
 use Rattle.model.specs.Steps.{Child, stopsAt}
-use Rattle.model.specs.Archive.{firstEdition, archiveOf}
+use Rattle.model.specs.Archive.{firstEdition, secondEdition, archiveOf}
 use Rattle.model.specs.Decimal.{bytes}
 use Rattle.model.specs.Sheets.{sheetCount, lineWith, perCent, lineAt, numberIn}
 use Rattle.model.specs.Refusals.{refusedForWeight, readTree, judgePlan, planBest, planLevel, planSingle}
-use Rattle.model.specs.Refusals.{planPair, writeArchive, writeUnfiled, Written, readArchive, scratchWords}
+use Rattle.model.specs.Refusals.{planPair, writeArchive, writeFilm, Written, readArchive, scratchWords}
 use Rattle.model.specs.Refusals.{Planned, planRightmost, planDepthFirst, printSheets}
-use Rattle.model.specs.Refusals.{manyNodes, firstOf, accepted}
+use Rattle.model.specs.Refusals.{manyNodes, firstOf, accepted, convertArchive}
 use Rattle.model.specs.declared.Beside.{Beside}
 use Rattle.model.specs.declared.Beside.the-variants.{Given, Nothing}
 use Rattle.model.specs.declared.Verdict.the-variants.{Feasible, Failed}
@@ -68,7 +69,7 @@ unfolding Basics.pick Basics.when Basics.atPlace Basics.sumTo Basics.countTo Bas
     Basics.listTo Basics.every Basics.sameList
     Table.wordAt Table.bytesOf Table.fieldAt Table.walkFrom Table.walkPlace Table.chainFrom Table.treeOf
     Plan.prevAt Plan.ownerAt Plan.parentFrom Plan.parentAt Plan.markAt Plan.inRun Plan.goodMark Plan.pageFrom
-    Plan.pageOf Plan.pageCount Plan.pageWeight Plan.badMark Plan.heavyPage Plan.verdictOf Plan.runLastFrom
+    Plan.pageOf Plan.pageCount Plan.pageWeight Plan.pageNodes Plan.badMark Plan.heavyPage Plan.verdictOf Plan.runLastFrom
     Plan.runLast
     Runs.comesFrom Runs.comesAfter Runs.isRun Runs.isMember Runs.countOf Runs.holds Runs.runWith Runs.homeFrom
     Runs.homeOf Runs.runWeight Runs.withinLimit Runs.runsOf Runs.pageRun
@@ -94,9 +95,9 @@ unfolding Basics.pick Basics.when Basics.atPlace Basics.sumTo Basics.countTo Bas
     Refusals.formChecks Refusals.treeChecks Refusals.planChecks Refusals.judgeChecks Refusals.writeChecks
     Refusals.printChecks
     Refusals.passes Refusals.without Refusals.soundForm Refusals.acceptedTree Refusals.refusedForWeight
-    Refusals.feasiblePlan Refusals.feasibleUnfiled Refusals.firstOf Refusals.readTree Refusals.judgePlan
-    Refusals.planned Refusals.writeChecked Refusals.writeArchive Refusals.writeUnfiled Refusals.isArchive
-    Refusals.readChecks Refusals.readArchive Refusals.printSheets
+    Refusals.feasiblePlan Refusals.feasibleFilm Refusals.firstOf Refusals.readTree Refusals.judgePlan
+    Refusals.planned Refusals.writeChecked Refusals.writeArchive Refusals.writeFilm Refusals.isArchive
+    Refusals.readChecks Refusals.readArchive Refusals.convertChecks Refusals.convertArchive Refusals.printSheets
 computed b = b
 
 abbrev saysFeasible : Beside → ℕ → ℕ → Bool
@@ -214,7 +215,7 @@ back-hold = refl
 
 -- an edition that takes five nodes; E has six
 abbrev ofFive : Edition
-ofFive = record { head = 3; page = 4; most = 5 }
+ofFive = record { head = 3; page = 4; most = 5; filed = false }
 
 -- the limits, by words of N, and the highest place; and that 15 is given after 11 and before 12
 pub longer : List Bool
@@ -247,7 +248,7 @@ unfiledF three = bytesOf (3 ∷ 4 ∷ 1 ∷ 1 ∷ 2 ∷ 0 ∷ 3 ∷ 0 ∷ 0 ∷ 
 abbrev bestF : List ℕ
 bestF = 1 ∷ 1 ∷ 0 ∷ []
 
--- before 6 and 7; no entry but the reader takes such a tree, and only the writer without 14 writes it
+-- before 6 and 7; no entry but the first edition's reader takes such a tree, and only the writer without 14 writes it
 pub unfiled : List Bool
 unfiled =
     let lent : List ℕ = replicate 46 7 in
@@ -262,7 +263,7 @@ unfiled =
     ∷ answers (planBest (unfiledF 3) bestF (replicate 84 7) .answer) 14 2
     ∷ answers (judgePlan (unfiledF 3) bestF) 14 2
     ∷ keeps (w .answer) (w .output) lent 14 2
-    ∷ leaves (writeUnfiled firstEdition (unfiledF 3) bestF lent) film
+    ∷ leaves (writeFilm firstEdition (unfiledF 3) bestF lent) film
     ∷ saysFeasible (r .answer .beside) 2 4
     ∷ keeps (r .answer) (r .table) (unfiledF 3) 0 0
     ∷ keeps (r .answer) (r .marks) bestF 0 0
@@ -271,6 +272,60 @@ unfiled =
 pub unfiled-hold : every computed unfiled ≡ true
 unfolding computed unfiled
 unfiled-hold = refl
+
+-- ---- Edition 2, and film that is converted
+
+-- E's best plan in edition 2: 8,194, N, K and P; three pages, of 1, 3 and 2 nodes; six nodes
+abbrev secondE : List ℕ
+secondE =
+    bytesOf (8194 ∷ 6 ∷ 5 ∷ 3
+    ∷ 1 ∷ 1 ∷ 5 ∷ 2 ∷ 1 ∷ 2 ∷ 6 ∷ 4 ∷ 3 ∷ 3 ∷ 4 ∷ 5 ∷ 4 ∷ 0 ∷ 2
+    ∷ 5 ∷ 1 ∷ 0 ∷ 0 ∷ 2 ∷ 2 ∷ 1 ∷ 3 ∷ 1 ∷ 3 ∷ 1 ∷ 6 ∷ 2 ∷ 4 ∷ 3 ∷ 5 ∷ 2 ∷ 5 ∷ 3 ∷ 0 ∷ 1 ∷ 6 ∷ 1 ∷ 0 ∷ [])
+
+abbrev firstE : List ℕ
+firstE = archiveOf firstEdition (treeE 5 1) bestE
+
+-- written and read; 14 and 13 for a label 0; each edition is 13 to the other. Converted there and back; with the plan
+-- that the film has, though it is not the best; 13, then 14 or 15, then 12.
+pub editions : List Bool
+editions =
+    let lent : List ℕ = replicate 85 7 in
+    let w = writeArchive secondEdition (treeE 5 1) bestE lent in
+    let r = readArchive secondEdition secondE (replicate 52 7) (replicate 6 7) in
+    let there = convertArchive firstEdition secondEdition firstE (replicate 86 7) in
+    let back = convertArchive secondEdition firstEdition secondE (replicate 78 7) in
+    let unfiled : List ℕ = archiveOf firstEdition (unfiledF 3) bestF in
+    let short = convertArchive firstEdition secondEdition firstE lent in
+    let other : List ℕ = 1 ∷ 0 ∷ 1 ∷ [] in
+    leaves (writeArchive secondEdition (treeE 5 1) bestE (replicate 86 7)) secondE
+    ∷ sameList (archiveOf secondEdition (treeCD 5) (1 ∷ 0 ∷ 0 ∷ 0 ∷ []))
+    (bytesOf (8194 ∷ 4 ∷ 5 ∷ 1 ∷ 1 ∷ 1 ∷ 5 ∷ 0 ∷ 4
+    ∷ 2 ∷ 1 ∷ 0 ∷ 2 ∷ 1 ∷ 2 ∷ 1 ∷ 3 ∷ 1 ∷ 3 ∷ 1 ∷ 4 ∷ 1 ∷ 4 ∷ 1 ∷ 0 ∷ []))
+    ∷ keeps (w .answer) (w .output) lent 12 86
+    ∷ answers (writeArchive secondEdition (unfiledF 3) bestF [] .answer) 14 2
+    ∷ answers (firstOf (manyNodes secondEdition (8 ∷ 0 ∷ []) ∷ []) accepted) 0 0
+    ∷ answers (firstOf (manyNodes secondEdition (8 ∷ 1 ∷ []) ∷ []) accepted) 15 2049
+    ∷ keeps (r .answer) (r .table) (treeE 5 1) 0 0
+    ∷ keeps (r .answer) (r .marks) bestE 0 0
+    ∷ answers (readArchive firstEdition secondE [] [] .answer) 13 0
+    ∷ answers (readArchive secondEdition firstE [] [] .answer) 13 0
+    ∷ answers (readArchive secondEdition (archiveOf secondEdition (unfiledF 3) bestF) [] [] .answer) 13 0
+    ∷ leaves there secondE
+    ∷ saysFeasible (there .answer .beside) 3 5
+    ∷ leaves back firstE
+    ∷ saysFeasible (back .answer .beside) 3 5
+    ∷ leaves (convertArchive firstEdition secondEdition (archiveOf firstEdition treeF other) (replicate 52 7))
+    (archiveOf secondEdition treeF other)
+    ∷ answers (convertArchive firstEdition secondEdition secondE [] .answer) 13 0
+    ∷ answers (convertArchive secondEdition firstEdition firstE [] .answer) 13 0
+    ∷ answers (convertArchive firstEdition secondEdition unfiled [] .answer) 14 2
+    ∷ answers (convertArchive secondEdition ofFive secondE [] .answer) 15 6
+    ∷ keeps (short .answer) (short .output) lent 12 86
+    ∷ []
+
+pub editions-hold : every computed editions ≡ true
+unfolding computed editions
+editions-hold = refl
 
 -- ---- Notes that weigh nothing
 

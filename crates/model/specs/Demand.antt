@@ -8,13 +8,13 @@ use mathlib.Core.List.{List, [], _∷_}
 use mathlib.Core.Logic.{_↔_}
 use lib.ListN.{length}
 use Rattle.model.specs.Basics.{listTo}
-use Rattle.model.specs.Table.{Bytes, nodeCount, limitOf, labelAt}
+use Rattle.model.specs.Table.{Bytes, maxNodes, nodeCount, limitOf, labelAt}
 use Rattle.model.specs.Plan.{pageCount, pageWeight}
 use Rattle.model.specs.Runs.{Run, holds, withinLimit, runCount, rootWeight, runsOf, pageRun}
-use Rattle.model.specs.Archive.{pagesIn, pageFieldIn, archiveBytes}
+use Rattle.model.specs.Archive.{nodesIn, pagesIn, pageFieldIn, tableIn, marksIn, archiveBytes}
 use Rattle.model.specs.Sheets.{sheetLines, sheetBytes, sheetCount, perCent, numberIn, sheetNumber, lineNumber}
-use Rattle.model.specs.Refusals.{scratchWords, acceptedTree, feasiblePlan, feasibleUnfiled, soundForm, answerOf}
-use Rattle.model.specs.Refusals.{refused, planBest, Written, writeArchive, writeUnfiled}
+use Rattle.model.specs.Refusals.{scratchWords, acceptedTree, feasiblePlan, feasibleFilm, soundForm, answerOf}
+use Rattle.model.specs.Refusals.{refused, planBest, Written, writeArchive, writeFilm, readArchive, convertArchive}
 use Rattle.model.specs.declared.Answer.{Answer}
 use Rattle.model.specs.declared.Edition.{Edition}
 use Rattle.model.specs.declared.Verdict.the-variants.{Feasible}
@@ -100,8 +100,8 @@ pub record LowestOnFilm (e : Edition) (t a : List ℕ) (p r : Answer) : Type 0 w
 -- What the writer says with its answer r and the archive a that it leaves, where it was lent the table t, the marks
 -- m and the output out. Marks that the best planner left for this table, whatever else it was lent, it accepts where
 -- the edition takes so many nodes and the output is as long as the planner's page count asks, and the archive of them
--- is the lowest. A feasible plan of a tree with more nodes than the edition takes gets 15 at N, whatever the output. On
--- refusal the output is as lent, and 7 is exact.
+-- is the lowest. A feasible plan of a tree with more nodes than the edition takes gets 15 at N, whatever the output; an
+-- edition that takes as many nodes as a table never gives 15. On refusal the output is as lent, and 7 is exact.
 pub record WritePromise (e : Edition) (t m out : List ℕ) (r : Answer) (a : List ℕ) : Type 0 where
   pub accepts : (lent scratch : List ℕ) (P W : ℕ)
       → planBest t lent scratch .answer ≡ answerOf (Feasible P W) → planBest t lent scratch .marks ≡ m
@@ -110,6 +110,7 @@ pub record WritePromise (e : Edition) (t m out : List ℕ) (r : Answer) (a : Lis
       → planBest t lent scratch .answer .number ≡ 0 → planBest t lent scratch .marks ≡ m
       → r .number ≡ 0 → LowestOnFilm e t a (planBest t lent scratch .answer) r
   pub many : feasiblePlan t m ≡ true → e .most < nodeCount t → r ≡ refused 15 (nodeCount t)
+  pub few : maxNodes ≤ e .most → r .number ≡ 15 → ⊥
   pub kept : (r .number ≡ 0 → ⊥) → a ≡ out
   pub weight : WeightPromise t r
 
@@ -132,29 +133,60 @@ pub record FirstUnfiled (t : List ℕ) (v : ℕ) : Type 0 where
   pub before : (u : ℕ) → 1 ≤ u → u < v → 1 ≤ labelAt t u
 
 -- What the reader says with its answer r, and the table t and the marks m that it leaves, where it was lent the
--- archive a and the buffers table and marks. An archive that the writer without 14 wrote, and so every archive that
+-- archive a and the buffers table and marks, and f is the other edition. Film is held against writeFilm: the writer
+-- where the edition is filed, and else the writer without 14. An archive that this one wrote, and so every archive that
 -- the writer wrote, reads back as the very table and marks it was written from, where the buffers are as long as
--- these. What is read, with its verdict, is a tree and a plan in which nothing but a label 0 can be refused, and the
--- writer without 14 gives this very archive for them, with this answer. Where no label is 0, they are an accepted tree
--- and a feasible plan, and so does the writer; where one is, the writer answers 14 at the first such node, and leaves
--- its output as lent. 13 means that no table and marks write the archive with the writer without 14. On refusal both
+-- these. What is read, with its verdict, is a tree and a plan in which nothing can be refused, but for a label 0 where
+-- the edition is not filed, and writeFilm gives this very archive for them, with this answer. Where no label is 0, as
+-- always where the edition is filed, they are an accepted tree and a feasible plan, and so does the writer; where one
+-- is, the writer answers 14 at the first such node, and leaves its output as lent. 13 means that no table and marks
+-- write the archive with writeFilm; whatever else the answer is, the other edition's reader answers 13. On refusal both
 -- buffers are as lent. 5 is never given.
-pub record ReadPromise (e : Edition) (a table marks : List ℕ) (r : Answer) (t m : List ℕ) : Type 0 where
-  pub back : (u n : List ℕ) → WrittenFrom (writeUnfiled e) u n a → length table ≡ length u → length marks ≡ length n
+pub record ReadPromise (e f : Edition) (a table marks : List ℕ) (r : Answer) (t m : List ℕ) : Type 0 where
+  pub back : (u n : List ℕ) → WrittenFrom (writeFilm e) u n a → length table ≡ length u → length marks ≡ length n
       → (r .number ≡ 0) × (t ≡ u) × (m ≡ n)
   pub written : (u n : List ℕ) → WrittenFrom (writeArchive e) u n a → length table ≡ length u
       → length marks ≡ length n → (r .number ≡ 0) × (t ≡ u) × (m ≡ n)
   pub sound : r .number ≡ 0
-      → (r ≡ answerOf (Feasible (pageCount t m) (pageWeight t m 1))) × (feasibleUnfiled t m ≡ true)
+      → (r ≡ answerOf (Feasible (pageCount t m) (pageWeight t m 1))) × (feasibleFilm e t m ≡ true)
   pub again : r .number ≡ 0 → (out : List ℕ) → length out ≡ length a
-      → writeUnfiled e t m out ≡ record { answer = r; output = a }
+      → writeFilm e t m out ≡ record { answer = r; output = a }
+  pub labels : e .filed ≡ true → r .number ≡ 0 → Filed t
   pub filed : r .number ≡ 0 → Filed t
       → (feasiblePlan t m ≡ true) × ((out : List ℕ) → length out ≡ length a
       → writeArchive e t m out ≡ record { answer = r; output = a })
   pub unfiled : r .number ≡ 0 → (v : ℕ) → FirstUnfiled t v → (out : List ℕ)
       → writeArchive e t m out ≡ record { answer = refused 14 v; output = out }
-  pub none : (r .number ≡ 13) ↔ ((u n : List ℕ) → WrittenFrom (writeUnfiled e) u n a → ⊥)
+  pub none : (r .number ≡ 13) ↔ ((u n : List ℕ) → WrittenFrom (writeFilm e) u n a → ⊥)
+  pub other : (r .number ≡ 13 → ⊥) → (u n : List ℕ) → readArchive f a u n .answer ≡ refused 13 0
   pub kept : (r .number ≡ 0 → ⊥) → (t ≡ table) × (m ≡ marks)
+  pub five : r .number ≡ 5 → ⊥
+
+-- What a converter from edition e to edition f says with its answer r and the archive b that it leaves, where it was
+-- lent the archive a and the output out. 13 means that no table and marks write the archive a with writeFilm, which is
+-- what its edition's reader means by it. Else a label 0 gets 14 at the first such node, which a filed edition's film
+-- never has; and where no label is 0, more nodes than f takes get 15 at N, which never are where f takes as many as e;
+-- and an output of the right length is written. Then b carries the answer's page count and root weight; it is read,
+-- with whatever buffers, as a is; converted back, it gives the very bytes of a; and where the marks that a tells are
+-- those that the best planner left for the table that it tells, b is the lowest. On refusal the output is as lent. 5 is
+-- never given.
+pub record ConvertPromise (e f : Edition) (a out : List ℕ) (r : Answer) (b : List ℕ) : Type 0 where
+  pub none : (r .number ≡ 13) ↔ ((u n : List ℕ) → WrittenFrom (writeFilm e) u n a → ⊥)
+  pub unfiled : (r .number ≡ 13 → ⊥) → (v : ℕ) → FirstUnfiled (tableIn e a) v → r ≡ refused 14 v
+  pub labels : e .filed ≡ true → r .number ≡ 14 → ⊥
+  pub many : (r .number ≡ 13 → ⊥) → Filed (tableIn e a) → f .most < nodesIn e a → r ≡ refused 15 (nodesIn e a)
+  pub few : e .most ≤ f .most → r .number ≡ 15 → ⊥
+  pub accepts : (r .number ≡ 13 → ⊥) → Filed (tableIn e a) → nodesIn e a ≤ f .most
+      → length out ≡ archiveBytes f (pagesIn e a) (nodesIn e a) → r .number ≡ 0
+  pub figures : r .number ≡ 0 → r ≡ answerOf (Feasible (pagesIn f b) (rootIn f b))
+  pub same : r .number ≡ 0 → (table marks : List ℕ) → readArchive f b table marks ≡ readArchive e a table marks
+  pub back : r .number ≡ 0 → (lent : List ℕ) → length lent ≡ length a
+      → convertArchive f e b lent ≡ record { answer = r; output = a }
+  pub lowest : (lent scratch : List ℕ)
+      → planBest (tableIn e a) lent scratch .answer .number ≡ 0
+      → planBest (tableIn e a) lent scratch .marks ≡ marksIn e a
+      → r .number ≡ 0 → LowestOnFilm f (tableIn e a) b (planBest (tableIn e a) lent scratch .answer) r
+  pub kept : (r .number ≡ 0 → ⊥) → b ≡ out
   pub five : r .number ≡ 5 → ⊥
 
 -- ---- Leader sheets

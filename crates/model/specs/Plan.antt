@@ -73,6 +73,10 @@ pageCount t m = countTo (nodeCount t) (hasMark m begins)
 unfoldable pub pageWeight : List ℕ → List ℕ → ℕ → ℕ
 pageWeight t m p = sumTo (nodeCount t) (λ v. pick (eqb (pageOf t m v) p) (weightAt t v) 0)
 
+-- how many nodes a page has
+unfoldable pub pageNodes : List ℕ → List ℕ → ℕ → ℕ
+pageNodes t m p = countTo (nodeCount t) (λ v. eqb (pageOf t m v) p)
+
 -- the first node whose mark is not allowed
 unfoldable pub badMark : List ℕ → List ℕ → Place
 badMark t m = firstTo (nodeCount t) (λ v. not (goodMark t m v))

@@ -107,7 +107,7 @@ pageRefused t m = record { answer = λ p. answerOf (Failed (HeavyPage p)); place
 unfoldable pub badOutput : ℕ → List ℕ → Check
 badOutput size out = record { answer = refused 12; place = when (not (eqb (length out) size)) size }
 
--- 13: no tree and plan write this archive with the writer without 14; place 0
+-- 13: no tree and plan write this archive with the writer that film of its edition is held against; place 0
 unfoldable pub noArchive : Bool → Check
 noArchive written = record { answer = refused 13; place = when (not written) 0 }
 
@@ -197,10 +197,13 @@ refusedForWeight t = soundForm t && not (acceptedTree t)
 unfoldable pub feasiblePlan : List ℕ → List ℕ → Bool
 feasiblePlan t m = passes (judgeChecks t m)
 
--- Film written before 14 was given may have labels 0. Names with Unfiled tell what holds where 14 is left out and
--- nothing else: here, the judge without 14 finds nothing.
-unfoldable pub feasibleUnfiled : List ℕ → List ℕ → Bool
-feasibleUnfiled t m = passes (without 14 (judgeChecks t m))
+-- Film written before 14 was given may have labels 0. What film of an edition is held against has all checks where the
+-- edition is filed, and is else without 14: here, that judge finds nothing.
+abbrev pub checksWith : Bool → List Check → List Check
+checksWith filed cs = pick filed cs (without 14 cs)
+
+unfoldable pub feasibleFilm : Edition → List ℕ → List ℕ → Bool
+feasibleFilm e t m = passes (checksWith (e .filed) (judgeChecks t m))
 
 -- ---- The entries
 
@@ -262,15 +265,17 @@ writeChecked cs verdict bytes out =
 unfoldable pub writeArchive : Edition → List ℕ → List ℕ → List ℕ → Written
 writeArchive e t m out = writeChecked (writeChecks e t m out) (verdictOf t m) (archiveOf e t m) out
 
--- the writer without 14, which is no entry: an archive that is read is held against it
-unfoldable pub writeUnfiled : Edition → List ℕ → List ℕ → List ℕ → Written
-writeUnfiled e t m out = writeChecked (without 14 (writeChecks e t m out)) (verdictOf t m) (archiveOf e t m) out
+-- the writer that an archive which is read is held against: the archive writer where the edition is filed, and else
+-- without 14, which is no entry
+unfoldable pub writeFilm : Edition → List ℕ → List ℕ → List ℕ → Written
+writeFilm e t m out =
+    writeChecked (checksWith (e .filed) (writeChecks e t m out)) (verdictOf t m) (archiveOf e t m) out
 
 -- that writer writes this archive from the tree and the plan that it tells, within the edition's most nodes
 unfoldable pub isArchive : Edition → List ℕ → Bool
 isArchive e a =
     leb (nodesIn e a) (e .most)
-    && (feasibleUnfiled (tableIn e a) (marksIn e a) && sameList (archiveOf e (tableIn e a) (marksIn e a)) a)
+    && (feasibleFilm e (tableIn e a) (marksIn e a) && sameList (archiveOf e (tableIn e a) (marksIn e a)) a)
 
 -- the archive reader checks 13, then 12, then 8: its answer, and the table and the marks that it leaves
 pub record Restored : Type 0 where
@@ -288,6 +293,17 @@ readArchive e a t m =
       table = pick (passes (readChecks e a t m)) (tableIn e a) t;
       marks = pick (passes (readChecks e a t m)) (marksIn e a) m;
     }
+
+-- A converter, from film of edition e to film of edition f: it checks 13, then 14, then 15 and 12, and writes the tree
+-- and the plan that the archive tells.
+unfoldable pub convertChecks : Edition → Edition → List ℕ → List ℕ → List Check
+convertChecks e f a out =
+    noArchive (isArchive e a) ∷ noLabel (tableIn e a) ∷ filmChecks f (tableIn e a) (marksIn e a) out
+
+unfoldable pub convertArchive : Edition → Edition → List ℕ → List ℕ → Written
+convertArchive e f a out =
+    writeChecked (convertChecks e f a out) (verdictOf (tableIn e a) (marksIn e a))
+    (archiveOf f (tableIn e a) (marksIn e a)) out
 
 -- the printer of leader sheets
 unfoldable pub printSheets : List ℕ → List ℕ → List ℕ → Written

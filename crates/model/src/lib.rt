@@ -32,10 +32,11 @@ pub struct Answer {
     pub beside: Beside,
 }
 
-// How an edition of the archive is laid out: how many words its head and each page record have, and how many nodes it
-// takes at most.
+// How an edition of the archive is laid out: how many words its head and each page record have, how many nodes it takes
+// at most, and whether its film is filed, with no label 0.
 pub struct Edition {
     pub head: u16,
     pub page: u16,
     pub most: u16,
+    pub filed: bool,
 }
