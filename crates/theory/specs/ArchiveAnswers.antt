@@ -1,9 +1,9 @@
 -- The answers of the archive's writer, with 14 or without, and of its reader, case by case, and what each tells.
--- writeFrom is the writer that goes on from the answer of whatever judged the tree: the reader judges its tree without
--- 14, which the writer's entry does not.
--- Defines writeFrom, writeWith, WriteDone. Proves film-answer, film-few, film-long; write-entry, write-done,
--- write-many, write-kept, writer-done, writer-refused; unfiled-stops; read-none, read-table, read-marks, read-done,
--- reader-done, read-thirteen. Assumes nothing.
+-- writeFrom is the writer that goes on from the answer of whatever judged the tree: the reader judges its tree as its
+-- edition's film is held, which may be without 14.
+-- Defines writeFrom, writeWith, WriteDone. Proves film-answer, film-fifteen, film-few, film-long; write-entry,
+-- write-done, write-many, write-fourteen, write-fifteen, write-kept, writer-done, writer-refused; unfiled-stops; read-none, read-table,
+-- read-marks, read-done, reader-done, read-thirteen. Assumes nothing.
 use Prim.Native.Nat.{ℕ, _≤_, _<_}
 use native.Mathlib.Omega.{arith}
 use mathlib.Core.Bool.{Bool, true, false, not, _&&_}
@@ -17,7 +17,7 @@ use Rattle.model.specs.Table.{nodeCount, tableBytes}
 use Rattle.model.specs.Plan.{pageCount, verdictOf}
 use Rattle.model.specs.Archive.{archiveOf, archiveBytes, nodesIn, tableIn, marksIn}
 use Rattle.model.specs.Refusals.{badMarks, badOutput, noArchive, manyNodes, judgeChecks, filmChecks, backChecks}
-use Rattle.model.specs.Refusals.{writeChecks, readChecks, passes, answerOf, refused, firstOf, noLabel, feasibleUnfiled}
+use Rattle.model.specs.Refusals.{writeChecks, readChecks, passes, answerOf, refused, firstOf, noLabel, feasibleFilm}
 use Rattle.model.specs.Refusals.{Written, writeChecked, writeArchive, isArchive, readArchive}
 use Rattle.model.specs.declared.Edition.{Edition}
 use Rattle.model.specs.declared.Place.the-variants.{At}
@@ -29,7 +29,7 @@ use Rattle.theory.specs.Checks.{firstOf-append}
 use Rattle.theory.specs.JudgeAnswers.{treeAnswer}
 use Rattle.theory.specs.Outputs.{outcome, outcome-stop, outcome-next, outcome-none, unequal, equal, outputFrom}
 use Rattle.theory.specs.Outputs.{outputWith, with-entry, with-done, with-wrote, with-passed, with-last, with-kept}
-use Rattle.theory.specs.PlanFeasible.{Judged, feasibleWith, with-judged, unfiled-judged}
+use Rattle.theory.specs.PlanFeasible.{Judged, feasibleWith, with-judged, film-judged}
 use Rattle.theory.specs.PlanFeasible.{judged-zero, label-stops}
 use Rattle.theory.specs.ArchiveWords.{Described, length-archive, archive-nodes}
 use Rattle.theory.specs.ArchiveBack.{sameList-true, read-write}
@@ -66,6 +66,17 @@ module _ (e : Edition) (t m out : List ℕ) where
       ap (λ (x : Answer × Bool). x .0)
       (outcome-stop (manyNodes e t) (badOutput size out ∷ []) a (nodeCount t)
       (when-true (ltb (e .most) (nodeCount t)) (nodeCount t) (lt-ltb (e .most) (nodeCount t) many)))
+
+  -- 15 is for more nodes than the edition takes, and for nothing else
+  pub film-fifteen : (a : Answer) → nodeCount t ≤ e .most → firstOf (filmChecks e t m out) a .number ≡ 15
+      → a .number ≡ 15
+  unfolding filmChecks manyNodes badOutput every
+  film-fifteen a few h =
+      let next =
+      outcome-next (manyNodes e t) (badOutput size out ∷ []) a
+      (when-false (ltb (e .most) (nodeCount t)) (nodeCount t) (le-ltb (e .most) (nodeCount t) few)) in
+      never-first 15 (badOutput size out ∷ []) a (λ p. refl)
+      (sym (ap (λ (x : Answer × Bool). x .0 .number) next) ∙ h) .1
 
   -- where both pass, the edition takes so many nodes, and the output has the right length
   pub film-few : passes (filmChecks e t m out) ≡ true
@@ -105,6 +116,28 @@ module _ (filed : Bool) (e : Edition) (t m out : List ℕ) where
   pub write-many : feasibleWith filed t m ≡ true → e .most < nodeCount t → writeWith .answer ≡ refused 15 (nodeCount t)
   write-many f many = with-last filed t m _ out _ (film-never e t m out) f ∙ film-many e t m out _ many
 
+  -- what the film is refused for, but for its length: no label, and where the edition takes so many nodes nothing else
+  pub write-fourteen : feasibleWith filed t m ≡ true → writeWith .answer .number ≡ 14 → ⊥
+  write-fourteen f h =
+      let last : writeWith .answer ≡ firstOf (filmChecks e t m out) (answerOf (verdictOf t m)) =
+      with-last filed t m _ out _ (film-never e t m out) f in
+      omega (
+        arith,
+        never-first 14 (filmChecks e t m out) _ (film-never e t m out .1)
+            (sym (ap (λ (x : Answer). x .number) last) ∙ h) .1,
+        judged-zero (with-judged filed t m f),
+      )
+
+  pub write-fifteen : feasibleWith filed t m ≡ true → nodeCount t ≤ e .most → writeWith .answer .number ≡ 15 → ⊥
+  write-fifteen f few h =
+      let last : writeWith .answer ≡ firstOf (filmChecks e t m out) (answerOf (verdictOf t m)) =
+      with-last filed t m _ out _ (film-never e t m out) f in
+      omega (
+        arith,
+        film-fifteen e t m out _ few (sym (ap (λ (x : Answer). x .number) last) ∙ h),
+        judged-zero (with-judged filed t m f),
+      )
+
   -- on refusal the output is as lent
   pub write-kept : (writeWith .answer .number ≡ 0 → ⊥) → writeWith .output ≡ out
   write-kept h = with-kept filed t m _ out _ (film-never e t m out) h
@@ -141,16 +174,16 @@ module _ (filed : Bool) (e : Edition) (t m out : List ℕ) where
       (long ∙ ap length (sym same) ∙ length-archive d t m))
       ∙ judged-zero (with-judged filed t m (both .0))))
 
--- the writer, handed a tree and a plan in which nothing but a label is refused
-pub unfiled-stops : (e : Edition) (t m out : List ℕ) → feasibleUnfiled t m ≡ true → (v : ℕ) → noLabel t .place ≡ At v
+-- the writer of an edition, handed a tree and a plan from film, in which nothing but a label is refused
+pub unfiled-stops : (e f : Edition) (t m out : List ℕ) → feasibleFilm f t m ≡ true → (v : ℕ) → noLabel t .place ≡ At v
     → writeArchive e t m out ≡ record { answer = refused 14 v; output = out }
 unfolding writeArchive writeChecked writeChecks pick
-unfiled-stops e t m out f v found =
+unfiled-stops e f t m out film v found =
     ap₂ (λ (r : Answer) (a : List ℕ). record { answer = r; output = a }) answer
     (write-kept true e t m out (λ z. omega (arith, ap (λ (r : Answer). r .number) answer)))
   where
     answer : firstOf (judgeChecks t m ++ filmChecks e t m out) (answerOf (verdictOf t m)) ≡ refused 14 v
-    answer = firstOf-append (judgeChecks t m) (filmChecks e t m out) _ ∙ label-stops t m f v found _
+    answer = firstOf-append (judgeChecks t m) (filmChecks e t m out) _ ∙ label-stops f t m film v found _
 
 -- ---- The reader
 
@@ -231,7 +264,7 @@ module _ (e : Edition) (a t m : List ℕ) where
 
   -- an archive's own answer is acceptance
   archive-zero : isArchive e a ≡ true → answerOf (verdictOf (tableIn e a) (marksIn e a)) .number ≡ 0
-  archive-zero is = judged-zero (unfiled-judged (tableIn e a) (marksIn e a) (read-write e a is .feasible))
+  archive-zero is = judged-zero (film-judged e (tableIn e a) (marksIn e a) (read-write e a is .feasible))
 
   pub reader-done : readArchive e a t m .answer .number ≡ 0
       → (isArchive e a ≡ true)

@@ -1,7 +1,7 @@
--- Writing and reading back, in an edition. The archive of a tree and a plan in which the judge without 14 finds nothing
--- tells that very table and those very marks, so it passes the reader's test; an archive that passes the test is
--- written by the tree and the plan that it tells.
--- Defines tableRow. Proves judged-light, write-read, read-write, tableIn-bytes. Assumes nothing.
+-- Writing and reading back, in an edition. The archive of a tree and a plan in which the judge that film is held against
+-- finds nothing tells that very table and those very marks, so it passes the reader's test; an archive that passes the
+-- test is written by the tree and the plan that it tells, and is of no other edition.
+-- Defines tableRow. Proves judged-light, write-read, read-write, editions-apart, tableIn-bytes. Assumes nothing.
 use Prim.Native.Nat.{ℕ, zero, suc, _+_, _-_, _*_, _/_, _%_, _≤_, _<_}
 use native.Mathlib.Omega.{arith}
 use mathlib.Core.Bool.{Bool, true, false, _&&_, false≢true}
@@ -18,10 +18,11 @@ use Rattle.model.specs.Table.{weightAt, labelAt, firstAt, nextAt}
 use Rattle.model.specs.Plan.{parentAt, stays, begins, continues, markAt, hasMark}
 use Rattle.model.specs.Plan.{heavyPage, pageCount, pageWeight, runLast}
 use Rattle.model.specs.Runs.{Run}
+use Rattle.model.specs.Archive.{firstEdition, secondEdition}
 use Rattle.model.specs.Archive.{archiveOf, nodesIn, limitIn, pagesIn, pageFieldIn, nodeFieldIn, parentIn, firstIn}
 use Rattle.model.specs.Archive.{nextIn}
 use Rattle.model.specs.Archive.{tableIn, beginsIn, continuesIn, markIn, marksIn}
-use Rattle.model.specs.Refusals.{feasibleUnfiled, isArchive}
+use Rattle.model.specs.Refusals.{feasibleFilm, isArchive}
 use Rattle.model.specs.declared.Edition.{Edition}
 use Rattle.model.specs.declared.Place.{Place}
 use Rattle.model.specs.declared.Place.the-variants.{At, Nowhere}
@@ -33,14 +34,14 @@ use Rattle.theory.specs.Ranges.{getD-listTo}
 use Rattle.theory.specs.TableFacts.{SoundFacts}
 use Rattle.theory.specs.Chosen.{countTo-mono, countTo-pass, countTo-some}
 use Rattle.theory.specs.SiblingsByParent.{first-by-parent, next-by-parent}
-use Rattle.theory.specs.PlanFeasible.{Judged, unfiled-judged}
+use Rattle.theory.specs.PlanFeasible.{Judged, film-judged}
 use Rattle.theory.specs.RunsByMarks.{GoodMarks, good-marks, InRunOf, in-run-of, runLast-marks}
 use Rattle.theory.specs.Words.{Words, word-small, bytesOf-words, words-bytes, words-cons, words-nil, words-listTo}
 use Rattle.theory.specs.PagesByNumber.{Page, page-first, page-run}
 use Rattle.theory.specs.Put.{length-recordsTo, getD-recordsTo}
 use Rattle.theory.specs.ArchiveWords.{Described, archive-nodes}
 use Rattle.theory.specs.ArchiveWords.{archive-limit, archive-pages, archive-begin, archive-end, archive-node}
-use Rattle.theory.specs.ArchiveWords.{archive-parent}
+use Rattle.theory.specs.ArchiveWords.{archive-parent, second-word}
 
 -- a feasible plan's pages are within the limit
 pub judged-light : {t m : List ℕ} → Judged t m → Upto (pageCount t m) (λ q. pageWeight t m q ≤ limitOf t)
@@ -339,27 +340,27 @@ sameList-true (x ∷ xs) (y ∷ ys) e =
     let both = both-true (eqb x y) (sameList xs ys) e in
     ap₂ _∷_ (eqb-true x y (both .0)) (sameList-true xs ys (both .1))
 
--- what a tree and a plan write without 14, of no more nodes than the edition takes, is an archive
-pub write-read : {e : Edition} → Described e → {t m : List ℕ} → Bytes t → feasibleUnfiled t m ≡ true
+-- what a tree and a plan write, of no more nodes than the edition takes, is an archive
+pub write-read : {e : Edition} → Described e → {t m : List ℕ} → Bytes t → feasibleFilm e t m ≡ true
     → nodeCount t ≤ e .most
     → (tableIn e (archiveOf e t m) ≡ t) × (marksIn e (archiveOf e t m) ≡ m) × (isArchive e (archiveOf e t m) ≡ true)
 unfolding isArchive
 write-read {e} d {t} {m} b f few =
     let a : List ℕ = archiveOf e t m in
-    let p = unfiled-judged t m f in
+    let p = film-judged e t m f in
     let table = write-read-table d p b in
     let marks = write-read-marks d p in (
       table,
       marks,
       and-true (leb (nodesIn e a) (e .most)) _ (le-leb (nodesIn e a) (e .most) (omega (arith, archive-nodes d t m)))
-          (ap₂ (λ x y. feasibleUnfiled x y && sameList (archiveOf e x y) a) table marks
-          ∙ and-true (feasibleUnfiled t m) (sameList a a) f (sameList-self a)),
+          (ap₂ (λ x y. feasibleFilm e x y && sameList (archiveOf e x y) a) table marks
+          ∙ and-true (feasibleFilm e t m) (sameList a a) f (sameList-self a)),
     )
 
 -- an archive is written by the tree and the plan that it tells, with no more nodes than the edition takes
 pub record WritesBack (e : Edition) (a : List ℕ) : Type 0 where
   pub few : nodesIn e a ≤ e .most
-  pub feasible : feasibleUnfiled (tableIn e a) (marksIn e a) ≡ true
+  pub feasible : feasibleFilm e (tableIn e a) (marksIn e a) ≡ true
   pub same : archiveOf e (tableIn e a) (marksIn e a) ≡ a
 
 pub read-write : (e : Edition) (a : List ℕ) → isArchive e a ≡ true → WritesBack e a
@@ -367,13 +368,23 @@ unfolding isArchive
 read-write e a y =
     let t : List ℕ = tableIn e a in
     let m : List ℕ = marksIn e a in
-    let all = both-true (leb (nodesIn e a) (e .most)) (feasibleUnfiled t m && sameList (archiveOf e t m) a) y in
-    let both = both-true (feasibleUnfiled t m) (sameList (archiveOf e t m) a) (all .1) in
+    let all = both-true (leb (nodesIn e a) (e .most)) (feasibleFilm e t m && sameList (archiveOf e t m) a) y in
+    let both = both-true (feasibleFilm e t m) (sameList (archiveOf e t m) a) (all .1) in
     record {
       few = leb-true (nodesIn e a) (e .most) (all .0);
       feasible = both .0;
       same = sameList-true (archiveOf e t m) a (both .1);
     }
+
+-- an archive of one edition is none of the other
+pub editions-apart : (a : List ℕ) → isArchive firstEdition a ≡ true → isArchive secondEdition a ≡ true → ⊥
+editions-apart a first second =
+    omega (
+      arith,
+      read-write firstEdition a first .few,
+      ap (nodesIn firstEdition) (read-write secondEdition a second .same),
+      second-word (tableIn secondEdition a) (marksIn secondEdition a),
+    )
 
 -- ---- What an archive of bytes tells is bytes
 

@@ -1,7 +1,7 @@
 -- Demand 3 read off the archive's bytes, in an edition: page count, the weight in page record 1 and the runs in the
 -- page records are the plan's; so where a planner promises that its plan is the lowest, the archive of that plan is the
 -- lowest too.
--- Proves plan-feasible, film-lowest. Assumes nothing.
+-- Proves archive-figures, plan-feasible, film-lowest. Assumes nothing.
 use Prim.Native.Nat.{ℕ, suc, _-_, _≤_, _<_}
 use native.Mathlib.Omega.{arith}
 use mathlib.Core.Path.{_≡_, sym, _∙_, ap, ap₂}
@@ -54,6 +54,17 @@ module _ {e : Edition} (d : Described e) (t m : List ℕ) where
   unfolding rootIn
   archive-root some = archive-weight d t m 1 (omega arith) some
 
+  -- of a feasible plan, with the verdict's figures
+  module _ (judged : Judged t m) where
+    root-back : rootIn e (archiveOf e t m) ≡ pageWeight t m 1
+    root-back = archive-root (pages-low (judged .tree .sound) m (judged .marked))
+
+    pub archive-figures : answerOf (verdictOf t m)
+        ≡ answerOf (Feasible (pagesIn e (archiveOf e t m)) (rootIn e (archiveOf e t m)))
+    archive-figures =
+        ap answerOf (judged-verdict judged)
+        ∙ ap₂ (λ (x y : ℕ). answerOf (Feasible x y)) (sym (archive-pages d t m)) (sym root-back)
+
 -- ---- The archive of a plan that its planner promises to be the lowest
 
 -- the root weight of the verdict beside an answer
@@ -74,13 +85,6 @@ module _ {t m s marks scratch : List ℕ} {r : Answer} (p : PlanPromise t m s r 
     abbrev film : List ℕ
     film = archiveOf e t marks
 
-    root-back : rootIn e film ≡ pageWeight t marks 1
-    root-back = archive-root d t marks (pages-low (judged .tree .sound) marks (judged .marked))
-
-    film-figures : answerOf (Feasible (pageCount t marks) (pageWeight t marks 1))
-        ≡ answerOf (Feasible (pagesIn e film) (rootIn e film))
-    film-figures = ap₂ (λ (x y : ℕ). answerOf (Feasible x y)) (sym (archive-pages d t marks)) (sym root-back)
-
     pub film-lowest : BestPromise t m s r marks
         → LowestOnFilm e t (archiveOf e t marks) r (answerOf (verdictOf t marks))
     film-lowest b =
@@ -89,9 +93,10 @@ module _ {t m s marks scratch : List ℕ} {r : Answer} (p : PlanPromise t m s r 
         let count : low .0 ≡ pagesIn e film =
         sym (low .3 .count) ∙ length-runsOf t marks ∙ sym (archive-pages d t marks) in
         let root : low .1 ≡ rootIn e film =
-        ap (λ (x : Answer). rootBeside (x .beside)) (sym (low .2) ∙ answer) ∙ sym root-back in
+        ap (λ (x : Answer). rootBeside (x .beside)) (sym (low .2) ∙ answer) ∙ sym (root-back d t marks judged) in
+        let figures = archive-figures d t marks judged in
         record {
-          planner = answer ∙ film-figures;
-          writer = ap answerOf (judged-verdict judged) ∙ film-figures;
+          planner = answer ∙ sym (ap answerOf (judged-verdict judged)) ∙ figures;
+          writer = figures;
           lowest = rw (← count, ← root, archive-runs d t marks) (low .3);
         }

@@ -1,7 +1,8 @@
 -- The words of an archive of an edition: its length, its head, and the fields of its page and node records, read back
 -- as they were written. They hold of any table and marks. What the laws take of an edition is said once, in Described,
--- and first-described says it of the first.
--- Defines Described. Proves first-described; length-archive and archive-nodes to archive-parent. Assumes nothing.
+-- and holds of both.
+-- Defines Described. Proves first-described, second-described; length-archive and archive-nodes to archive-parent;
+-- second-word. Assumes nothing.
 use Prim.Native.Nat.{ℕ, suc, _+_, _-_, _*_, _≤_, _<_}
 use native.Mathlib.Omega.{arith}
 use native.Mathlib.Nat.{mul-le-mul-left}
@@ -13,7 +14,8 @@ use Rattle.model.specs.Basics.{listTo}
 use Rattle.model.specs.Table.{wordAt, nodeCount, limitOf, weightAt, labelAt}
 use Rattle.model.specs.Plan.{parentAt, pageCount, pageWeight}
 use Rattle.model.specs.Runs.{pageRun}
-use Rattle.model.specs.Archive.{firstEdition, headWords, pageRecord, nextOnPage, nodeRecord, archiveOf, archiveBytes}
+use Rattle.model.specs.Archive.{firstEdition, secondEdition, editionWord, headWords, pageRecord, nextOnPage, nodeRecord}
+use Rattle.model.specs.Archive.{archiveOf, archiveBytes}
 use Rattle.model.specs.Archive.{nodesIn, limitIn, pagesIn, pageFieldIn, nodeFieldIn, parentIn}
 use Rattle.model.specs.declared.Edition.{Edition}
 use Rattle.theory.specs.Words.{length-bytesOf, wordAt-bytesOf}
@@ -38,6 +40,22 @@ pub record Described (e : Edition) : Type 0 where
 pub first-described : Described firstEdition
 unfolding headWords pageRecord
 first-described =
+    record {
+      head-low = omega arith;
+      head = λ t m. refl;
+      nodes-at = λ t m. refl;
+      limit-at = λ t m. refl;
+      pages-at = λ t m. refl;
+      page-low = omega arith;
+      page = λ t m p. refl;
+      first-at = λ t m p. refl;
+      last-at = λ t m p. refl;
+      weight-at = λ t m p. refl;
+    }
+
+pub second-described : Described secondEdition
+unfolding headWords pageRecord
+second-described =
     record {
       head-low = omega arith;
       head = λ t m. refl;
@@ -142,3 +160,8 @@ module _ {e : Edition} (d : Described e) (t m : List ℕ) where
   pub archive-parent : (v : ℕ) → 1 ≤ v → v ≤ nodeCount t → parentIn e (archiveOf e t m) v ≡ parentAt t v
   unfolding parentIn
   archive-parent v low high = archive-node v 2 low high (omega arith)
+
+-- where the first edition has N, the second has its word
+pub second-word : (t m : List ℕ) → nodesIn firstEdition (archiveOf secondEdition t m) ≡ editionWord
+unfolding nodesIn headWords
+second-word t m = archive-head second-described t m 0 (omega arith)

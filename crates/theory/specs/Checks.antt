@@ -1,9 +1,9 @@
 -- Lists of checks, one after the other: where all pass, which of them answers, and which numbers they never give. A
 -- list is told by its parts, so that a check put into one of them is met here and in the facts that the part stands
 -- for, and nowhere else.
--- Defines Pass, Never, Plain, andThen, checksWith. Proves pass-all, passes-append, passes-both, both-pass;
+-- Defines Pass, Never, Plain, andThen. Proves pass-all, passes-append, passes-both, both-pass;
 -- firstOf-pass, firstOf-stop, firstOf-all, firstOf-cons, firstOf-append; never-append, never-first, accepted-pass,
--- refused-fails; that no check gives 0 or 5, and that of the weights alone 7 (head-plain to read-plain); then-next,
+-- refused-fails; that no check gives 0 or 5, and that of the weights alone 7 (head-plain to convert-plain); then-next,
 -- then-stands, then-both, firstOf-then; what lists with 14 and without are, and what 14 adds (passes-without to
 -- node-stops). Assumes nothing.
 use Prim.Native.Nat.{ℕ}
@@ -14,11 +14,11 @@ use mathlib.Core.List.{List, [], _∷_, _++_, append-nil}
 use lib.Dec.{eqb}
 use borrow.Author.Tests.{eqb-true, eqb-false, eq-eqb, ne-eqb, not-true}
 use Rattle.model.specs.Basics.{pick, atPlace, every}
-use Rattle.model.specs.Refusals.{Check, accepted, refused, firstOf, passes, without}
+use Rattle.model.specs.Refusals.{Check, accepted, refused, firstOf, passes, without, checksWith}
 use Rattle.model.specs.Refusals.{shortTable, badCount, badLimit, badLength, badWalk, heavyNode, badMarks}
 use Rattle.model.specs.Refusals.{shortScratch, markRefused, pageRefused, badOutput, noArchive, noLabel, manyNodes}
 use Rattle.model.specs.Refusals.{headChecks, nodeChecks, weightChecks, lentChecks, markChecks, filmChecks, backChecks}
-use Rattle.model.specs.Refusals.{sheetChecks, formChecks, treeChecks, planChecks, judgeChecks, readChecks}
+use Rattle.model.specs.Refusals.{sheetChecks, formChecks, treeChecks, planChecks, judgeChecks, readChecks, convertChecks}
 use Rattle.model.specs.declared.Place.{Place}
 use Rattle.model.specs.declared.Place.the-variants.{At, Nowhere}
 use Rattle.model.specs.declared.Answer.{Answer}
@@ -222,9 +222,18 @@ pub judge-never : (t m : List ℕ) → Never 0 (judgeChecks t m)
 unfolding judgeChecks
 judge-never t m = never-append 0 (treeChecks t) (markChecks t m) (tree-never t) (mark-plain t m .0)
 
+pub judge-fifteen : (t m : List ℕ) → Never 15 (judgeChecks t m)
+unfolding every judgeChecks treeChecks formChecks headChecks nodeChecks weightChecks markChecks shortTable badCount
+    badLimit badLength noLabel badWalk heavyNode badMarks markRefused pageRefused
+judge-fifteen t m p = refl
+
 pub read-plain : (e : Edition) (a t m : List ℕ) → Plain (readChecks e a t m)
 unfolding every readChecks backChecks noArchive badOutput badMarks
 read-plain e a t m = (λ p. refl, λ p. refl, λ p. refl)
+
+pub convert-plain : (e f : Edition) (a out : List ℕ) → Plain (convertChecks e f a out)
+unfolding every convertChecks filmChecks noArchive noLabel manyNodes badOutput
+convert-plain e f a out = (λ p. refl, λ p. refl, λ p. refl)
 
 -- ---- Going on from an answer
 
@@ -313,15 +322,17 @@ without-never n (c ∷ cs) h =
 
 -- ---- Lists with 14, or without: it is a check of the nodes
 
-abbrev pub checksWith : Bool → List Check → List Check
-checksWith filed cs = pick filed cs (without 14 cs)
-
 -- checks that pass with 14 pass without
 pub passes-unfiled : (filed : Bool) (cs : List Check) → passes (checksWith filed cs) ≡ true
     → passes (without 14 cs) ≡ true
 unfolding pick
 passes-unfiled true cs e = passes-without 14 cs e
 passes-unfiled false cs e = e
+
+pub passes-filed : (filed : Bool) (cs : List Check) → passes cs ≡ true → passes (checksWith filed cs) ≡ true
+unfolding pick
+passes-filed true cs e = e
+passes-filed false cs e = passes-without 14 cs e
 
 pub never-with : (n : ℕ) (filed : Bool) (cs : List Check) → Never n cs → Never n (checksWith filed cs)
 unfolding pick

@@ -13,7 +13,7 @@ use borrow.Author.Tests.{eq-eqb, ne-eqb}
 use Rattle.model.specs.Basics.{pick, when, atPlace}
 use Rattle.model.specs.Table.{maxNodes, nodeCount}
 use Rattle.model.specs.Plan.{badMark, heavyPage, pageCount, pageWeight, verdictOf}
-use Rattle.model.specs.Refusals.{Check, without, noLabel, badWalk}
+use Rattle.model.specs.Refusals.{Check, without, noLabel, badWalk, checksWith}
 use Rattle.model.specs.Refusals.{badMarks, markRefused, pageRefused, headChecks, nodeChecks, weightChecks}
 use Rattle.model.specs.Refusals.{formChecks, treeChecks, markChecks, judgeChecks, acceptedTree, answerOf}
 use Rattle.model.specs.Refusals.{refused, accepted, firstOf, readTree, judgePlan}
@@ -25,7 +25,7 @@ use Rattle.model.specs.declared.Verdict.the-variants.{Feasible, Failed}
 use Rattle.model.specs.declared.Answer.{Answer}
 use Rattle.theory.specs.Ranges.{when-true, when-false, atPlace-at, atPlace-nowhere, countTo-le}
 use Rattle.theory.specs.Checks.{head-plain, tree-never, firstOf-append, firstOf-then, accepted-pass, andThen}
-use Rattle.theory.specs.Checks.{then-next, then-stands, checksWith, passes-unfiled, never-with, with-form}
+use Rattle.theory.specs.Checks.{then-next, then-stands, passes-unfiled, never-with, with-form}
 use Rattle.theory.specs.Checks.{with-tree, with-judge}
 use Rattle.theory.specs.TableFacts.{AcceptedFacts, head-facts, unfiled-facts, accepted-facts}
 

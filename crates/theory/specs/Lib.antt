@@ -75,4 +75,5 @@ pub mod PromiseWeight
 pub mod PromisePlanner
 pub mod ArchiveLowest
 pub mod PromiseArchive
+pub mod PromiseConvert
 pub mod PromiseSheets

@@ -5,7 +5,7 @@
 -- output-done; with-entry, with-done, with-wrote, with-passed, with-last, with-kept; and of the check of a length
 -- short-output, long-output. Assumes nothing.
 use Prim.Native.Nat.{ℕ}
-use mathlib.Core.Bool.{Bool, true, false, not, true≢false}
+use mathlib.Core.Bool.{Bool, true, false, not, _&&_, true≢false}
 use mathlib.Core.Path.{_≡_, refl, sym, _∙_, ap, ap₂}
 use mathlib.Core.List.{List, [], _∷_, _++_}
 use lib.ListN.{length}
@@ -14,14 +14,14 @@ use borrow.Author.Tests.{eq-eqb, ne-eqb}
 use Rattle.model.specs.Basics.{pick, when}
 use Rattle.model.specs.Plan.{verdictOf}
 use Rattle.model.specs.Refusals.{Check, badOutput, markChecks, judgeChecks, passes, answerOf, refused, firstOf}
-use Rattle.model.specs.Refusals.{Written, writeChecked}
+use Rattle.model.specs.Refusals.{checksWith, Written, writeChecked}
 use Rattle.model.specs.declared.Place.the-variants.{At, Nowhere}
 use Rattle.model.specs.declared.Answer.{Answer}
 use Rattle.theory.specs.Bools.{never-true}
 use Rattle.theory.specs.Ranges.{when-true, when-false, atPlace-at, atPlace-nowhere}
-use Rattle.theory.specs.Checks.{Never, passes-both, both-pass, firstOf-pass, firstOf-stop, firstOf-all}
+use Rattle.theory.specs.Checks.{Never, passes-append, passes-both, both-pass, firstOf-pass, firstOf-stop, firstOf-all}
 use Rattle.theory.specs.Checks.{never-append, accepted-pass, mark-plain, judge-never}
-use Rattle.theory.specs.Checks.{andThen, then-next, then-stands, then-both, checksWith, never-with, with-after}
+use Rattle.theory.specs.Checks.{andThen, then-next, then-stands, then-both, never-with, with-after}
 use Rattle.theory.specs.JudgeAnswers.{treeAnswer, marksAnswer, with-then}
 use Rattle.theory.specs.TableFacts.{AcceptedFacts}
 use Rattle.theory.specs.PlanFeasible.{Judged, marks-judged, feasibleWith, with-judged, judged-zero}
@@ -59,6 +59,12 @@ outcome-next c cs a e =
 pub outcome-none : (a : Answer) → outcome [] a ≡ (a, true)
 unfolding firstOf passes
 outcome-none a = refl
+
+-- checks that pass leave it to those after them
+pub outcome-after : (cs ds : List Check) (a : Answer) → passes cs ≡ true → outcome (cs ++ ds) a ≡ outcome ds a
+outcome-after cs ds a p =
+    ap₂ (λ (x : Answer) (y : Bool). (x, y)) (firstOf-pass cs ds a p)
+    (passes-append cs ds ∙ ap (λ b. b && passes ds) p)
 
 -- a number that is to be n, as the checks of a length ask
 pub unequal : (x n : ℕ) → (x ≡ n → ⊥) → when (not (eqb x n)) n ≡ At n

@@ -17,15 +17,17 @@ use Rattle.model.specs.Table.{nodeCount, limitOf, treeOf}
 use Rattle.model.specs.Plan.{markAt, pageCount, pageWeight, badMark, heavyPage, verdictOf}
 use Rattle.model.specs.Refusals.{passes, without, noLabel, badMarks, markRefused, pageRefused, headChecks, nodeChecks}
 use Rattle.model.specs.Refusals.{weightChecks, formChecks, treeChecks, markChecks, judgeChecks, firstOf}
-use Rattle.model.specs.Refusals.{acceptedTree, feasiblePlan, feasibleUnfiled, answerOf, refused, judgePlan}
+use Rattle.model.specs.Refusals.{acceptedTree, checksWith, feasiblePlan, feasibleFilm, answerOf, refused, judgePlan}
+use Rattle.model.specs.Demand.{Filed}
 use Rattle.model.specs.declared.Answer.{Answer}
+use Rattle.model.specs.declared.Edition.{Edition}
 use Rattle.model.specs.declared.Place.the-variants.{At, Nowhere}
 use Rattle.model.specs.declared.Verdict.the-variants.{Feasible}
 use Rattle.theory.specs.Ranges.{Upto, when-false, when-nowhere, atPlace-nowhere, firstTo-none, firstTo-nowhere}
 use Rattle.theory.specs.Checks.{Pass, pass-all, passes-both, both-pass, firstOf-all}
-use Rattle.theory.specs.Checks.{firstOf-pass, firstOf-append, checksWith, passes-unfiled, with-form, with-tree}
+use Rattle.theory.specs.Checks.{firstOf-pass, firstOf-append, passes-unfiled, passes-filed, with-form, with-tree}
 use Rattle.theory.specs.Checks.{with-judge, filed-passes, node-stops}
-use Rattle.theory.specs.TableFacts.{SoundFacts, AcceptedFacts, unfiled-facts}
+use Rattle.theory.specs.TableFacts.{SoundFacts, AcceptedFacts, nowhere-filed, unfiled-facts}
 use Rattle.theory.specs.TableNumbered.{tree-size}
 use Rattle.theory.specs.PlanShape.{allowed, weighed, AllWithin}
 use Rattle.theory.specs.PlanLaid.{FeasibleShape}
@@ -90,9 +92,22 @@ pub feasible-judged : (t m : List ℕ) → feasiblePlan t m ≡ true → Judged 
 unfolding feasiblePlan pick
 feasible-judged t m e = with-judged true t m e
 
-pub unfiled-judged : (t m : List ℕ) → feasibleUnfiled t m ≡ true → Judged t m
-unfolding feasibleUnfiled pick
-unfiled-judged t m e = with-judged false t m e
+pub film-judged : (e : Edition) (t m : List ℕ) → feasibleFilm e t m ≡ true → Judged t m
+unfolding feasibleFilm
+film-judged e t m f = with-judged (e .filed) t m f
+
+-- no label of an accepted tree is 0
+pub feasible-filed : (t m : List ℕ) → feasiblePlan t m ≡ true → Filed t
+unfolding Pass feasiblePlan judgeChecks treeChecks formChecks nodeChecks
+feasible-filed t m f =
+    let tree = passes-both (treeChecks t) (markChecks t m) f .0 in
+    let form = passes-both (formChecks t) (weightChecks t) tree .0 in
+    nowhere-filed t (pass-all (nodeChecks t) .0 (passes-both (headChecks t) (nodeChecks t) form .1) .0)
+
+-- a feasible plan is one on film of every edition
+pub feasible-film : (e : Edition) (t m : List ℕ) → feasiblePlan t m ≡ true → feasibleFilm e t m ≡ true
+unfolding feasiblePlan feasibleFilm
+feasible-film e t m f = passes-filed (e .filed) (judgeChecks t m) f
 
 pub judged-feasible : {t m : List ℕ} → acceptedTree t ≡ true → Judged t m → feasiblePlan t m ≡ true
 unfolding Pass feasiblePlan judgeChecks acceptedTree markChecks badMarks markRefused pageRefused
@@ -117,15 +132,16 @@ unfolding judgePlan feasiblePlan
 feasible-judge t m e =
     firstOf-all (judgeChecks t m) (answerOf (verdictOf t m)) e ∙ ap answerOf (judged-verdict (feasible-judged t m e))
 
--- ---- A plan in which nothing but labels is refused
+-- ---- A plan on film, in which nothing but labels is refused
 
-module _ (t m : List ℕ) (f : feasibleUnfiled t m ≡ true) where
+module _ (e : Edition) (t m : List ℕ) (f : feasibleFilm e t m ≡ true) where
   unfiled-parts : (passes (headChecks t) ≡ true) × (passes (without 14 (nodeChecks t)) ≡ true)
       × (passes (weightChecks t) ≡ true) × (passes (markChecks t m) ≡ true)
-  unfolding feasibleUnfiled pick
+  unfolding feasibleFilm pick
   unfiled-parts =
       let plan =
-      passes-both (without 14 (treeChecks t)) (markChecks t m) (sym (ap passes (with-judge false t m)) ∙ f) in
+      passes-both (without 14 (treeChecks t)) (markChecks t m)
+      (sym (ap passes (with-judge false t m)) ∙ passes-unfiled (e .filed) (judgeChecks t m) f) in
       let tree =
       passes-both (without 14 (formChecks t)) (weightChecks t) (sym (ap passes (with-tree false t)) ∙ plan .0) in
       let form =
@@ -150,6 +166,11 @@ module _ (t m : List ℕ) (f : feasibleUnfiled t m ≡ true) where
       ∙ firstOf-append (formChecks t) (weightChecks t) (firstOf (markChecks t m) a)
       ∙ firstOf-pass (headChecks t) (nodeChecks t) _ (unfiled-parts .0)
       ∙ node-stops t (unfiled-parts .1) v found _
+
+  -- film of a filed edition has none
+  pub film-filed : e .filed ≡ true → feasiblePlan t m ≡ true
+  unfolding feasiblePlan feasibleFilm pick
+  film-filed is = rw is at f
 
 -- ---- By shape
 

@@ -1,18 +1,21 @@
 -- What the archive's entries promise beside their equations, in an edition: the writer demand 3 (write-promise), the
 -- reader demand 2 (read-promise). They rest on the promises of the planner and the judge, and on the laws of writing
--- and reading back. Assumes nothing.
+-- and reading back.
+-- Proves write-promise, written-back, writes-again, written-again, read-promise. Assumes nothing.
 use Prim.Native.Nat.{ℕ, _≤_}
 use native.Mathlib.Omega.{arith}
 use mathlib.Core.Bool.{Bool, true, false, true≢false}
 use mathlib.Core.Path.{_≡_, refl, sym, _∙_, ap, ap₂}
+use mathlib.Core.Logic.{_↔_}
 use mathlib.Core.List.{List}
 use lib.ListN.{length}
 use Rattle.model.specs.Basics.{pick}
-use Rattle.model.specs.Table.{Bytes, nodeCount, tableBytes}
+use Rattle.model.specs.Table.{Bytes, maxNodes, nodeCount, tableBytes}
 use Rattle.model.specs.Plan.{pageCount, verdictOf}
 use Rattle.model.specs.Archive.{archiveOf, archiveBytes, nodesIn, tableIn, marksIn}
-use Rattle.model.specs.Refusals.{judgeChecks, feasiblePlan, feasibleUnfiled, answerOf, planBest, Written}
-use Rattle.model.specs.Refusals.{writeChecks, writeArchive, writeUnfiled, isArchive, Restored, readArchive}
+use Rattle.model.specs.Refusals.{judgeChecks, filmChecks, firstOf, feasiblePlan, feasibleFilm, answerOf}
+use Rattle.model.specs.Refusals.{planBest, Written, writeChecked, writeChecks, writeArchive, writeFilm, isArchive}
+use Rattle.model.specs.Refusals.{Restored, readArchive}
 use Rattle.model.specs.Demand.{PlanLent, LowestOnFilm, WritePromise, WrittenFrom, Filed, ReadPromise}
 use Rattle.model.specs.declared.Verdict.the-variants.{Feasible, Failed}
 use Rattle.model.specs.declared.Beside.{Beside}
@@ -20,15 +23,16 @@ use Rattle.model.specs.declared.Beside.the-variants.{Given, Nothing}
 use Rattle.model.specs.declared.Answer.{Answer}
 use Rattle.model.specs.declared.Edition.{Edition}
 use Rattle.theory.specs.Bools.{never-true}
-use Rattle.theory.specs.Checks.{passes-unfiled}
+use Rattle.theory.specs.Checks.{firstOf-append, never-first, judge-fifteen}
 use Rattle.theory.specs.TableFacts.{filed-nowhere, unfiled-first}
-use Rattle.theory.specs.PlanFeasible.{Judged, feasibleWith, feasible-judged, unfiled-judged, judged-verdict}
-use Rattle.theory.specs.PlanFeasible.{judged-zero, filed-feasible}
+use Rattle.theory.specs.PlanFeasible.{Judged, feasibleWith, feasible-judged, film-judged, judged-verdict}
+use Rattle.theory.specs.PlanFeasible.{judged-zero, feasible-film, filed-feasible, film-filed, feasible-filed}
 use Rattle.theory.specs.PromiseWeight.{write-weight, read-five}
 use Rattle.theory.specs.PromisePlanner.{best-lent, best-plan, best-promise}
 use Rattle.theory.specs.ArchiveWords.{Described, length-archive, archive-nodes}
 use Rattle.theory.specs.ArchiveBack.{write-read, WritesBack, read-write, tableIn-bytes}
-use Rattle.theory.specs.ArchiveAnswers.{writeWith, write-done, write-many, write-kept, WriteDone, writer-done}
+use Rattle.theory.specs.ArchiveAnswers.{writeWith, write-done, write-many, write-fifteen, write-kept}
+use Rattle.theory.specs.ArchiveAnswers.{WriteDone, writer-done}
 use Rattle.theory.specs.ArchiveAnswers.{unfiled-stops, read-none, read-done, read-kept, reader-done}
 use Rattle.theory.specs.ArchiveAnswers.{read-thirteen}
 use Rattle.theory.specs.ArchiveLowest.{plan-feasible, film-lowest}
@@ -64,6 +68,18 @@ module _ {e : Edition} (d : Described e) (t m out : List ℕ) where
         (write-done true e t m out f few (long ∙ ap (λ n. archiveBytes e n (nodeCount t)) count))
         ∙ judged-zero (feasible-judged t m f)
 
+  -- an edition that takes as many nodes as a table has never too few
+  never-fifteen : maxNodes ≤ e .most → writeArchive e t m out .answer .number ≡ 15 → ⊥
+  unfolding writeArchive writeChecked writeChecks feasiblePlan pick
+  never-fifteen room h =
+      let f =
+      never-first 15 (judgeChecks t m) (firstOf (filmChecks e t m out) (answerOf (verdictOf t m)))
+      (judge-fifteen t m)
+      (ap (λ (x : Answer). x .number)
+      (sym (firstOf-append (judgeChecks t m) (filmChecks e t m out) (answerOf (verdictOf t m))))
+      ∙ h) .0 in
+      write-fifteen true e t m out f (omega (arith, feasible-judged t m f .tree .sound .count-high)) h
+
   pub write-promise : WritePromise e t m out (writeArchive e t m out .answer) (writeArchive e t m out .output)
   unfolding writeArchive writeChecks feasiblePlan pick
   write-promise =
@@ -73,18 +89,18 @@ module _ {e : Edition} (d : Described e) (t m out : List ℕ) where
             best-accepted lent scratch (ap (λ (x : Answer). x .number) a) P W a is few long;
         lowest = λ lent scratch z is done. rw (writer-done true e t m out done .wrote) (best-film lent scratch z is);
         many = write-many true e t m out;
+        few = never-fifteen;
         kept = write-kept true e t m out;
         weight = write-weight t m e out;
       }
 
 -- ---- The reader
 
-module _ {e : Edition} (d : Described e) (a table marks : List ℕ) where
-  abbrev read : Restored
-  read = readArchive e a table marks
-
-  -- an archive that was written, with 14 or without, is one, and tells what it was written from
-  module _ (filed : Bool) (u n : List ℕ) (w : WrittenFrom (writeWith filed e) u n a) where
+module _ {e : Edition} (d : Described e) (a : List ℕ) where
+  -- an archive that was written, with 14 or without, as its edition's film is held, is one, and tells what it was
+  -- written from
+  module _ (filed : Bool) (film : (u n : List ℕ) → feasibleWith filed u n ≡ true → feasibleFilm e u n ≡ true)
+      (u n : List ℕ) (w : WrittenFrom (writeWith filed e) u n a) where
     done : WriteDone filed e u n (w .out)
     done = writer-done filed e u n (w .out) (w .accepts)
 
@@ -92,17 +108,15 @@ module _ {e : Edition} (d : Described e) (a table marks : List ℕ) where
     same = sym (ap (λ (x : Written). x .output) (done .wrote)) ∙ w .leaves
 
     back : (tableIn e a ≡ u) × (marksIn e a ≡ n) × (isArchive e a ≡ true)
-    unfolding feasibleUnfiled
-    back =
-        rw same at
-        (write-read d (w .bytes) (passes-unfiled filed (judgeChecks u n) (done .feasible)) (done .few))
+    back = rw same at (write-read d (w .bytes) (film u n (done .feasible)) (done .few))
 
     nodes : nodesIn e a ≡ nodeCount u
     nodes = ap (nodesIn e) (sym same) ∙ archive-nodes d u n
 
-    read-back : length table ≡ length u → length marks ≡ length n
-        → (read .answer .number ≡ 0) × (read .table ≡ u) × (read .marks ≡ n)
-    read-back long-table long-marks =
+    read-back : (table marks : List ℕ) → length table ≡ length u → length marks ≡ length n
+        → (readArchive e a table marks .answer .number ≡ 0) × (readArchive e a table marks .table ≡ u)
+        × (readArchive e a table marks .marks ≡ n)
+    read-back table marks long-table long-marks =
         let j = done .judged in
         let r =
         read-done e a table marks (back .2) (long-table ∙ j .tree .sound .bytes ∙ ap tableBytes (sym nodes))
@@ -114,8 +128,8 @@ module _ {e : Edition} (d : Described e) (a table marks : List ℕ) where
           ap (λ (x : Restored). x .marks) (sym r) ∙ back .1,
         )
 
-  -- an archive is written again by what it tells, without 14, or with it where no label is 0
-  writes-again : (filed : Bool) → isArchive e a ≡ true → feasibleWith filed (tableIn e a) (marksIn e a) ≡ true
+  -- an archive is written again by what it tells, as film is held, or with 14 where no label is 0
+  pub writes-again : (filed : Bool) → isArchive e a ≡ true → feasibleWith filed (tableIn e a) (marksIn e a) ≡ true
       → (out : List ℕ) → length out ≡ length a
       → writeWith filed e (tableIn e a) (marksIn e a) out
       ≡ record { answer = answerOf (verdictOf (tableIn e a) (marksIn e a)); output = a }
@@ -129,17 +143,21 @@ module _ {e : Edition} (d : Described e) (a table marks : List ℕ) where
 
   -- what is told
   module _ (is : isArchive e a ≡ true) where
-    told : feasibleUnfiled (tableIn e a) (marksIn e a) ≡ true
+    told : feasibleFilm e (tableIn e a) (marksIn e a) ≡ true
     told = read-write e a is .feasible
 
     told-judged : Judged (tableIn e a) (marksIn e a)
-    told-judged = unfiled-judged (tableIn e a) (marksIn e a) told
+    told-judged = film-judged e (tableIn e a) (marksIn e a) told
 
-    again-unfiled : (out : List ℕ) → length out ≡ length a
-        → writeUnfiled e (tableIn e a) (marksIn e a) out
+    again-film : (out : List ℕ) → length out ≡ length a
+        → writeFilm e (tableIn e a) (marksIn e a) out
         ≡ record { answer = answerOf (verdictOf (tableIn e a) (marksIn e a)); output = a }
-    unfolding writeUnfiled writeChecks feasibleUnfiled pick
-    again-unfiled = writes-again false is told
+    unfolding writeFilm writeChecks feasibleFilm
+    again-film = writes-again (e .filed) is told
+
+    told-filed : e .filed ≡ true → Filed (tableIn e a)
+    told-filed filed =
+        feasible-filed (tableIn e a) (marksIn e a) (film-filed e (tableIn e a) (marksIn e a) told filed)
 
     again-filed : Filed (tableIn e a)
         → (feasiblePlan (tableIn e a) (marksIn e a) ≡ true) × ((out : List ℕ) → length out ≡ length a
@@ -147,12 +165,12 @@ module _ {e : Edition} (d : Described e) (a table marks : List ℕ) where
         ≡ record { answer = answerOf (verdictOf (tableIn e a) (marksIn e a)); output = a })
     unfolding writeArchive writeChecks feasiblePlan pick
     again-filed labels =
-        let f = filed-feasible (tableIn e a) (marksIn e a) told (filed-nowhere (tableIn e a) labels) in
+        let f = filed-feasible e (tableIn e a) (marksIn e a) told (filed-nowhere (tableIn e a) labels) in
         (f, writes-again true is f)
 
-    written-again : Bytes a → WrittenFrom (writeUnfiled e) (tableIn e a) (marksIn e a) a
+    written-again : Bytes a → WrittenFrom (writeFilm e) (tableIn e a) (marksIn e a) a
     written-again b =
-        let again = again-unfiled a refl in
+        let again = again-film a refl in
         record {
           bytes = tableIn-bytes e a b;
           out = a;
@@ -160,34 +178,52 @@ module _ {e : Edition} (d : Described e) (a table marks : List ℕ) where
           leaves = ap (λ (x : Written). x .output) again;
         }
 
-  is-archive : read .answer .number ≡ 0 → isArchive e a ≡ true
-  is-archive z = reader-done e a table marks z .0
+  -- film of the edition, as far as the writer can tell
+  pub film-written : Bytes a → (isArchive e a ≡ false) ↔ ((u n : List ℕ) → WrittenFrom (writeFilm e) u n a → ⊥)
+  unfolding writeFilm writeChecks feasibleFilm
+  film-written b = (
+    λ h u n w. true≢false (sym (back (e .filed) (λ x y f. f) u n w .2) ∙ h),
+    λ h. never-true (isArchive e a) (λ is. h (tableIn e a) (marksIn e a) (written-again is b)),
+  )
 
-  pub read-promise : Bytes a
-      → ReadPromise e a table marks (readArchive e a table marks .answer) (readArchive e a table marks .table)
-      (readArchive e a table marks .marks)
-  unfolding writeArchive writeUnfiled writeChecks pick
-  read-promise b =
-      record {
-        back = read-back false;
-        written = read-back true;
-        sound =
-            λ z. rw (reader-done e a table marks z .1)
-            (ap answerOf (judged-verdict (told-judged (is-archive z))), told (is-archive z));
-        again = λ z. rw (reader-done e a table marks z .1) (again-unfiled (is-archive z));
-        filed = λ z. rw (reader-done e a table marks z .1) (again-filed (is-archive z));
-        unfiled =
-            λ z. rw (reader-done e a table marks z .1)
-            (λ v first out.
-            unfiled-stops e (tableIn e a) (marksIn e a) out (told (is-archive z)) v
-            (unfiled-first (tableIn e a) v first));
-        none = (
-          λ h u n w. true≢false (sym (back false u n w .2) ∙ read-thirteen e a table marks h),
-          λ h. ap (λ (x : Restored). x .answer .number)
-              (sym
-              (read-none e a table marks
-              (never-true (isArchive e a) (λ is. h (tableIn e a) (marksIn e a) (written-again is b))))),
-        );
-        kept = read-kept e a table marks;
-        five = read-five e a table marks;
-      }
+  module _ (table marks : List ℕ) where
+    abbrev read : Restored
+    read = readArchive e a table marks
+
+    is-archive : read .answer .number ≡ 0 → isArchive e a ≡ true
+    is-archive z = reader-done e a table marks z .0
+
+    pub read-promise : (f : Edition) → (isArchive e a ≡ true → isArchive f a ≡ true → ⊥) → Bytes a
+        → ReadPromise e f a table marks (readArchive e a table marks .answer) (readArchive e a table marks .table)
+        (readArchive e a table marks .marks)
+    unfolding writeArchive writeFilm writeChecks feasiblePlan feasibleFilm pick
+    read-promise f apart b =
+        record {
+          back = λ u n w. read-back (e .filed) (λ x y h. h) u n w table marks;
+          written = λ u n w. read-back true (feasible-film e) u n w table marks;
+          sound =
+              λ z. rw (reader-done e a table marks z .1)
+              (ap answerOf (judged-verdict (told-judged (is-archive z))), told (is-archive z));
+          again = λ z. rw (reader-done e a table marks z .1) (again-film (is-archive z));
+          labels = λ filed z. rw (reader-done e a table marks z .1) (told-filed (is-archive z) filed);
+          filed = λ z. rw (reader-done e a table marks z .1) (again-filed (is-archive z));
+          unfiled =
+              λ z. rw (reader-done e a table marks z .1)
+              (λ v first out.
+              unfiled-stops e e (tableIn e a) (marksIn e a) out (told (is-archive z)) v
+              (unfiled-first (tableIn e a) v first));
+          none = (
+            λ h. film-written b .0 (read-thirteen e a table marks h),
+            λ h. ap (λ (x : Restored). x .answer .number) (sym (read-none e a table marks (film-written b .1 h))),
+          );
+          other =
+              λ h u n.
+              let none : isArchive f a ≡ false =
+              never-true (isArchive f a) (λ is. h (thirteen (never-true (isArchive e a) (λ own. apart own is)))) in
+              ap (λ (x : Restored). x .answer) (sym (read-none f a u n none));
+          kept = read-kept e a table marks;
+          five = read-five e a table marks;
+        }
+      where
+        thirteen : isArchive e a ≡ false → read .answer .number ≡ 13
+        thirteen n = ap (λ (x : Restored). x .answer .number) (sym (read-none e a table marks n))

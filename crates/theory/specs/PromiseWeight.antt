@@ -1,7 +1,8 @@
 -- Refusal 7 of every entry is the tree reader's, and exact: demand 3's last sentence, as the entries promise it. 5 is
 -- never given.
 -- Proves weight-promise, seven-tree (checks after the tree's that never give 7 leave it to the tree's), five-tree,
--- read-weight, judge-weight, write-weight, print-weight; and of the archive's reader read-five. Assumes nothing.
+-- read-weight, judge-weight, write-weight, print-weight; and of the archive's reader and the converters read-five, convert-five.
+-- Assumes nothing.
 use Prim.Native.Nat.{ℕ}
 use native.Mathlib.Omega.{arith}
 use mathlib.Core.Path.{_≡_, refl, sym, _∙_, ap}
@@ -13,7 +14,7 @@ use Rattle.model.specs.Archive.{tableIn, marksIn}
 use Rattle.model.specs.Refusals.{Check, treeChecks, markChecks, filmChecks, sheetChecks, judgeChecks, writeChecks}
 use Rattle.model.specs.Refusals.{printChecks, passes}
 use Rattle.model.specs.Refusals.{answerOf, accepted, firstOf, readTree, judgePlan, writeChecked}
-use Rattle.model.specs.Refusals.{writeArchive, printSheets, readChecks, readArchive}
+use Rattle.model.specs.Refusals.{writeArchive, printSheets, readChecks, readArchive, convertChecks, convertArchive}
 use Rattle.model.specs.Demand.{WeightPromise}
 use Rattle.model.specs.declared.Cause.the-variants.{BadMark, HeavyPage}
 use Rattle.model.specs.declared.Verdict.{Verdict}
@@ -22,6 +23,7 @@ use Rattle.model.specs.declared.Answer.{Answer}
 use Rattle.model.specs.declared.Edition.{Edition}
 use Rattle.theory.specs.Checks.{Never, Plain, firstOf-pass, firstOf-stop, firstOf-all, never-append, never-first}
 use Rattle.theory.specs.Checks.{plain-append, mark-plain, film-plain, sheet-plain, tree-never-five, read-plain}
+use Rattle.theory.specs.Checks.{convert-plain}
 use Rattle.theory.specs.RunsHeld.{refused-unheld, seven-refused}
 
 -- an entry that answers 7 just where the tree reader does, and 5 nowhere
@@ -103,3 +105,9 @@ unfolding readArchive
 read-five e a t m h =
     verdict-never (verdictOf (tableIn e a) (marksIn e a)) .1
     (never-first 5 (readChecks e a t m) _ (read-plain e a t m .2) h .1)
+
+pub convert-five : (e f : Edition) (a out : List ℕ) → convertArchive e f a out .answer .number ≡ 5 → ⊥
+unfolding convertArchive writeChecked
+convert-five e f a out h =
+    verdict-never (verdictOf (tableIn e a) (marksIn e a)) .1
+    (never-first 5 (convertChecks e f a out) _ (convert-plain e f a out .2) h .1)

@@ -29,6 +29,10 @@ pub length-putWord : (o : List ℕ) (i w : ℕ) → length (putWord o i w) ≡ l
 unfolding putWord
 length-putWord o i w = simp length-set
 
+pub length-putRecord : (o : List ℕ) (i a b c d : ℕ) → length (putRecord o i a b c d) ≡ length o
+unfolding putRecord
+length-putRecord o i a b c d = simp length-putWord
+
 bytesOf-append : (xs ys : List ℕ) → bytesOf (xs ++ ys) ≡ bytesOf xs ++ bytesOf ys
 unfolding bytesOf
 bytesOf-append [] ys = refl

@@ -1,7 +1,7 @@
 -- What a table of sound form is but for its labels, as plain facts, and what an accepted one is besides. Labels are
 -- apart, since older film tells trees with labels 0.
 -- Defines SoundFacts, AcceptedFacts. Proves that they say what the parts of the list of checks say: head-facts,
--- sound-facts, filed-nowhere, unfiled-first, facts-sound, light-passes; accepted-parts, sound-accepted, unfiled-facts,
+-- sound-facts, filed-nowhere, nowhere-filed, unfiled-first, facts-sound, light-passes; accepted-parts, sound-accepted, unfiled-facts,
 -- accepted-facts, facts-accepted. Assumes nothing.
 use Prim.Native.Nat.{ℕ, _+_, _*_, _≤_}
 use native.Mathlib.Omega.{arith}
@@ -106,6 +106,13 @@ unfolding noLabel
 filed-nowhere t f =
     firstTo-none (nodeCount t) (λ v. eqb (labelAt t v) 0)
     (λ v low high. ne-eqb (labelAt t v) 0 (λ z. omega (arith, f v low high)))
+
+pub nowhere-filed : (t : List ℕ) → noLabel t .place ≡ Nowhere → Filed t
+unfolding noLabel
+nowhere-filed t none v low high =
+    let some : labelAt t v ≡ 0 → ⊥ =
+    eqb-false (labelAt t v) 0 (firstTo-nowhere (nodeCount t) (λ u. eqb (labelAt t u) 0) none v low high) in
+    omega arith
 
 pub unfiled-first : (t : List ℕ) (v : ℕ) → FirstUnfiled t v → noLabel t .place ≡ At v
 unfolding noLabel
