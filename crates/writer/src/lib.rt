@@ -1,7 +1,9 @@
 // The archive's writer, in an edition. Refusals 15 and 12. What the reader takes from it is public.
+mod counts;
 pub mod links;
 mod records;
 pub mod size;
 pub mod write;
 
 pub use write::write_archive;
+pub use write::write_archive2;

@@ -8,22 +8,34 @@ use table::words::label_at;
 use table::words::node_count;
 use table::words::weight_at;
 ghost use mathlib.Core.Path.{_≡_};
-ghost use Prim.Native.Nat.{_+_, _-_, _*_, _≤_, _<_};
+ghost use Prim.Native.Nat.{_+_, _*_, _≤_, _<_};
 ghost use lib.ListN.{length, getD};
 ghost use Rattle.model.specs.Table.{nodeCount, slots};
 ghost use Rattle.model.specs.Archive.{nextPage, archiveBytes};
 ghost use Rattle.theory.specs.Ranges.{Upto};
-ghost use Rattle.theory.specs.Put.{putWord, RecordsPut};
+ghost use Rattle.theory.specs.Put.{RecordsPut};
 ghost use Rattle.writer.specs.Size.{InRoom, filmSlots};
-ghost use Rattle.writer.specs.RecordsOf.{pageRow, nodeRow};
+ghost use Rattle.writer.specs.RecordsOf.{putEdition, putHead, putFifth, pageRow, nodeRow};
 
-// N, K and P, the last three words of the head.
+// The word that tells the second edition.
+const EDITION_WORD: u16 = 8194;
+
+// The edition's word, where the head has one before N.
+fn put_edition(e: Edition, out: &mut [u8])
+    ensures { λ r. ⌜ now (out .exit) ≡ putEdition e (now (out .entry)) ⌝ }
+{
+    if 3 < e.head {
+        put_word(out, 0, EDITION_WORD);
+    }
+}
+
+// The head, whose last three words are N, K and P.
 pub fn put_head(e: Edition, nodes: u16, limit: u16, pages: u16, out: &mut [u8])
     requires { ⌜ InRoom e ⌝ }
-    ensures { λ r. ⌜ now (out .exit)
-        ≡ putWord (putWord (putWord (now (out .entry)) (e .head - 3) nodes) (e .head - 2) limit) (e .head - 1) pages ⌝ }
+    ensures { λ r. ⌜ now (out .exit) ≡ putHead e (now (out .entry)) nodes limit pages ⌝ }
 {
     let head = e.head as u32;
+    put_edition(e, out);
     put_word(out, head - 3, nodes);
     put_word(out, head - 2, limit);
     put_word(out, head - 1, pages);
@@ -37,18 +49,30 @@ fn page_after(p: u16, pages: u16) -> u16
     if p < pages { p + 1 } else { 0 }
 }
 
+// The fifth word of the page record at a word, where the edition has one.
+fn put_fifth(e: Edition, out: &mut [u8], at: u32, count: u16)
+    requires { ⌜ at + 4 < 4294967296 ⌝ }
+    ensures { λ r. ⌜ now (out .exit) ≡ putFifth e (now (out .entry)) at count ⌝ }
+{
+    if 4 < e.page {
+        put_word(out, at + 4, count);
+    }
+}
+
 // The page records, after the head.
 pub fn put_pages<'a>(
     e: Edition,
     firsts: &'a [u16; SLOTS],
     lasts: &'a [u16; SLOTS],
     weights: &'a [u32; SLOTS],
+    counts: &[u16; FILM_SLOTS],
     pages: u16,
     out: &mut [u8],
 )
     requires { ⌜ InRoom e × (pages < slots) × Upto pages (λ p. getD (now weights) p 0 < 65536)
         × (archiveBytes e pages 0 ≤ length (now out)) ⌝ }
-    ensures { λ r. ⌜ RecordsPut (pageRow (now (firsts .entry)) (now (lasts .entry)) (now (weights .entry)) pages)
+    ensures { λ r. ⌜ RecordsPut
+        (pageRow e (now (firsts .entry)) (now (lasts .entry)) (now (weights .entry)) (now (counts .entry)) pages)
         (e .head) pages (now (out .entry)) (now (out .exit)) ⌝ }
 {
     let mut at = e.head as u32;
@@ -60,6 +84,7 @@ pub fn put_pages<'a>(
         let weight = weights[p as usize] as u16;
         let after = page_after(p, pages);
         put_record(out, at, first, last, weight, after);
+        put_fifth(e, out, at, counts[p as usize]);
         at += e.page as u32;
     }
 }

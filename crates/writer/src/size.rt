@@ -1,28 +1,25 @@
 // The editions of the archive, and how large an archive is.
 use model::Edition;
 ghost use mathlib.Core.Path.{_≡_};
-ghost use Rattle.model.specs.Archive.{firstEdition, archiveBytes};
+ghost use Rattle.model.specs.Archive.{firstEdition, secondEdition, archiveBytes};
 ghost use Rattle.writer.specs.Size.{InRoom};
 
-// The most nodes of the archive of document 01, by which film decks size their memory.
-const FIRST_NODES: u16 = 1024;
+// The most nodes of the archive of document 01, by which film decks size their memory, and of edition 2's.
+pub const FIRST_NODES: u16 = 1024;
 
-// Room for the largest edition in the arrays of writer and reader: the words of its head and of a page record, and the
-// most nodes, and so pages, of an archive.
-pub const MOST_HEAD: usize = 3;
+pub const SECOND_NODES: u16 = 2048;
 
-pub const MOST_PAGE: usize = 4;
+// The longest archive, and the longest table that it tells, of document 01's and of edition 2's.
+pub const FIRST_BYTES: usize = 6 + 16 * (FIRST_NODES as usize);
 
-pub const MOST_NODES: usize = FIRST_NODES as usize;
+pub const FIRST_TABLE: usize = 4 + 8 * (FIRST_NODES as usize);
 
-// A place for each node or page of an archive by number, and one for 0.
-pub const FILM_SLOTS: usize = MOST_NODES + 1;
+pub const SECOND_BYTES: usize = 8 + 18 * (SECOND_NODES as usize);
 
-// The longest archive.
-pub const MOST_BYTES: usize = 2 * MOST_HEAD + 2 * MOST_PAGE * MOST_NODES + 8 * MOST_NODES;
+pub const SECOND_TABLE: usize = 4 + 8 * (SECOND_NODES as usize);
 
-// The longest table that an archive tells.
-pub const MOST_TABLE: usize = 4 + 8 * MOST_NODES;
+// A place for each node or page of an archive by number, and one for 0, in whichever edition.
+pub const FILM_SLOTS: usize = (SECOND_NODES as usize) + 1;
 
 // The archive of document 01.
 pub fn first_edition() -> Edition
@@ -32,6 +29,19 @@ pub fn first_edition() -> Edition
         head: 3,
         page: 4,
         most: FIRST_NODES,
+        filed: false,
+    }
+}
+
+// That of document 02.
+pub fn second_edition() -> Edition
+    ensures { λ r. ⌜ r ≡ secondEdition ⌝ }
+{
+    Edition {
+        head: 4,
+        page: 5,
+        most: SECOND_NODES,
+        filed: true,
     }
 }
 

@@ -1,11 +1,13 @@
 // The archive's writer. It judges the plan, and puts head, page records and node records of the layout that the judge
 // found.
+use crate::counts::count_nodes;
 use crate::links::link_next;
 use crate::records::put_head;
 use crate::records::put_nodes;
 use crate::records::put_pages;
 use crate::size::archive_bytes;
 use crate::size::first_edition;
+use crate::size::second_edition;
 use judge::FIRSTS;
 use judge::LASTS;
 use judge::PAGE;
@@ -27,7 +29,7 @@ ghost use lib.ListN.{length};
 ghost use lib.Dec.{eqb, ltb};
 ghost use Rattle.model.specs.Basics.{when, atPlace};
 ghost use Rattle.model.specs.Table.{nodeCount};
-ghost use Rattle.model.specs.Archive.{firstEdition, archiveOf, archiveBytes};
+ghost use Rattle.model.specs.Archive.{firstEdition, secondEdition, archiveOf, archiveBytes};
 ghost use Rattle.model.specs.Refusals.{refused, writeArchive};
 ghost use Rattle.model.specs.Demand.{WritePromise};
 ghost use Rattle.theory.specs.TableFacts.{AcceptedFacts};
@@ -55,9 +57,10 @@ fn fill_archive<'a>(
 {
     let nodes = node_count(table);
     let limit = limit_of(table);
+    let counts = count_nodes(e, &rows[PAGE], nodes);
     let nexts = link_next(&rows[PAGE], nodes);
     put_head(e, nodes, limit, pages, out);
-    put_pages(e, &rows[FIRSTS], &rows[LASTS], weights, pages, out);
+    put_pages(e, &rows[FIRSTS], &rows[LASTS], weights, &counts, pages, out);
     put_nodes(e, table, &rows[PARENTS], &nexts, pages, out);
 }
 
@@ -104,4 +107,15 @@ pub fn write_archive(table: &[u8], marks: &[u8], out: &mut [u8]) -> Answer
 {
     let tree = check_tree(table, true);
     write_edition(first_edition(), tree, table, marks, out)
+}
+
+// Entry: the writer of edition 2. The refusals of the judge, and 12: it takes as many nodes as a table has.
+pub fn write_archive2(table: &[u8], marks: &[u8], out: &mut [u8]) -> Answer
+    ensures { λ r. ⌜ written r (now (out .exit))
+        ≡ writeArchive secondEdition (now (table .entry)) (now (marks .entry)) (now (out .entry)) ⌝ }
+    ensures { λ r. ⌜ WritePromise secondEdition (now (table .entry)) (now (marks .entry)) (now (out .entry))
+        r (now (out .exit)) ⌝ }
+{
+    let tree = check_tree(table, true);
+    write_edition(second_edition(), tree, table, marks, out)
 }
