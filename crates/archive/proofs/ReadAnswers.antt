@@ -1,33 +1,34 @@
--- The reader's answers, as its code gives them, and the parts of its own arrays that it lends. Assumes nothing.
-use Prim.Native.Nat.{ℕ, _≤_, _<_}
+-- The reader's and the converters' answers, as their code gives them, and the parts of their own arrays that they lend.
+-- Assumes nothing.
+use Prim.Native.Nat.{ℕ, _≤_}
 use native.Mathlib.Omega.{arith}
 use mathlib.Core.Bool.{true}
 use mathlib.Core.Path.{_≡_, sym, _∙_, ap, ap₂}
 use mathlib.Core.List.{List, _++_}
-use lib.ListN.{length, take, replicate, length-append, length-replicate}
+use lib.ListN.{length, take}
 use lib.Seq.{length-take-le, take-at}
-use Rattle.model.specs.Basics.{sameList}
+use Rattle.model.specs.Basics.{pick, sameList}
 use Rattle.model.specs.Table.{tableBytes}
 use Rattle.model.specs.Plan.{verdictOf}
 use Rattle.model.specs.Archive.{nodesIn, tableIn, marksIn}
-use Rattle.model.specs.Refusals.{answerOf, refused, isArchive, readArchive}
+use Rattle.model.specs.Refusals.{answerOf, refused, Written, writeChecks, writeArchive, isArchive, readArchive}
+use Rattle.model.specs.Refusals.{convertArchive}
 use Rattle.model.specs.declared.Answer.{Answer}
 use Rattle.model.specs.declared.Edition.{Edition}
-use Rattle.theory.specs.ArchiveAnswers.{read-none, read-table, read-marks, read-done}
-use Rattle.archive.specs.Answers.{restored, CopyJudged, not-archive, too-many}
+use Rattle.theory.specs.JudgeAnswers.{treeAnswer}
+use Rattle.theory.specs.Outputs.{written}
+use Rattle.theory.specs.ArchiveBack.{read-write}
+use Rattle.theory.specs.ArchiveAnswers.{writeFrom, write-entry, read-none, read-table, read-marks, read-done}
+use Rattle.theory.specs.PromiseConvert.{convert-none, convert-write}
+use Rattle.writer.specs.Size.{longestTable}
+use Rattle.archive.specs.Answers.{restored, Told}
 
--- a part of an array of zeros
-pub fresh-part : (n size : ℕ) → size ≤ n → length (take size (replicate {A = ℕ} n 0)) ≡ size
-fresh-part n size h = length-take-le size (replicate n 0) (rw (length-replicate {A = ℕ} n 0) h)
-
-pub known-part : (l : List ℕ) (n size : ℕ) → length l ≡ n → size ≤ n → size ≡ length (take size l)
-known-part l n size long h = sym (length-take-le size l (omega arith))
+-- a part that is lent
+pub known-part : (l : List ℕ) (size : ℕ) → size ≤ length l → size ≡ length (take size l)
+known-part l size h = sym (length-take-le size l h)
 
 -- a part that came back
 module _ (e rest : List ℕ) (size : ℕ) (long : length e ≡ size) where
-  pub part-within : size ≤ length (e ++ rest)
-  part-within = omega (arith, length-append e rest)
-
   pub part-long : size ≡ length (take size (e ++ rest))
   part-long = sym (ap length (take-at e rest size long) ∙ long)
 
@@ -37,10 +38,7 @@ module _ (e rest : List ℕ) (size : ℕ) (long : length e ≡ size) where
 -- ---- Answers
 
 module _ (e : Edition) (a : List ℕ) {t m : List ℕ} {r : Answer} where
-  -- refusals: too many nodes, the table's length, the marks' length
-  pub reader-many : r ≡ refused 13 0 → e .most < nodesIn e a → restored r t m ≡ readArchive e a t m
-  reader-many is many = ap (λ (x : Answer). restored x t m) is ∙ read-none e a t m (too-many e a many)
-
+  -- refusals: the table's length, the marks' length
   pub reader-table : {size : ℕ} → r ≡ refused 12 size → size ≡ tableBytes (nodesIn e a) → isArchive e a ≡ true
       → (length t ≡ size → ⊥) → restored r t m ≡ readArchive e a t m
   reader-table is size-is film other =
@@ -53,23 +51,50 @@ module _ (e : Edition) (a : List ℕ) {t m : List ℕ} {r : Answer} where
       ap (λ (x : Answer). restored x t m) (is ∙ ap (refused 8) n-is)
       ∙ read-marks e a t m film fits (λ long. other (long ∙ sym n-is))
 
-module _ {e : Edition} (a t m t′ m′ : List ℕ) (r : Answer) (j : CopyJudged e a t′ m′ r) where
-  -- the candidate was refused
-  pub reader-none : (r .number ≡ 0 → ⊥) → (isArchive e a ≡ true → (t′ ≡ tableIn e a) × (m′ ≡ marksIn e a))
-      → restored r t m ≡ readArchive e a t m
-  reader-none other h =
-      let x = j .refuses other in
-      ap (λ (y : Answer). restored y t m) (x .0) ∙ read-none e a t m (not-archive e a t′ m′ h (x .1))
+module _ {e : Edition} (a : List ℕ) {tree plan : List ℕ} {r : Answer} (told : Told e a tree plan r) where
+  -- no archive
+  pub reader-none : (t m : List ℕ) → (r .number ≡ 0 → ⊥) → restored r t m ≡ readArchive e a t m
+  reader-none t m other =
+      let x = told .refuses other in
+      ap (λ (y : Answer). restored y t m) (x .0) ∙ read-none e a t m (x .1)
 
-  -- the candidate was accepted, and copied out
-  pub reader-done : r .number ≡ 0 → length t ≡ tableBytes (nodesIn e a) → length m ≡ nodesIn e a → (x y : List ℕ)
-      → x ≡ t′ → y ≡ m′ → restored r x y ≡ readArchive e a t m
-  reader-done z fits long x y x-is y-is =
-      let k = j .accepts z in
-      let answer : r ≡ answerOf (verdictOf (tableIn e a) (marksIn e a)) =
-      k .3 ∙ ap₂ (λ p q. answerOf (verdictOf p q)) (sym (k .1)) (sym (k .2)) in
-      let table : x ≡ tableIn e a = x-is ∙ sym (k .1) in
-      let marks : y ≡ marksIn e a = y-is ∙ sym (k .2) in
-      ap (λ (q : Answer). restored q x y) answer
-      ∙ ap₂ (λ p q. restored (answerOf (verdictOf (tableIn e a) (marksIn e a))) p q) table marks
-      ∙ read-done e a t m (k .0) fits long
+  pub converter-none : (f : Edition) (out : List ℕ) → (r .number ≡ 0 → ⊥) → written r out ≡ convertArchive e f a out
+  converter-none f out other =
+      let x = told .refuses other in
+      ap (λ (y : Answer). written y out) (x .0) ∙ convert-none e f a out (x .1)
+
+  module _ (z : r .number ≡ 0) {bytes count : ℕ} (bytes-are : bytes ≡ tableBytes (nodesIn e a))
+      (count-is : count ≡ nodesIn e a) where
+    -- there is room for what was decoded
+    pub tree-fits : (lent : List ℕ) → longestTable e ≤ length lent → length tree ≡ length lent → bytes ≤ length tree
+    tree-fits lent room same =
+        omega (arith, bytes-are, read-write e a (told .accepts z .0) .few)
+
+    pub plan-fits : (lent : List ℕ) → e .most ≤ length lent → length plan ≡ length lent → count ≤ length plan
+    plan-fits lent room same = omega (arith, count-is, read-write e a (told .accepts z .0) .few)
+
+    tree-told : take bytes tree ≡ tableIn e a
+    tree-told = ap (λ n. take n tree) bytes-are ∙ told .accepts z .1
+
+    plan-told : take count plan ≡ marksIn e a
+    plan-told = ap (λ n. take n plan) count-is ∙ told .accepts z .2
+
+    -- an archive, copied out
+    pub reader-done : (t m x y : List ℕ) → length t ≡ bytes → length m ≡ count → x ≡ take bytes tree
+        → y ≡ take count plan → restored r x y ≡ readArchive e a t m
+    reader-done t m x y fits long x-is y-is =
+        let k = told .accepts z in
+        ap (λ (q : Answer). restored q x y) (k .3)
+        ∙ ap₂ (λ p q. restored (answerOf (verdictOf (tableIn e a) (marksIn e a))) p q) (x-is ∙ tree-told)
+        (y-is ∙ plan-told)
+        ∙ read-done e a t m (k .0) (fits ∙ bytes-are) (long ∙ count-is)
+
+    -- an archive, written in the other edition
+    pub converter-done : (f : Edition) (out : List ℕ) {w : Written} (judged : Answer)
+        → w ≡ writeFrom f (take bytes tree) (take count plan) out judged
+        → judged ≡ treeAnswer true (take bytes tree) → w ≡ convertArchive e f a out
+    unfolding writeArchive writeChecks pick
+    converter-done f out judged h is =
+        write-entry true f (take bytes tree) (take count plan) out judged h is
+        ∙ ap₂ (λ x y. writeArchive f x y out) tree-told plan-told
+        ∙ convert-write e f a out (told .accepts z .0)

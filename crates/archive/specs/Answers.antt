@@ -1,17 +1,19 @@
--- What the reader promises: an answer with what is left in the lent buffers; and what it learns of a candidate.
--- Defines restored, CopyJudged. Proves read-both; copy-refused to copy-same; not-archive, too-many. Assumes nothing.
+-- What the reader promises: an answer with what is left in the lent buffers; and what it learns of a candidate, and of
+-- the film.
+-- Defines restored, CopyJudged, Told. Proves read-both; copy-refused to copy-same; told-many, told-copy. Assumes
+-- nothing.
 use Prim.Native.Nat.{ℕ, _≤_, _<_}
 use native.Mathlib.Omega.{arith}
 use mathlib.Core.Bool.{true, false, _&&_, true≢false}
 use mathlib.Core.Path.{_≡_, sym, _∙_, ap, ap₂}
 use mathlib.Core.List.{List}
-use lib.ListN.{length}
+use lib.ListN.{length, take}
 use lib.Dec.{leb}
 use Rattle.model.specs.Basics.{pick, sameList}
-use Rattle.model.specs.Table.{Bytes}
+use Rattle.model.specs.Table.{Bytes, tableBytes}
 use Rattle.model.specs.Plan.{verdictOf}
 use Rattle.model.specs.Archive.{archiveOf, nodesIn, tableIn, marksIn}
-use Rattle.model.specs.Refusals.{feasibleUnfiled, refused, answerOf, Written, isArchive, Restored}
+use Rattle.model.specs.Refusals.{feasibleFilm, refused, answerOf, Written, isArchive, Restored}
 use Rattle.model.specs.Refusals.{readArchive}
 use Rattle.model.specs.Demand.{ReadPromise}
 use Rattle.model.specs.declared.Answer.{Answer}
@@ -29,17 +31,17 @@ abbrev pub restored : Answer → List ℕ → List ℕ → Restored
 restored r t m = record { answer = r; table = t; marks = m }
 
 -- an answer and what is left, with the promise that they carry
-pub read-both : {e : Edition} → Described e → {a table marks t m : List ℕ} {r : Answer} → Bytes a
-    → restored r t m ≡ readArchive e a table marks
-    → (restored r t m ≡ readArchive e a table marks) × ReadPromise e a table marks r t m
-read-both d {a} {table} {marks} b w = (
+pub read-both : {e : Edition} → Described e → (f : Edition) {a table marks t m : List ℕ} {r : Answer}
+    → (isArchive e a ≡ true → isArchive f a ≡ true → ⊥) → Bytes a → restored r t m ≡ readArchive e a table marks
+    → (restored r t m ≡ readArchive e a table marks) × ReadPromise e f a table marks r t m
+read-both d f {a} {table} {marks} apart b w = (
   w,
   rw (
     ap (λ (x : Restored). x .answer) w,
     ap (λ (x : Restored). x .table) w,
     ap (λ (x : Restored). x .marks) w,
   )
-      (read-promise d a table marks b),
+      (read-promise d a table marks f apart b),
 )
 
 -- ---- A candidate: an archive of bytes and the tree and the plan that were decoded of it
@@ -49,10 +51,10 @@ pub record CopyJudged (e : Edition) (a t m : List ℕ) (r : Answer) : Type 0 whe
   pub accepts : r .number ≡ 0
       → (isArchive e a ≡ true) × (tableIn e a ≡ t) × (marksIn e a ≡ m) × (r ≡ answerOf (verdictOf t m))
   pub refuses : (r .number ≡ 0 → ⊥)
-      → (r ≡ refused 13 0) × ((feasibleUnfiled t m && sameList (archiveOf e t m) a) ≡ false)
+      → (r ≡ refused 13 0) × ((feasibleFilm e t m && sameList (archiveOf e t m) a) ≡ false)
 
 pub copy-refused : {e : Edition} {a t m : List ℕ} {r : Answer} → r ≡ refused 13 0
-    → (feasibleUnfiled t m && sameList (archiveOf e t m) a) ≡ false → CopyJudged e a t m r
+    → (feasibleFilm e t m && sameList (archiveOf e t m) a) ≡ false → CopyJudged e a t m r
 copy-refused {r} is h =
     record {
       accepts = λ z. absurd (omega (arith, ap (λ (x : Answer). x .number) is));
@@ -61,45 +63,45 @@ copy-refused {r} is h =
 
 module _ {e : Edition} (room : InRoom e) (a t m : List ℕ) where
   -- an archive with no more nodes than its edition takes is not longer than the longest
-  pub copy-long : nodesIn e a ≤ e .most → longestArchive < length a
-      → (feasibleUnfiled t m && sameList (archiveOf e t m) a) ≡ false
+  pub copy-long : nodesIn e a ≤ e .most → longestArchive e < length a
+      → (feasibleFilm e t m && sameList (archiveOf e t m) a) ≡ false
   copy-long few long =
       never-true _
       (λ y.
       let same : archiveOf e t m ≡ a =
-      sameList-true (archiveOf e t m) a (both-true (feasibleUnfiled t m) (sameList (archiveOf e t m) a) y .1) in
+      sameList-true (archiveOf e t m) a (both-true (feasibleFilm e t m) (sameList (archiveOf e t m) a) y .1) in
       omega (
         arith,
         ap length same,
         length-archive (room .is) t m,
-        fits-longest room _ _ (pageCount-le t m)
+        fits-longest e _ _ (pageCount-le t m)
             (omega (arith, ap (nodesIn e) same, archive-nodes (room .is) t m)),
       ))
 
-  -- the answer and the output of the writer without 14, compared with the archive
-  module _ (start out : List ℕ) (r : Answer) (w : written r out ≡ writeWith false e t m start) where
-    number-is : r .number ≡ writeWith false e t m start .answer .number
+  -- the answer and the output of the writer that film is held against, compared with the archive
+  module _ (start out : List ℕ) (r : Answer) (w : written r out ≡ writeWith (e .filed) e t m start) where
+    number-is : r .number ≡ writeWith (e .filed) e t m start .answer .number
     number-is = ap (λ (x : Written). x .answer .number) w
 
     pub copy-stopped : (r .number ≡ 0 → ⊥) → nodesIn e a ≤ e .most → length start ≡ length a
-        → (feasibleUnfiled t m && sameList (archiveOf e t m) a) ≡ false
-    unfolding feasibleUnfiled pick
-    copy-stopped h few long = writer-refused false e t m start (room .is) (λ z. h (number-is ∙ z)) a few long
+        → (feasibleFilm e t m && sameList (archiveOf e t m) a) ≡ false
+    unfolding feasibleFilm
+    copy-stopped h few long = writer-refused (e .filed) e t m start (room .is) (λ z. h (number-is ∙ z)) a few long
 
     module _ (z : r .number ≡ 0) where
-      done : WriteDone false e t m start
-      done = writer-done false e t m start (sym number-is ∙ z)
+      done : WriteDone (e .filed) e t m start
+      done = writer-done (e .filed) e t m start (sym number-is ∙ z)
 
       out-is : out ≡ archiveOf e t m
       out-is = ap (λ (x : Written). x .output) (w ∙ done .wrote)
 
-      pub copy-differs : sameList out a ≡ false → (feasibleUnfiled t m && sameList (archiveOf e t m) a) ≡ false
+      pub copy-differs : sameList out a ≡ false → (feasibleFilm e t m && sameList (archiveOf e t m) a) ≡ false
       copy-differs n =
-          and-false-right (feasibleUnfiled t m) (sameList (archiveOf e t m) a)
+          and-false-right (feasibleFilm e t m) (sameList (archiveOf e t m) a)
           (ap (λ o. sameList o a) (sym out-is) ∙ n)
 
       pub copy-same : Bytes t → sameList out a ≡ true → CopyJudged e a t m r
-      unfolding feasibleUnfiled pick
+      unfolding feasibleFilm
       copy-same b y =
           let same : archiveOf e t m ≡ a = sym out-is ∙ sameList-true out a y in
           let back = rw same at (write-read (room .is) b (done .feasible) (done .few)) in
@@ -108,22 +110,54 @@ module _ {e : Edition} (room : InRoom e) (a t m : List ℕ) where
             refuses = λ h. absurd (h z);
           }
 
--- ---- The reader
+-- ---- The film
 
-module _ (e : Edition) (a : List ℕ) where
-  -- a refused candidate that is what the archive tells: no archive
-  pub not-archive : (t m : List ℕ) → (isArchive e a ≡ true → (t ≡ tableIn e a) × (m ≡ marksIn e a))
-      → (feasibleUnfiled t m && sameList (archiveOf e t m) a) ≡ false → isArchive e a ≡ false
+-- It was accepted, and what was decoded is what the film tells, with its verdict; or it is no archive.
+pub record Told (e : Edition) (a tree plan : List ℕ) (r : Answer) : Type 0 where
+  pub accepts : r .number ≡ 0
+      → (isArchive e a ≡ true) × (take (tableBytes (nodesIn e a)) tree ≡ tableIn e a)
+      × (take (nodesIn e a) plan ≡ marksIn e a) × (r ≡ answerOf (verdictOf (tableIn e a) (marksIn e a)))
+  pub refuses : (r .number ≡ 0 → ⊥) → (r ≡ refused 13 0) × (isArchive e a ≡ false)
+
+module _ {e : Edition} (a : List ℕ) {tree plan : List ℕ} {r : Answer} where
+  -- more nodes than its edition takes
+  pub told-many : r ≡ refused 13 0 → e .most < nodesIn e a → Told e a tree plan r
+  told-many is many =
+      record {
+        accepts = λ z. absurd (omega (arith, ap (λ (x : Answer). x .number) is));
+        refuses = λ z. (is, never-true (isArchive e a) (λ y. omega (arith, read-write e a y .few)));
+      }
+
+  -- the candidate that was decoded is what an archive tells
+  pub told-copy : {bytes count : ℕ} → bytes ≡ tableBytes (nodesIn e a) → count ≡ nodesIn e a
+      → CopyJudged e a (take bytes tree) (take count plan) r
+      → (isArchive e a ≡ true
+      → (take (tableBytes (nodesIn e a)) tree ≡ tableIn e a) × (take (nodesIn e a) plan ≡ marksIn e a))
+      → Told e a tree plan r
   unfolding isArchive
-  not-archive t m h n =
-      never-true (isArchive e a)
-      (λ y.
-      let both = h y in
-      true≢false
-      (sym (both-true (leb (nodesIn e a) (e .most)) _ y .1)
-      ∙ ap₂ (λ x z. feasibleUnfiled x z && sameList (archiveOf e x z) a) (sym (both .0)) (sym (both .1))
-      ∙ n))
-
-  -- too many nodes: no archive
-  pub too-many : e .most < nodesIn e a → isArchive e a ≡ false
-  too-many many = never-true (isArchive e a) (λ y. omega (arith, read-write e a y .few))
+  told-copy {bytes} {count} bytes-is count-is j decoded =
+      record {
+        accepts =
+            λ z.
+            let k = j .accepts z in
+            let both = decoded (k .0) in (
+              k .0,
+              both .0,
+              both .1,
+              k .3 ∙ ap₂ (λ p q. answerOf (verdictOf p q)) (sym (k .1)) (sym (k .2)),
+            );
+        refuses =
+            λ z.
+            let k = j .refuses z in (
+              k .0,
+              never-true (isArchive e a)
+                  (λ y.
+                  let both = decoded y in
+                  let table : take bytes tree ≡ tableIn e a = ap (λ n. take n tree) bytes-is ∙ both .0 in
+                  let marks : take count plan ≡ marksIn e a = ap (λ n. take n plan) count-is ∙ both .1 in
+                  true≢false
+                  (sym (both-true (leb (nodesIn e a) (e .most)) _ y .1)
+                  ∙ ap₂ (λ x w. feasibleFilm e x w && sameList (archiveOf e x w) a) (sym table) (sym marks)
+                  ∙ k .1)),
+            );
+      }

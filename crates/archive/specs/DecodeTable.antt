@@ -20,7 +20,7 @@ use Rattle.model.specs.declared.Edition.{Edition}
 use Rattle.theory.specs.Ranges.{Upto, pick-true, pick-false, listTo-cong}
 use Rattle.theory.specs.Lists.{getD-set}
 use Rattle.theory.specs.TableLinks.{parentAt-less}
-use Rattle.theory.specs.PlanFeasible.{Judged, unfiled-judged}
+use Rattle.theory.specs.PlanFeasible.{Judged, film-judged}
 use Rattle.theory.specs.PagesByNumber.{Page}
 use Rattle.theory.specs.Put.{length-recordsTo}
 use Rattle.theory.specs.ArchiveWords.{Described, archive-nodes, archive-pages, archive-parent}
@@ -41,7 +41,7 @@ written-by {e} room a y =
     let m : List ℕ = marksIn e a in
     let r = read-write e a y in
     record {
-      plan = unfiled-judged t m (r .feasible);
+      plan = film-judged e t m (r .feasible);
       few = omega (arith, r .few, room .most-high, ap (nodesIn e) (r .same), archive-nodes (room .is) t m);
       same = r .same;
     }

@@ -1,4 +1,5 @@
 -- What the reader's code is written against.
+pub mod Room
 pub mod Answers
 pub mod DecodeTable
 pub mod DecodeMarks

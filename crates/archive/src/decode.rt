@@ -90,7 +90,7 @@ fn load_lasts(e: Edition, archive: &[u8]) -> [u16; FILM_SLOTS]
 
 // The table of the tree, with these links to the next sibling.
 fn fill_tree(e: Edition, archive: &[u8], links: &[u16; FILM_SLOTS], tree: &mut [u8])
-    requires { ⌜ InRoom e × (nodesIn e (now archive) ≤ archiveNodes) × (length (now tree) ≡ longestTable) ⌝ }
+    requires { ⌜ InRoom e × (nodesIn e (now archive) ≤ e .most) × (longestTable e ≤ length (now tree)) ⌝ }
     ensures { λ r. ⌜ Starts (now (tree .exit))
         (treeUpto e (now (archive .entry)) (now (links .entry)) (nodesIn e (now (archive .entry)))) ⌝ }
 {
@@ -134,7 +134,7 @@ fn mark_for(last: u16, end: u16) -> u8
 
 // The marks of the plan. A node's due is the last of the run that the sibling before it is in.
 fn fill_marks(nodes: u16, lasts: &[u16; FILM_SLOTS], links: &[u16; FILM_SLOTS], plan: &mut [u8])
-    requires { ⌜ (nodes ≤ archiveNodes) × Fit nodes (now links) × (length (now plan) ≡ archiveNodes) ⌝ }
+    requires { ⌜ (nodes ≤ archiveNodes) × Fit nodes (now links) × (nodes ≤ length (now plan)) ⌝ }
     ensures { λ r. ⌜ ((t m : List ℕ) → MarksInput t m (now (lasts .entry)) (now (links .entry)) nodes
         → MarksRow m nodes (now (plan .exit))) ⌝ }
 {
@@ -153,8 +153,8 @@ fn fill_marks(nodes: u16, lasts: &[u16; FILM_SLOTS], links: &[u16; FILM_SLOTS], 
 
 // The tree and the plan that the archive tells, if it is one.
 pub fn decode(e: Edition, archive: &[u8], tree: &mut [u8], plan: &mut [u8])
-    requires { ⌜ InRoom e × (nodesIn e (now archive) ≤ archiveNodes) × (length (now tree) ≡ longestTable)
-        × (length (now plan) ≡ archiveNodes) ⌝ }
+    requires { ⌜ InRoom e × (nodesIn e (now archive) ≤ e .most) × (longestTable e ≤ length (now tree))
+        × (e .most ≤ length (now plan)) ⌝ }
     ensures { λ r. ⌜ (isArchive e (now (archive .entry)) ≡ true
         → (take (tableBytes (nodesIn e (now (archive .entry)))) (now (tree .exit)) ≡ tableIn e (now (archive .entry)))
         × (take (nodesIn e (now (archive .entry))) (now (plan .exit)) ≡ marksIn e (now (archive .entry)))) ⌝ }

@@ -13,7 +13,7 @@ link-next-requires : tie.Need-link-next-requires
 link-next-requires c κs =
     let start = c .before .before .before .before .before .before in
     let a = start .args in (
-      omega (arith, c .before .before .nodes-in .ensures, start .pre .1),
+      omega (arith, c .before .before .nodes-in .ensures, start .pre .1, start .pre .0 .most-high),
       λ v low high.
           omega (
             arith,
@@ -21,7 +21,7 @@ link-next-requires c κs =
             fitted-small
                 (parentIn (a .e) (a .archive .now) v),
           ),
-      omega (arith, c .before .before .nodes-in .ensures, start .pre .1),
+      omega (arith, c .before .before .nodes-in .ensures, start .pre .1, start .pre .0 .most-high),
     )
 
 fill-marks-requires : tie.Need-fill-marks-requires
@@ -30,7 +30,7 @@ fill-marks-requires c κs =
     let start = n .before .before .before .before in
     let parents =
     c .before .before .before .before .before .before .before .before .before .before .before .load-parents .result in (
-      omega (arith, n .nodes-in .ensures, start .pre .1),
+      omega (arith, n .nodes-in .ensures, start .pre .1, start .pre .0 .most-high),
       λ v low high.
           omega (
             arith,
@@ -38,8 +38,9 @@ fill-marks-requires c κs =
             nextWith-le (λ u. getD parents u 0) (n .nodes-in .result) v (getD parents v 0),
             n .nodes-in .ensures,
             start .pre .1,
+            start .pre .0 .most-high,
           ),
-      start .pre .3,
+      omega (arith, n .nodes-in .ensures, start .pre .1, start .pre .3),
     )
 
 returns : tie.Need-returns

@@ -1,13 +1,12 @@
 -- `archive::decode::fill_tree` meets its contract: after the head, the records of the nodes passed stand. Assumes
 -- nothing.
-use mathlib.Core.Path.{_≡_, refl, sym, _∙_, subst}
+use mathlib.Core.Path.{_≡_, refl, _∙_, subst}
 use mathlib.Core.List.{[], _∷_}
 use Prim.Native.Nat.{_+_, _-_, _*_, _≤_}
 use native.Mathlib.Omega.{arith}
 use lib.ListN.{length}
 use Rattle.model.specs.Archive.{nodesIn, limitIn}
 use Rattle.theory.specs.Put.{Starts, RecordsPut, records-none, records-four}
-use Rattle.writer.specs.Size.{longestTable}
 use Rattle.archive.specs.DecodeTable.{treeRow, tree-wide, tree-row, treeUpto}
 use Rattle.archive.proofs.Decoded.{tree-begin}
 use borrow.Author.Needs.{needs}
@@ -16,7 +15,7 @@ use Rattle.archive.proofs.decode.fill_tree.Tie as tie
 
 abbrev Inv-loop : tie.InvT-loop
 Inv-loop e archive links tree₀ nodes limit at₀ v₀ tree at v =
-    (v ≤ nodes) × (length tree ≡ longestTable) × (at ≡ 2 + 4 * v)
+    (v ≤ nodes) × (length tree ≡ length tree₀) × (at ≡ 2 + 4 * v)
     × RecordsPut (treeRow e archive links) 2 v tree₀ tree
 
 abbrev μ-loop : tie.MeasureT-loop
@@ -28,7 +27,7 @@ loop-holds c =
     let start = one .before .before .before .before .before .before in
     let a = start .args in (
       omega arith,
-      c .before .before .put-word2 .kept .0 ∙ one .put-word .kept .0 ∙ start .pre .2,
+      refl,
       refl,
       records-none _ 4 (tree-wide (a .e) (a .archive .now) (a .links .now)) 2 _,
     )
@@ -45,8 +44,8 @@ loop-again : tie.Need-loop-again Inv-loop μ-loop
 loop-again c =
     let l = c .before .before .before .before .before .before .before .before .before .before .loop in
     let n = c .before .before .before .before .before .before .before .before .before .before in
-    let start =
-    n .before .before .before .before .before .before .before .before .before .before .before .before .before in
+    let one = n .before .before .before .before .before .before .before in
+    let start = one .before .before .before .before .before .before in
     let a = start .args in
     let put = c .before .before .put-record in
     let wide = tree-wide (a .e) (a .archive .now) (a .links .now) in
@@ -64,16 +63,19 @@ loop-again c =
           (omega (
             arith,
             l .inv .1,
+            n .before .before .before .put-word2 .kept .0,
+            one .put-word .kept .0,
             l .inv .2,
-            n .before .before .before .before .before .before .before .before .before .before .nodes-in .ensures,
+            one .before .before .before .nodes-in .ensures,
             start .pre .1,
+            start .pre .2,
           )) (put .ensures) row,
     )
 
 same-length : tie.Need-same-length Inv-loop μ-loop
 same-length c =
     let one = c .before .before .before .before .before .before .before .before in
-    c .before .loop .inv .1 ∙ sym (one .before .before .before .before .before .before .pre .2)
+    c .before .loop .inv .1 ∙ c .before .before .before .before .put-word2 .kept .0 ∙ one .put-word .kept .0
 
 returns : tie.Need-returns Inv-loop μ-loop
 unfolding treeUpto

@@ -1,0 +1,90 @@
+// From film of one edition to film of the other: the tree and the plan that the one tells, written in the other.
+use crate::fields::nodes_in;
+use crate::restore::restore;
+use model::Answer;
+use model::Edition;
+use table::check_tree;
+use table::table_bytes;
+use writer::size::FIRST_BYTES;
+use writer::size::FIRST_NODES;
+use writer::size::FIRST_TABLE;
+use writer::size::SECOND_BYTES;
+use writer::size::SECOND_NODES;
+use writer::size::SECOND_TABLE;
+use writer::size::first_edition;
+use writer::size::second_edition;
+use writer::write::write_edition;
+ghost use mathlib.Core.Path.{_≡_};
+ghost use Rattle.model.specs.Archive.{firstEdition, secondEdition};
+ghost use Rattle.model.specs.Refusals.{convertArchive};
+ghost use Rattle.model.specs.Demand.{ConvertPromise};
+ghost use Rattle.theory.specs.Outputs.{written};
+ghost use Rattle.writer.specs.Size.{InRoom};
+ghost use Rattle.archive.specs.Room.{Room};
+
+// The converter from edition e to edition f: 13, then what f's writer refuses in film that was read, 14, 15 and 12. It
+// is lent what it restores the film in, and the output.
+fn convert_edition(
+    e: Edition,
+    f: Edition,
+    archive: &[u8],
+    tree: &mut [u8],
+    plan: &mut [u8],
+    copy: &mut [u8],
+    out: &mut [u8],
+) -> Answer
+    requires { ⌜ Room e (now tree) (now plan) (now copy) × InRoom f ⌝ }
+    ensures { λ r. ⌜ written r (now (out .exit)) ≡ convertArchive e f (now (archive .entry)) (now (out .entry)) ⌝ }
+{
+    let answer = restore(e, archive, tree, plan, copy);
+    if answer.number != 0 {
+        return answer;
+    }
+    let nodes = nodes_in(e, archive);
+    let count = nodes as usize;
+    let bytes = table_bytes(nodes) as usize;
+    let judged = check_tree(&tree[..bytes], true);
+    write_edition(f, judged, &tree[..bytes], &plan[..count], out)
+}
+
+// Entry: the converter from the archive of document 01 to edition 2. 13, 14 and 12.
+pub fn convert_to_2(archive: &[u8], out: &mut [u8]) -> Answer
+    ensures { λ r. ⌜ written r (now (out .exit))
+        ≡ convertArchive firstEdition secondEdition (now (archive .entry)) (now (out .entry)) ⌝ }
+    ensures { λ r. ⌜ ConvertPromise firstEdition secondEdition (now (archive .entry)) (now (out .entry))
+        r (now (out .exit)) ⌝ }
+{
+    let mut tree = [0u8; FIRST_TABLE];
+    let mut plan = [0u8; FIRST_NODES as usize];
+    let mut copy = [0u8; FIRST_BYTES];
+    convert_edition(
+        first_edition(),
+        second_edition(),
+        archive,
+        &mut tree,
+        &mut plan,
+        &mut copy,
+        out,
+    )
+}
+
+// Entry: the converter back, from edition 2 to the archive of document 01. 13, 15 and 12.
+pub fn convert_to_1(archive: &[u8], out: &mut [u8]) -> Answer
+    ensures { λ r. ⌜ written r (now (out .exit))
+        ≡ convertArchive secondEdition firstEdition (now (archive .entry)) (now (out .entry)) ⌝ }
+    ensures { λ r. ⌜ ConvertPromise secondEdition firstEdition (now (archive .entry)) (now (out .entry))
+        r (now (out .exit)) ⌝ }
+{
+    let mut tree = [0u8; SECOND_TABLE];
+    let mut plan = [0u8; SECOND_NODES as usize];
+    let mut copy = [0u8; SECOND_BYTES];
+    convert_edition(
+        second_edition(),
+        first_edition(),
+        archive,
+        &mut tree,
+        &mut plan,
+        &mut copy,
+        out,
+    )
+}
