@@ -4,7 +4,7 @@ use mathlib.Core.List.{List}
 use Prim.Native.Nat.{ℕ}
 use Rattle.model.specs.Refusals.{Planned, Written, Restored}
 use Rattle.model.specs.Demand.{WeightPromise, PlanPromise, BestPromise, QuickPromise, WritePromise, ReadPromise}
-use Rattle.model.specs.Demand.{PrintPromise}
+use Rattle.model.specs.Demand.{ConvertPromise, PrintPromise}
 use Rattle.model.specs.declared.Answer.{Answer}
 use Rattle.model.specs.declared.Edition.{Edition}
 use Rattle.embed.specs.declared.Figures.{Figures}
@@ -45,8 +45,11 @@ WriteFigures e t m out f archive = FiguresOf (λ r. WritePromise e t m out r arc
 abbrev pub PrintFigures : List ℕ → List ℕ → List ℕ → Figures → List ℕ → Type 0
 PrintFigures t m out f sheets = FiguresOf (λ r. PrintPromise t m out r sheets) f
 
-abbrev pub ReadFigures : Edition → List ℕ → List ℕ → List ℕ → Figures → List ℕ → List ℕ → Type 0
-ReadFigures e a table marks f t m = FiguresOf (λ r. ReadPromise e a table marks r t m) f
+abbrev pub ReadFigures : Edition → Edition → List ℕ → List ℕ → List ℕ → Figures → List ℕ → List ℕ → Type 0
+ReadFigures e other a table marks f t m = FiguresOf (λ r. ReadPromise e other a table marks r t m) f
+
+abbrev pub ConvertFigures : Edition → Edition → List ℕ → List ℕ → Figures → List ℕ → Type 0
+ConvertFigures from to a out f archive = FiguresOf (λ r. ConvertPromise from to a out r archive) f
 
 pub record WriteLeft : Type 0 where
   pub figures : Figures

@@ -3,13 +3,13 @@ use model::Answer;
 use model::Beside;
 use model::Verdict;
 ghost use mathlib.Core.Path.{_≡_};
-ghost use Rattle.model.specs.Archive.{firstEdition};
+ghost use Rattle.model.specs.Archive.{firstEdition, secondEdition};
 ghost use Rattle.model.specs.Refusals.{readTree, judgePlan, planBest, planLevel, planSingle, planPair, writeArchive};
-ghost use Rattle.model.specs.Refusals.{planRightmost, planDepthFirst, readArchive, printSheets};
+ghost use Rattle.model.specs.Refusals.{planRightmost, planDepthFirst, readArchive, convertArchive, printSheets};
 ghost use Rattle.embed.specs.Figures.{figuresBy, figuresOf};
 ghost use Rattle.embed.specs.Left.{WeightFigures, left, leftBy, PlanFigures, BestFigures, QuickFigures};
 ghost use Rattle.embed.specs.Left.{filled, filledBy, WriteFigures, PrintFigures, refilled, refilledBy};
-ghost use Rattle.embed.specs.Left.{ReadFigures};
+ghost use Rattle.embed.specs.Left.{ReadFigures, ConvertFigures};
 
 // A number and a place, and the verdict's page count and root weight, both 0 unless the number is 0.
 #[repr(C)]
@@ -171,10 +171,54 @@ pub extern "C" fn balduqen_read_archive(
 ) -> Figures
     ensures { λ r. ⌜ refilled r (now (table .exit)) (now (marks .exit))
         ≡ refilledBy (readArchive firstEdition (now (archive .entry)) (now (table .entry)) (now (marks .entry))) ⌝ }
-    ensures { λ r. ⌜ ReadFigures firstEdition (now (archive .entry)) (now (table .entry)) (now (marks .entry))
-        r (now (table .exit)) (now (marks .exit)) ⌝ }
+    ensures { λ r. ⌜ ReadFigures firstEdition secondEdition (now (archive .entry)) (now (table .entry))
+        (now (marks .entry)) r (now (table .exit)) (now (marks .exit)) ⌝ }
 {
     flatten(archive::read_archive(archive, table, marks))
+}
+
+#[no_mangle]
+pub extern "C" fn balduqen_write_archive2(table: &[u8], marks: &[u8], archive: &mut [u8]) -> Figures
+    ensures { λ r. ⌜ filled r (now (archive .exit))
+        ≡ filledBy (writeArchive secondEdition (now (table .entry)) (now (marks .entry)) (now (archive .entry))) ⌝ }
+    ensures { λ r. ⌜ WriteFigures secondEdition (now (table .entry)) (now (marks .entry)) (now (archive .entry))
+        r (now (archive .exit)) ⌝ }
+{
+    flatten(writer::write_archive2(table, marks, archive))
+}
+
+#[no_mangle]
+pub extern "C" fn balduqen_read_archive2(
+    archive: &[u8],
+    table: &mut [u8],
+    marks: &mut [u8],
+) -> Figures
+    ensures { λ r. ⌜ refilled r (now (table .exit)) (now (marks .exit))
+        ≡ refilledBy (readArchive secondEdition (now (archive .entry)) (now (table .entry)) (now (marks .entry))) ⌝ }
+    ensures { λ r. ⌜ ReadFigures secondEdition firstEdition (now (archive .entry)) (now (table .entry))
+        (now (marks .entry)) r (now (table .exit)) (now (marks .exit)) ⌝ }
+{
+    flatten(archive::read_archive2(archive, table, marks))
+}
+
+#[no_mangle]
+pub extern "C" fn balduqen_convert_to_2(archive: &[u8], out: &mut [u8]) -> Figures
+    ensures { λ r. ⌜ filled r (now (out .exit))
+        ≡ filledBy (convertArchive firstEdition secondEdition (now (archive .entry)) (now (out .entry))) ⌝ }
+    ensures { λ r. ⌜ ConvertFigures firstEdition secondEdition (now (archive .entry)) (now (out .entry))
+        r (now (out .exit)) ⌝ }
+{
+    flatten(archive::convert_to_2(archive, out))
+}
+
+#[no_mangle]
+pub extern "C" fn balduqen_convert_to_1(archive: &[u8], out: &mut [u8]) -> Figures
+    ensures { λ r. ⌜ filled r (now (out .exit))
+        ≡ filledBy (convertArchive secondEdition firstEdition (now (archive .entry)) (now (out .entry))) ⌝ }
+    ensures { λ r. ⌜ ConvertFigures secondEdition firstEdition (now (archive .entry)) (now (out .entry))
+        r (now (out .exit)) ⌝ }
+{
+    flatten(archive::convert_to_1(archive, out))
 }
 
 #[no_mangle]
