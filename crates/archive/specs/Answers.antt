@@ -1,7 +1,7 @@
 -- What the reader promises: an answer with what is left in the lent buffers; and what it learns of a candidate, and of
 -- the film.
--- Defines restored, CopyJudged, Told. Proves read-both; copy-refused to copy-same; told-many, told-copy. Assumes
--- nothing.
+-- Defines restored, CopyJudged, Decoded, Told. Proves read-both; copy-refused to copy-same; too-many, told-many,
+-- told-copy. Assumes nothing.
 use Prim.Native.Nat.{ℕ, _≤_, _<_}
 use native.Mathlib.Omega.{arith}
 use mathlib.Core.Bool.{true, false, _&&_, true≢false}
@@ -9,7 +9,7 @@ use mathlib.Core.Path.{_≡_, sym, _∙_, ap, ap₂}
 use mathlib.Core.List.{List}
 use lib.ListN.{length, take}
 use lib.Dec.{leb}
-use Rattle.model.specs.Basics.{pick, sameList}
+use Rattle.model.specs.Basics.{sameList}
 use Rattle.model.specs.Table.{Bytes, tableBytes}
 use Rattle.model.specs.Plan.{verdictOf}
 use Rattle.model.specs.Archive.{archiveOf, nodesIn, tableIn, marksIn}
@@ -112,6 +112,16 @@ module _ {e : Edition} (room : InRoom e) (a t m : List ℕ) where
 
 -- ---- The film
 
+-- what stands at the start of tree and plan is what the film tells, if it is an archive
+abbrev pub Decoded : Edition → List ℕ → List ℕ → List ℕ → Type 0
+Decoded e a tree plan =
+    isArchive e a ≡ true
+    → (take (tableBytes (nodesIn e a)) tree ≡ tableIn e a) × (take (nodesIn e a) plan ≡ marksIn e a)
+
+-- more nodes than its edition takes: no archive
+pub too-many : (e : Edition) (a : List ℕ) → e .most < nodesIn e a → isArchive e a ≡ false
+too-many e a many = never-true (isArchive e a) (λ y. omega (arith, read-write e a y .few))
+
 -- It was accepted, and what was decoded is what the film tells, with its verdict; or it is no archive.
 pub record Told (e : Edition) (a tree plan : List ℕ) (r : Answer) : Type 0 where
   pub accepts : r .number ≡ 0
@@ -125,15 +135,12 @@ module _ {e : Edition} (a : List ℕ) {tree plan : List ℕ} {r : Answer} where
   told-many is many =
       record {
         accepts = λ z. absurd (omega (arith, ap (λ (x : Answer). x .number) is));
-        refuses = λ z. (is, never-true (isArchive e a) (λ y. omega (arith, read-write e a y .few)));
+        refuses = λ z. (is, too-many e a many);
       }
 
   -- the candidate that was decoded is what an archive tells
   pub told-copy : {bytes count : ℕ} → bytes ≡ tableBytes (nodesIn e a) → count ≡ nodesIn e a
-      → CopyJudged e a (take bytes tree) (take count plan) r
-      → (isArchive e a ≡ true
-      → (take (tableBytes (nodesIn e a)) tree ≡ tableIn e a) × (take (nodesIn e a) plan ≡ marksIn e a))
-      → Told e a tree plan r
+      → CopyJudged e a (take bytes tree) (take count plan) r → Decoded e a tree plan → Told e a tree plan r
   unfolding isArchive
   told-copy {bytes} {count} bytes-is count-is j decoded =
       record {

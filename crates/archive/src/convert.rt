@@ -1,6 +1,7 @@
 // From film of one edition to film of the other: the tree and the plan that the one tells, written in the other.
+use crate::decode::decode;
 use crate::fields::nodes_in;
-use crate::restore::restore;
+use crate::judged::judge_film;
 use model::Answer;
 use model::Edition;
 use table::check_tree;
@@ -15,6 +16,7 @@ use writer::size::first_edition;
 use writer::size::second_edition;
 use writer::write::write_edition;
 ghost use mathlib.Core.Path.{_≡_};
+ghost use lib.ListN.{length};
 ghost use Rattle.model.specs.Archive.{firstEdition, secondEdition};
 ghost use Rattle.model.specs.Refusals.{convertArchive};
 ghost use Rattle.model.specs.Demand.{ConvertPromise};
@@ -23,7 +25,7 @@ ghost use Rattle.writer.specs.Size.{InRoom};
 ghost use Rattle.archive.specs.Room.{Room};
 
 // The converter from edition e to edition f: 13, then what f's writer refuses in film that was read, 14, 15 and 12. It
-// is lent what it restores the film in, and the output.
+// is lent room for the film in its edition's size, and the output.
 fn convert_edition(
     e: Edition,
     f: Edition,
@@ -33,10 +35,11 @@ fn convert_edition(
     copy: &mut [u8],
     out: &mut [u8],
 ) -> Answer
-    requires { ⌜ Room e (now tree) (now plan) (now copy) × InRoom f ⌝ }
+    requires { ⌜ Room e (length (now tree)) (length (now plan)) (length (now copy)) × InRoom f ⌝ }
     ensures { λ r. ⌜ written r (now (out .exit)) ≡ convertArchive e f (now (archive .entry)) (now (out .entry)) ⌝ }
 {
-    let answer = restore(e, archive, tree, plan, copy);
+    decode(e, archive, tree, plan);
+    let answer = judge_film(e, archive, tree, plan, copy);
     if answer.number != 0 {
         return answer;
     }

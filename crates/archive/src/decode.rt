@@ -12,18 +12,16 @@ use table::put::put_word;
 use writer::links::link_next;
 use writer::size::FILM_SLOTS;
 ghost use mathlib.Core.Path.{_≡_};
-ghost use mathlib.Core.Bool.{true};
 ghost use mathlib.Core.List.{List};
 ghost use Prim.Native.Nat.{ℕ, _≤_, _<_};
 ghost use lib.Dec.{eqb};
-ghost use lib.ListN.{length, take};
+ghost use lib.ListN.{length};
 ghost use Rattle.model.specs.Basics.{pick};
-ghost use Rattle.model.specs.Table.{tableBytes};
-ghost use Rattle.model.specs.Archive.{nodesIn, firstIn, tableIn, marksIn};
-ghost use Rattle.model.specs.Refusals.{isArchive};
+ghost use Rattle.model.specs.Archive.{nodesIn, firstIn};
 ghost use Rattle.theory.specs.Put.{Starts};
 ghost use Rattle.writer.specs.Size.{InRoom, archiveNodes, filmSlots, longestTable};
 ghost use Rattle.writer.specs.Links.{Fit};
+ghost use Rattle.archive.specs.Answers.{Decoded};
 ghost use Rattle.archive.specs.DecodeTable.{WrittenBy, Loaded, fitted, treeUpto};
 ghost use Rattle.archive.specs.DecodeMarks.{runEnd, markFor, Lasts, MarksInput, MarksRow};
 
@@ -151,15 +149,15 @@ fn fill_marks(nodes: u16, lasts: &[u16; FILM_SLOTS], links: &[u16; FILM_SLOTS], 
     }
 }
 
-// The tree and the plan that the archive tells, if it is one.
+// The tree and the plan that the archive tells, if it is one, at the start of what is lent for them.
 pub fn decode(e: Edition, archive: &[u8], tree: &mut [u8], plan: &mut [u8])
-    requires { ⌜ InRoom e × (nodesIn e (now archive) ≤ e .most) × (longestTable e ≤ length (now tree))
-        × (e .most ≤ length (now plan)) ⌝ }
-    ensures { λ r. ⌜ (isArchive e (now (archive .entry)) ≡ true
-        → (take (tableBytes (nodesIn e (now (archive .entry)))) (now (tree .exit)) ≡ tableIn e (now (archive .entry)))
-        × (take (nodesIn e (now (archive .entry))) (now (plan .exit)) ≡ marksIn e (now (archive .entry)))) ⌝ }
+    requires { ⌜ InRoom e × (longestTable e ≤ length (now tree)) × (e .most ≤ length (now plan)) ⌝ }
+    ensures { λ r. ⌜ Decoded e (now (archive .entry)) (now (tree .exit)) (now (plan .exit)) ⌝ }
 {
     let nodes = nodes_in(e, archive);
+    if e.most < nodes {
+        return;
+    }
     let parents = load_parents(e, archive, nodes);
     let links = link_next(&parents[..], nodes);
     let lasts = load_lasts(e, archive);

@@ -3,8 +3,8 @@
 mod convert;
 mod decode;
 mod fields;
+mod judged;
 mod read;
-mod restore;
 
 pub use convert::convert_to_1;
 pub use convert::convert_to_2;

@@ -1,6 +1,7 @@
 // The archive's reader: what the film tells, copied out.
+use crate::decode::decode;
 use crate::fields::nodes_in;
-use crate::restore::restore;
+use crate::judged::judge_film;
 use model::Answer;
 use model::Edition;
 use table::refuse;
@@ -33,7 +34,8 @@ fn copy_bytes(from: &[u8], to: &mut [u8])
     }
 }
 
-// The reader of an edition: 13, then 12, then 8. It is lent what it restores the film in, and the buffers.
+// The reader of an edition: 13, then 12, then 8. It is lent room for the film in its edition's size,
+// so that no edition pays for a larger one, and the buffers.
 fn read_edition(
     e: Edition,
     archive: &[u8],
@@ -43,11 +45,12 @@ fn read_edition(
     table: &mut [u8],
     marks: &mut [u8],
 ) -> Answer
-    requires { ⌜ Room e (now tree) (now plan) (now copy) ⌝ }
+    requires { ⌜ Room e (length (now tree)) (length (now plan)) (length (now copy)) ⌝ }
     ensures { λ r. ⌜ restored r (now (table .exit)) (now (marks .exit))
         ≡ readArchive e (now (archive .entry)) (now (table .entry)) (now (marks .entry)) ⌝ }
 {
-    let answer = restore(e, archive, tree, plan, copy);
+    decode(e, archive, tree, plan);
+    let answer = judge_film(e, archive, tree, plan, copy);
     if answer.number != 0 {
         return answer;
     }

@@ -5,6 +5,7 @@ use crate::links::link_next;
 use crate::records::put_head;
 use crate::records::put_nodes;
 use crate::records::put_pages;
+use crate::size::FILM_SLOTS;
 use crate::size::archive_bytes;
 use crate::size::first_edition;
 use crate::size::second_edition;
@@ -57,7 +58,8 @@ fn fill_archive<'a>(
 {
     let nodes = node_count(table);
     let limit = limit_of(table);
-    let counts = count_nodes(e, &rows[PAGE], nodes);
+    let mut counts = [0u16; FILM_SLOTS];
+    count_nodes(e, &rows[PAGE], nodes, &mut counts);
     let nexts = link_next(&rows[PAGE], nodes);
     put_head(e, nodes, limit, pages, out);
     put_pages(e, &rows[FIRSTS], &rows[LASTS], weights, &counts, pages, out);

@@ -1,5 +1,5 @@
 -- `archive::convert::convert_to_1` meets its contract. Assumes nothing.
-use mathlib.Core.Path.{refl, sym, ap₂, subst, _∙_}
+use mathlib.Core.Path.{sym, ap₂, subst, _∙_}
 use native.Mathlib.Omega.{arith}
 use Rattle.model.specs.Archive.{secondEdition, firstEdition}
 use Rattle.model.specs.Refusals.{convertArchive}
@@ -18,7 +18,7 @@ convert-edition-requires : tie.Need-convert-edition-requires
 convert-edition-requires c κs =
     let to = c .before .before .before .before in (
       subst (λ (x : Edition). Room x _ _ _) (sym (to .before .second-edition .ensures))
-          (room-of second-room refl refl refl),
+          (room-of second-room),
       subst (λ (x : Edition). InRoom x) (sym (to .first-edition .ensures)) first-room,
     )
 

@@ -1,5 +1,5 @@
 -- `archive::read::read_archive2` meets its contract. Assumes nothing.
-use mathlib.Core.Path.{refl, sym, ap, subst, _∙_}
+use mathlib.Core.Path.{sym, ap, subst, _∙_}
 use native.Mathlib.Omega.{arith}
 use Rattle.model.specs.Archive.{firstEdition}
 use Rattle.model.specs.Refusals.{readArchive}
@@ -16,7 +16,7 @@ use Rattle.archive.proofs.read.read_archive2.Tie as tie
 read-edition-requires : tie.Need-read-edition-requires
 read-edition-requires c κs =
     let edition = c .before .before .before .before .before .second-edition .ensures in
-    subst (λ (x : Edition). Room x _ _ _) (sym edition) (room-of second-room refl refl refl)
+    subst (λ (x : Edition). Room x _ _ _) (sym edition) (room-of second-room)
 
 returns : tie.Need-returns
 returns c =

@@ -1,5 +1,5 @@
 -- `writer::write::fill_archive` meets its contract. Assumes nothing.
-use mathlib.Core.Path.{_∙_}
+use mathlib.Core.Path.{refl, _∙_}
 use Prim.Native.Nat.{_<_}
 use native.Mathlib.Omega.{arith}
 use Rattle.model.specs.Table.{slots, nodeCount}
@@ -35,16 +35,17 @@ module _ (c : tie.After-limit-of) where
 
 count-nodes-requires : tie.Need-count-nodes-requires
 count-nodes-requires c κs =
-    let l = c .before .before in
+    let l = c .before .before .before in
     let count = l .before .node-count .ensures in (
       omega (arith, few l),
       fit l,
       omega (arith, start l .pre .1 .tree .sound .count-high),
+      refl,
     )
 
 link-next-requires : tie.Need-link-next-requires
 link-next-requires c κs =
-    let l = c .before .before .before .before .before in
+    let l = c .before .before .before .before .before .before in
     let count = l .before .node-count .ensures in (
       omega (arith, few l),
       fit l,
@@ -54,7 +55,7 @@ link-next-requires c κs =
 put-pages-requires : tie.Need-put-pages-requires
 put-pages-requires c κs =
     let h = c .before .before .before .before .before .before in
-    let lent = start (h .before .before .before .before .before .before .before .before) in
+    let lent = start (h .before .before .before .before .before .before .before .before .before) in
     let a = lent .args in
     let few = pageCount-le (a .table .now) (a .marks .now) in
     let sound = lent .pre .1 .tree .sound in
@@ -74,7 +75,7 @@ put-nodes-requires : tie.Need-put-nodes-requires
 put-nodes-requires c κs =
     let p = c .before .before .before .before .before in
     let h = p .before .before .before .before .before .before .before in
-    let l = h .before .before .before .before .before .before .before .before in
+    let l = h .before .before .before .before .before .before .before .before .before in
     let a = start l .args in
     let pages = pageCount-le (a .table .now) (a .marks .now) in
     let sound = start l .pre .1 .tree .sound in (
@@ -91,8 +92,9 @@ returns c =
     let pages = p .put-pages in
     let h = p .before .before .before .before .before .before .before in
     let nexts = h .before .before .link-next in
-    let counts = h .before .before .before .before .before .count-nodes in
-    let limited = h .before .before .before .before .before .before .before .before in
+    let counted = h .before .before .before .before .before in
+    let counts = counted .count-nodes .last .1 .1 .1 .0 in
+    let limited = counted .before .before .before .before in
     let lent = start limited in
     let a = lent .args in
     let l = layout limited in
@@ -101,12 +103,12 @@ returns c =
     let plan = lent .pre .2 in
     let good = lent .pre .1 .marked in
     let count = limited .before .node-count .ensures in
-    all-put (lent .pre .0) t m (l .firsts) (l .lasts) (l .weights) (counts .result) (l .parents) (nexts .result)
+    all-put (lent .pre .0) t m (l .firsts) (l .lasts) (l .weights) counts (l .parents) (nexts .result)
     (a .pages) (plan .pages-are) (plan .firsts-are good) (plan .lasts-are good)
     (λ q low high. plan .weights-are q (omega (arith, pageCount-le t m, lent .pre .1 .tree .sound .count-high)))
     (λ five.
-    counted-pages t m (l .page) (counts .result) _ count (plan .page-is)
-    (omega (arith, pageCount-le t m, few limited)) (counts .ensures five))
+    counted-pages t m (l .page) counts _ count (plan .page-is)
+    (omega (arith, pageCount-le t m, few limited)) (counted .count-nodes .ensures five))
     (plan .parents-are) (next-of-page t m (l .page) (nexts .result) _ count (plan .page-is) (nexts .ensures))
     _ _ _
     (head-put (lent .pre .0) t m (a .out .now) _ _ _ _ (h .put-head .ensures) count (limited .limit-of .ensures)

@@ -1,12 +1,12 @@
--- `archive::restore::same_bytes` meets its contract: the bytes passed so far agree. Assumes nothing.
+-- `archive::judged::same_bytes` meets its contract: the bytes passed so far agree. Assumes nothing.
 use mathlib.Core.Path.{_≡_}
 use Prim.Native.Nat.{_-_, _≤_}
 use native.Mathlib.Omega.{arith}
 use lib.ListN.{length}
 use Rattle.archive.proofs.SameBytes.{SameUpto, same-start, same-turn, bytes-yes, bytes-long, bytes-differ}
 use borrow.Author.Needs.{needs}
-use Rattle.archive.proofs.restore.same_bytes.Statement.{statement}
-use Rattle.archive.proofs.restore.same_bytes.Tie as tie
+use Rattle.archive.proofs.judged.same_bytes.Statement.{statement}
+use Rattle.archive.proofs.judged.same_bytes.Tie as tie
 
 abbrev Inv-loop : tie.InvT-loop
 Inv-loop a b i₀ i = (i ≤ length a) × (length a ≡ length b) × SameUpto a b i

@@ -1,4 +1,4 @@
--- `archive::restore::judge_copy` meets its contract. Assumes nothing.
+-- `archive::judged::judge_copy` meets its contract. Assumes nothing.
 use mathlib.Core.Path.{_≡_, sym, ap, _∙_}
 use mathlib.Core.List.{List}
 use Prim.Native.Nat.{ℕ}
@@ -14,8 +14,8 @@ use Rattle.theory.specs.ArchiveAnswers.{writeWith, write-entry}
 use Rattle.archive.specs.Answers.{copy-refused, copy-long, copy-stopped, copy-differs, copy-same}
 use Rattle.archive.proofs.ReadAnswers.{part-long, part-back}
 use borrow.Author.Needs.{needs}
-use Rattle.archive.proofs.restore.judge_copy.Statement.{statement}
-use Rattle.archive.proofs.restore.judge_copy.Tie as tie
+use Rattle.archive.proofs.judged.judge_copy.Statement.{statement}
+use Rattle.archive.proofs.judged.judge_copy.Tie as tie
 
 -- ---- What the writer left in the part that it was lent
 

@@ -1,6 +1,5 @@
-// The tree and the plan of film of an edition. They are decoded, the writer that such film is held against writes them,
-// and the film is one where that gives the very same bytes.
-use crate::decode::decode;
+// Whether film of an edition is one. The writer that such film is held against writes the tree and the plan that were
+// decoded of it, and the film is one where that gives the very same bytes.
 use crate::fields::nodes_in;
 use model::Answer;
 use model::Edition;
@@ -15,7 +14,7 @@ ghost use Rattle.model.specs.Basics.{sameList};
 ghost use Rattle.model.specs.Archive.{nodesIn};
 ghost use Rattle.writer.specs.Size.{InRoom, longestArchive};
 ghost use Rattle.archive.specs.Room.{Room};
-ghost use Rattle.archive.specs.Answers.{CopyJudged, Told};
+ghost use Rattle.archive.specs.Answers.{CopyJudged, Decoded, Told};
 
 // Whether two strings of bytes are the same.
 fn same_bytes(a: &[u8], b: &[u8]) -> bool
@@ -55,24 +54,17 @@ fn judge_copy(e: Edition, archive: &[u8], tree: &[u8], plan: &[u8], copy: &mut [
     refuse(13, 0)
 }
 
-// The verdict of the tree and the plan that the film tells, and these at the start of what is lent for them; or 13.
-// Whoever calls lends in the edition's size, so that no edition pays for the larger one.
-pub fn restore(
-    e: Edition,
-    archive: &[u8],
-    tree: &mut [u8],
-    plan: &mut [u8],
-    copy: &mut [u8],
-) -> Answer
-    requires { ⌜ Room e (now tree) (now plan) (now copy) ⌝ }
-    ensures { λ r. ⌜ Told e (now (archive .entry)) (now (tree .exit)) (now (plan .exit)) r ⌝ }
+// The verdict of the tree and the plan that were decoded of film, at the start of what was lent for them; or 13.
+pub fn judge_film(e: Edition, archive: &[u8], tree: &[u8], plan: &[u8], copy: &mut [u8]) -> Answer
+    requires { ⌜ Room e (length (now tree)) (length (now plan)) (length (now copy))
+        × Decoded e (now archive) (now tree) (now plan) ⌝ }
+    ensures { λ r. ⌜ Told e (now (archive .entry)) (now (tree .entry)) (now (plan .entry)) r ⌝ }
 {
     let nodes = nodes_in(e, archive);
     if e.most < nodes {
         return refuse(13, 0);
     }
     let count = nodes as usize;
-    decode(e, archive, tree, plan);
     let bytes = table_bytes(nodes) as usize;
     judge_copy(e, archive, &tree[..bytes], &plan[..count], copy)
 }
