@@ -7,18 +7,17 @@ use mathlib.Core.Path.{_≡_, sym, _∙_, ap, ap₂}
 use mathlib.Core.List.{List, _++_}
 use lib.ListN.{length, take}
 use lib.Seq.{length-take-le, take-at}
-use Rattle.model.specs.Basics.{pick, sameList}
+use Rattle.model.specs.Basics.{sameList}
 use Rattle.model.specs.Table.{tableBytes}
 use Rattle.model.specs.Plan.{verdictOf}
 use Rattle.model.specs.Archive.{nodesIn, tableIn, marksIn}
-use Rattle.model.specs.Refusals.{answerOf, refused, Written, writeChecks, writeArchive, isArchive, readArchive}
+use Rattle.model.specs.Refusals.{answerOf, refused, Written, writeArchive, isArchive, readArchive}
 use Rattle.model.specs.Refusals.{convertArchive}
 use Rattle.model.specs.declared.Answer.{Answer}
 use Rattle.model.specs.declared.Edition.{Edition}
-use Rattle.theory.specs.JudgeAnswers.{treeAnswer}
 use Rattle.theory.specs.Outputs.{written}
 use Rattle.theory.specs.ArchiveBack.{read-write}
-use Rattle.theory.specs.ArchiveAnswers.{writeFrom, write-entry, read-none, read-table, read-marks, read-done}
+use Rattle.theory.specs.ArchiveAnswers.{read-none, read-table, read-marks, read-done}
 use Rattle.theory.specs.PromiseConvert.{convert-none, convert-write}
 use Rattle.writer.specs.Size.{longestTable}
 use Rattle.archive.specs.Answers.{restored, Told}
@@ -90,11 +89,7 @@ module _ {e : Edition} (a : List ℕ) {tree plan : List ℕ} {r : Answer} (told 
         ∙ read-done e a t m (k .0) (fits ∙ bytes-are) (long ∙ count-is)
 
     -- an archive, written in the other edition
-    pub converter-done : (f : Edition) (out : List ℕ) {w : Written} (judged : Answer)
-        → w ≡ writeFrom f (take bytes tree) (take count plan) out judged
-        → judged ≡ treeAnswer true (take bytes tree) → w ≡ convertArchive e f a out
-    unfolding writeArchive writeChecks pick
-    converter-done f out judged h is =
-        write-entry true f (take bytes tree) (take count plan) out judged h is
-        ∙ ap₂ (λ x y. writeArchive f x y out) tree-told plan-told
-        ∙ convert-write e f a out (told .accepts z .0)
+    pub converter-done : (f : Edition) (out : List ℕ) {w : Written}
+        → w ≡ writeArchive f (take bytes tree) (take count plan) out → w ≡ convertArchive e f a out
+    converter-done f out h =
+        h ∙ ap₂ (λ x y. writeArchive f x y out) tree-told plan-told ∙ convert-write e f a out (told .accepts z .0)

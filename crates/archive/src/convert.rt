@@ -4,7 +4,6 @@ use crate::fields::nodes_in;
 use crate::judged::judge_film;
 use model::Answer;
 use model::Edition;
-use table::check_tree;
 use table::table_bytes;
 use writer::size::FIRST_BYTES;
 use writer::size::FIRST_NODES;
@@ -14,7 +13,7 @@ use writer::size::SECOND_NODES;
 use writer::size::SECOND_TABLE;
 use writer::size::first_edition;
 use writer::size::second_edition;
-use writer::write::write_edition;
+use writer::write::write_filed;
 ghost use mathlib.Core.Path.{_≡_};
 ghost use lib.ListN.{length};
 ghost use Rattle.model.specs.Archive.{firstEdition, secondEdition};
@@ -46,8 +45,7 @@ fn convert_edition(
     let nodes = nodes_in(e, archive);
     let count = nodes as usize;
     let bytes = table_bytes(nodes) as usize;
-    let judged = check_tree(&tree[..bytes], true);
-    write_edition(f, judged, &tree[..bytes], &plan[..count], out)
+    write_filed(f, &tree[..bytes], &plan[..count], out)
 }
 
 // Entry: the converter from the archive of document 01 to edition 2. 13, 14 and 12.

@@ -100,6 +100,16 @@ pub fn write_edition(e: Edition, tree: Answer, table: &[u8], marks: &[u8], out: 
     checked
 }
 
+// The writer of an edition, for a table and marks that are handed in: no label is 0.
+pub fn write_filed(e: Edition, table: &[u8], marks: &[u8], out: &mut [u8]) -> Answer
+    requires { ⌜ InRoom e ⌝ }
+    ensures { λ r. ⌜ written r (now (out .exit))
+        ≡ writeArchive e (now (table .entry)) (now (marks .entry)) (now (out .entry)) ⌝ }
+{
+    let tree = check_tree(table, true);
+    write_edition(e, tree, table, marks, out)
+}
+
 // Entry: the archive writer. The refusals of the judge, 15 and 12. The archive of a best plan is the lowest there is.
 pub fn write_archive(table: &[u8], marks: &[u8], out: &mut [u8]) -> Answer
     ensures { λ r. ⌜ written r (now (out .exit))
@@ -107,8 +117,7 @@ pub fn write_archive(table: &[u8], marks: &[u8], out: &mut [u8]) -> Answer
     ensures { λ r. ⌜ WritePromise firstEdition (now (table .entry)) (now (marks .entry)) (now (out .entry))
         r (now (out .exit)) ⌝ }
 {
-    let tree = check_tree(table, true);
-    write_edition(first_edition(), tree, table, marks, out)
+    write_filed(first_edition(), table, marks, out)
 }
 
 // Entry: the writer of edition 2. The refusals of the judge, and 12: it takes as many nodes as a table has.
@@ -118,6 +127,5 @@ pub fn write_archive2(table: &[u8], marks: &[u8], out: &mut [u8]) -> Answer
     ensures { λ r. ⌜ WritePromise secondEdition (now (table .entry)) (now (marks .entry)) (now (out .entry))
         r (now (out .exit)) ⌝ }
 {
-    let tree = check_tree(table, true);
-    write_edition(second_edition(), tree, table, marks, out)
+    write_filed(second_edition(), table, marks, out)
 }

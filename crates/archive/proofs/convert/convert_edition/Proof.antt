@@ -1,11 +1,9 @@
 -- `archive::convert::convert_edition` meets its contract. Assumes nothing.
-use mathlib.Core.Path.{_≡_, sym, ap, _∙_}
+use mathlib.Core.Path.{_≡_, ap, _∙_}
 use Prim.Native.Nat.{_≤_}
 use lib.ListN.{length}
 use Rattle.model.specs.Table.{tableBytes}
 use Rattle.model.specs.Archive.{nodesIn}
-use Rattle.model.specs.declared.Answer.{Answer}
-use Rattle.theory.specs.JudgeAnswers.{with-facts}
 use Rattle.archive.proofs.ReadAnswers.{known-part, tree-fits, plan-fits, converter-none}
 use Rattle.archive.proofs.ReadAnswers.{converter-done}
 use Rattle.archive.specs.Room.{room-kept}
@@ -57,49 +55,30 @@ returns c =
     converter-none _ (c .before .before .before .before .judge-film .ensures) _ _
     (c .if1 .taken)
 
-slice-reshare-prefix-check-tree : tie.Need-slice-reshare-prefix-check-tree
-slice-reshare-prefix-check-tree c = tree-room c
+slice-reshare-prefix-write-filed : tie.Need-slice-reshare-prefix-write-filed
+slice-reshare-prefix-write-filed c = tree-room c
 
-slice-aggregate-check-tree : tie.Need-slice-aggregate-check-tree
-slice-aggregate-check-tree c = known-part _ _ (tree-room (c .before))
+slice-aggregate-write-filed : tie.Need-slice-aggregate-write-filed
+slice-aggregate-write-filed c = known-part _ _ (tree-room (c .before))
 
-slice-reshare-prefix-write-edition : tie.Need-slice-reshare-prefix-write-edition
-slice-reshare-prefix-write-edition c = tree-room (c .before .before)
+slice-reshare-prefix-write-filed-2 : tie.Need-slice-reshare-prefix-write-filed-2
+slice-reshare-prefix-write-filed-2 c = plan-room (c .before)
 
-slice-aggregate-write-edition : tie.Need-slice-aggregate-write-edition
-slice-aggregate-write-edition c = known-part _ _ (tree-room (c .before .before .before))
-
-slice-reshare-prefix-write-edition-2 : tie.Need-slice-reshare-prefix-write-edition-2
-slice-reshare-prefix-write-edition-2 c = plan-room (c .before .before .before)
-
-slice-aggregate-write-edition-2 : tie.Need-slice-aggregate-write-edition-2
-slice-aggregate-write-edition-2 c = known-part _ _ (plan-room (c .before .before .before .before))
-
-write-edition-requires : tie.Need-write-edition-requires
-write-edition-requires c κs =
-    let checked = c .before .before .before in (
-      start (checked .before .before) .pre .1,
-      λ z. with-facts _ _ (sym (ap (λ (x : Answer). x .number) (checked .check-tree .ensures)) ∙ z),
-    )
+slice-aggregate-write-filed-2 : tie.Need-slice-aggregate-write-filed-2
+slice-aggregate-write-filed-2 c = known-part _ _ (plan-room (c .before .before))
 
 returns-2 : tie.Need-returns-2
 returns-2 c =
     let w = c .before .before in
-    let checked = w .before .before .before .before in
-    let b = checked .before .before in
-    converter-done _ (judged b .judge-film .ensures) (accepted b .if1 .left) (bytes-are b) (counted b .nodes-in .ensures)
-    _ _ (checked .check-tree .result) (w .write-edition .ensures) (checked .check-tree .ensures)
-
-same-length-4 : tie.Need-same-length-4
-same-length-4 c =
-    decoded (c .before .before .before .before .before .before .before .before) .decode .kept .1 .1 .0
+    let b = w .before .before .before .before in
+    converter-done _ (judged b .judge-film .ensures) (accepted b .if1 .left) (bytes-are b)
+    (counted b .nodes-in .ensures) _ _ (w .write-filed .ensures)
 
 pub convert-edition-spec : {M : Type 1} → statement M
 convert-edition-spec =
     tie.close
     (tie.spec (λ c κs. search needs) judge-film-requires (λ c. search needs) (λ c. search needs) (λ c. search needs)
     returns (λ c κs. search needs) (λ c. search needs) (λ c κs. search needs) (λ c. search needs)
-    slice-reshare-prefix-check-tree slice-aggregate-check-tree (λ c κs. search needs)
-    slice-reshare-prefix-write-edition slice-aggregate-write-edition slice-reshare-prefix-write-edition-2
-    slice-aggregate-write-edition-2 write-edition-requires same-length-4 (λ c. search needs) (λ c. search needs)
+    slice-reshare-prefix-write-filed slice-aggregate-write-filed slice-reshare-prefix-write-filed-2
+    slice-aggregate-write-filed-2 (λ c κs. search needs) (λ c. search needs) (λ c. search needs) (λ c. search needs)
     (λ c. search needs) returns-2)
