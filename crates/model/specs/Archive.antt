@@ -1,6 +1,6 @@
 -- Document 01, 'The archive', and document 02, Six: the bytes of a tree and a plan, and the tree and the plan that an
--- archive's bytes tell. The layout is a description of the edition, which writing and reading share: document 01 has the
--- first edition, and document 02 the second.
+-- archive's bytes tell. The layout is a description of the edition, which writing and reading share: document 01 has
+-- the first edition, and document 02 the second.
 use Prim.Native.Nat.{ℕ, _+_, _-_, _*_}
 use mathlib.Core.Bool.{Bool, true, false, _&&_}
 use mathlib.Core.List.{List, [], _∷_, _++_}

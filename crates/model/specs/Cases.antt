@@ -69,8 +69,8 @@ unfolding Basics.pick Basics.when Basics.atPlace Basics.sumTo Basics.countTo Bas
     Basics.listTo Basics.every Basics.sameList
     Table.wordAt Table.bytesOf Table.fieldAt Table.walkFrom Table.walkPlace Table.chainFrom Table.treeOf
     Plan.prevAt Plan.ownerAt Plan.parentFrom Plan.parentAt Plan.markAt Plan.inRun Plan.goodMark Plan.pageFrom
-    Plan.pageOf Plan.pageCount Plan.pageWeight Plan.pageNodes Plan.badMark Plan.heavyPage Plan.verdictOf Plan.runLastFrom
-    Plan.runLast
+    Plan.pageOf Plan.pageCount Plan.pageWeight Plan.pageNodes Plan.badMark Plan.heavyPage Plan.verdictOf
+    Plan.runLastFrom Plan.runLast
     Runs.comesFrom Runs.comesAfter Runs.isRun Runs.isMember Runs.countOf Runs.holds Runs.runWith Runs.homeFrom
     Runs.homeOf Runs.runWeight Runs.withinLimit Runs.runsOf Runs.pageRun
     Steps.restSum Steps.gainSum Steps.takenCount Steps.largestGain Steps.takeEarliest Steps.reduceFrom Steps.reduce

@@ -2,8 +2,8 @@
 -- writeFrom is the writer that goes on from the answer of whatever judged the tree: the reader judges its tree as its
 -- edition's film is held, which may be without 14.
 -- Defines writeFrom, writeWith, WriteDone. Proves film-answer, film-fifteen, film-few, film-long; write-entry,
--- write-done, write-many, write-fourteen, write-fifteen, write-kept, writer-done, writer-refused; unfiled-stops; read-none, read-table,
--- read-marks, read-done, reader-done, read-thirteen. Assumes nothing.
+-- write-done, write-many, write-fourteen, write-fifteen, write-kept, writer-done, writer-refused; unfiled-stops;
+-- read-none, read-table, read-marks, read-done, reader-done, read-thirteen. Assumes nothing.
 use Prim.Native.Nat.{ℕ, _≤_, _<_}
 use native.Mathlib.Omega.{arith}
 use mathlib.Core.Bool.{Bool, true, false, not, _&&_}

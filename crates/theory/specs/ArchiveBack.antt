@@ -1,6 +1,6 @@
--- Writing and reading back, in an edition. The archive of a tree and a plan in which the judge that film is held against
--- finds nothing tells that very table and those very marks, so it passes the reader's test; an archive that passes the
--- test is written by the tree and the plan that it tells, and is of no other edition.
+-- Writing and reading back, in an edition. The archive of a tree and a plan in which the judge that film is held
+-- against finds nothing tells that very table and those very marks, so it passes the reader's test; an archive that
+-- passes the test is written by the tree and the plan that it tells, and is of no other edition.
 -- Defines tableRow. Proves judged-light, write-read, read-write, editions-apart, tableIn-bytes. Assumes nothing.
 use Prim.Native.Nat.{ℕ, zero, suc, _+_, _-_, _*_, _/_, _%_, _≤_, _<_}
 use native.Mathlib.Omega.{arith}

@@ -1,11 +1,11 @@
 -- Lists of checks, one after the other: where all pass, which of them answers, and which numbers they never give. A
 -- list is told by its parts, so that a check put into one of them is met here and in the facts that the part stands
 -- for, and nowhere else.
--- Defines Pass, Never, Plain, andThen. Proves pass-all, passes-append, passes-both, both-pass;
--- firstOf-pass, firstOf-stop, firstOf-all, firstOf-cons, firstOf-append; never-append, never-first, accepted-pass,
--- refused-fails; that no check gives 0 or 5, and that of the weights alone 7 (head-plain to convert-plain); then-next,
--- then-stands, then-both, firstOf-then; what lists with 14 and without are, and what 14 adds (passes-without to
--- node-stops). Assumes nothing.
+-- Defines Pass, Never, Plain, andThen. Proves pass-all, passes-append, passes-both, both-pass; firstOf-pass,
+-- firstOf-stop, firstOf-all, firstOf-cons, firstOf-append; never-append, never-first, accepted-pass, refused-fails;
+-- that no check gives 0 or 5, that of the weights alone 7, and that of the judge none 15 (head-plain to convert-plain);
+-- then-next, then-stands, then-both, firstOf-then; what lists with 14 and without are, and what 14 adds
+-- (passes-without to node-stops). Assumes nothing.
 use Prim.Native.Nat.{ℕ}
 use mathlib.Core.Path.{_≡_, refl, sym, ap, ap₂, _∙_}
 use mathlib.Core.Bool.{Bool, true, false, not, _&&_, false≢true, true≢false}
@@ -18,7 +18,8 @@ use Rattle.model.specs.Refusals.{Check, accepted, refused, firstOf, passes, wit
 use Rattle.model.specs.Refusals.{shortTable, badCount, badLimit, badLength, badWalk, heavyNode, badMarks}
 use Rattle.model.specs.Refusals.{shortScratch, markRefused, pageRefused, badOutput, noArchive, noLabel, manyNodes}
 use Rattle.model.specs.Refusals.{headChecks, nodeChecks, weightChecks, lentChecks, markChecks, filmChecks, backChecks}
-use Rattle.model.specs.Refusals.{sheetChecks, formChecks, treeChecks, planChecks, judgeChecks, readChecks, convertChecks}
+use Rattle.model.specs.Refusals.{sheetChecks, formChecks, treeChecks, planChecks, judgeChecks, readChecks}
+use Rattle.model.specs.Refusals.{convertChecks}
 use Rattle.model.specs.declared.Place.{Place}
 use Rattle.model.specs.declared.Place.the-variants.{At, Nowhere}
 use Rattle.model.specs.declared.Answer.{Answer}

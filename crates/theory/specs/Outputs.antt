@@ -1,9 +1,9 @@
 -- The answers of an entry that judges a tree and a plan and then writes bytes into an output, case by case, and what
 -- each tells; with 14 or without. What it checks after the judge is a list of its own, which gives neither 0 nor 14.
 -- outputFrom is the entry that goes on from the answer of whatever judged the tree.
--- Defines written, outcome, outputFrom, outputWith. Proves promised, judged-from, output-refused, output-stopped,
--- output-done; with-entry, with-done, with-wrote, with-passed, with-last, with-kept; and of the check of a length
--- short-output, long-output. Assumes nothing.
+-- Defines written, outcome, outputFrom, outputWith. Proves promised, outcome-stop to outcome-after, judged-from,
+-- output-refused, output-stopped, output-done; with-entry, with-done, with-wrote, with-passed, with-last, with-kept;
+-- and of the check of a length short-output, long-output. Assumes nothing.
 use Prim.Native.Nat.{ℕ}
 use mathlib.Core.Bool.{Bool, true, false, not, _&&_, true≢false}
 use mathlib.Core.Path.{_≡_, refl, sym, _∙_, ap, ap₂}
@@ -19,7 +19,8 @@ use Rattle.model.specs.declared.Place.the-variants.{At, Nowhere}
 use Rattle.model.specs.declared.Answer.{Answer}
 use Rattle.theory.specs.Bools.{never-true}
 use Rattle.theory.specs.Ranges.{when-true, when-false, atPlace-at, atPlace-nowhere}
-use Rattle.theory.specs.Checks.{Never, passes-append, passes-both, both-pass, firstOf-pass, firstOf-stop, firstOf-all}
+use Rattle.theory.specs.Checks.{Never, passes-append, passes-both, both-pass, firstOf-pass, firstOf-stop}
+use Rattle.theory.specs.Checks.{firstOf-all}
 use Rattle.theory.specs.Checks.{never-append, accepted-pass, mark-plain, judge-never}
 use Rattle.theory.specs.Checks.{andThen, then-next, then-stands, then-both, never-with, with-after}
 use Rattle.theory.specs.JudgeAnswers.{treeAnswer, marksAnswer, with-then}

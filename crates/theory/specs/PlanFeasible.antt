@@ -1,8 +1,8 @@
 -- Feasible plans by number and by shape: the judge finds nothing just where node 1 has mark 1, the marks of the tree
 -- are allowed and every page by shape is within the limit; the verdict is then page count and root weight.
--- Defines Judged, feasibleWith, ShapePlan. Proves with-judged, feasible-judged, unfiled-judged, judged-feasible,
--- judged-verdict, judged-zero, feasible-judge; filed-feasible, label-stops; heavy-bridge, judged-bridge; shape-judged
--- (from FeasibleShape). Assumes nothing.
+-- Defines Judged, feasibleWith, ShapePlan. Proves with-judged, feasible-judged, film-judged, feasible-filed,
+-- feasible-film, judged-feasible, judged-verdict, judged-zero, feasible-judge; filed-feasible, label-stops, film-filed;
+-- heavy-bridge, judged-bridge; shape-judged (from FeasibleShape). Assumes nothing.
 use Prim.Native.Nat.{ℕ, zero, suc, _-_, _≤_}
 use native.Mathlib.Omega.{arith}
 use mathlib.Core.Bool.{Bool, true, false, not}

@@ -1,5 +1,5 @@
--- What the converters promise beside their equation. A converter is the reader of one edition and then the writer of the
--- other (convert-write): so it keeps what was told, and there and back is two uses of 'what is read is what writing
+-- What the converters promise beside their equation. A converter is the reader of one edition and then the writer of
+-- the other (convert-write): so it keeps what was told, and there and back is two uses of 'what is read is what writing
 -- gives'.
 -- Proves convert-none, convert-write, convert-promise. Assumes nothing.
 use Prim.Native.Nat.{ℕ, _≤_}
@@ -13,7 +13,8 @@ use Rattle.model.specs.Basics.{pick, every}
 use Rattle.model.specs.Table.{Bytes, nodeCount}
 use Rattle.model.specs.Plan.{pageCount, verdictOf}
 use Rattle.model.specs.Archive.{archiveOf, archiveBytes, nodesIn, pagesIn, tableIn, marksIn}
-use Rattle.model.specs.Refusals.{badOutput, noArchive, noLabel, manyNodes, judgeChecks, filmChecks, writeChecks, readChecks}
+use Rattle.model.specs.Refusals.{badOutput, noArchive, noLabel, manyNodes, judgeChecks, filmChecks, writeChecks}
+use Rattle.model.specs.Refusals.{readChecks}
 use Rattle.model.specs.Refusals.{feasiblePlan, feasibleFilm, answerOf, refused, Written, writeChecked}
 use Rattle.model.specs.Refusals.{writeArchive, isArchive, readArchive, convertChecks}
 use Rattle.model.specs.Refusals.{convertArchive}

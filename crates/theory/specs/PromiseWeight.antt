@@ -1,8 +1,8 @@
 -- Refusal 7 of every entry is the tree reader's, and exact: demand 3's last sentence, as the entries promise it. 5 is
 -- never given.
 -- Proves weight-promise, seven-tree (checks after the tree's that never give 7 leave it to the tree's), five-tree,
--- read-weight, judge-weight, write-weight, print-weight; and of the archive's reader and the converters read-five, convert-five.
--- Assumes nothing.
+-- read-weight, judge-weight, write-weight, print-weight; and of the archive's reader and the converters read-five,
+-- convert-five. Assumes nothing.
 use Prim.Native.Nat.{ℕ}
 use native.Mathlib.Omega.{arith}
 use mathlib.Core.Path.{_≡_, refl, sym, _∙_, ap}

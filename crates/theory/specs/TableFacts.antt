@@ -1,8 +1,8 @@
 -- What a table of sound form is but for its labels, as plain facts, and what an accepted one is besides. Labels are
 -- apart, since older film tells trees with labels 0.
 -- Defines SoundFacts, AcceptedFacts. Proves that they say what the parts of the list of checks say: head-facts,
--- sound-facts, filed-nowhere, nowhere-filed, unfiled-first, facts-sound, light-passes; accepted-parts, sound-accepted, unfiled-facts,
--- accepted-facts, facts-accepted. Assumes nothing.
+-- sound-facts, filed-nowhere, nowhere-filed, unfiled-first, facts-sound, light-passes; accepted-parts, sound-accepted,
+-- unfiled-facts, accepted-facts, facts-accepted. Assumes nothing.
 use Prim.Native.Nat.{ℕ, _+_, _*_, _≤_}
 use native.Mathlib.Omega.{arith}
 use mathlib.Core.Bool.{Bool, true, false, not, _||_}

@@ -121,9 +121,6 @@ module _ {e : Edition} (r : InRoom e) where
   unfolding putFifth pick
   page-starts o xs i a b c d x begun at room = go (page-cases r)
     where
-      record-put : List ℕ
-      record-put = putRecord o i a b c d
-
       go : (e .page ≡ 4) ⊎ (e .page ≡ 5)
           → Starts (pick (ltb 4 (e .page)) (putWord (putRecord o i a b c d) (i + 4) x) (putRecord o i a b c d))
           (xs ++ take (e .page) (a ∷ b ∷ c ∷ d ∷ x ∷ []))

@@ -4,7 +4,7 @@ use mathlib.Core.Path.{sym, _∙_}
 use Prim.Native.Nat.{_≤_}
 use native.Mathlib.Omega.{arith}
 use lib.ListN.{getD}
-use Rattle.model.specs.Archive.{nodesIn, parentIn}
+use Rattle.model.specs.Archive.{parentIn}
 use Rattle.writer.specs.Size.{archiveNodes}
 use Rattle.writer.specs.Links.{nextWith-le}
 use Rattle.archive.specs.Answers.{too-many}

@@ -51,7 +51,8 @@ module _ (w : tie.After-write-edition) where
   copied-long : length copied ≡ length archive
   copied-long = w .write-edition .kept .1 .1 .1 .1 .0 ∙ fresh (w .before .before)
 
-  wrote : written (w .write-edition .result) copied ≡ writeWith (edition .filed) edition tree plan (lent (w .before .before))
+  wrote : written (w .write-edition .result) copied
+      ≡ writeWith (edition .filed) edition tree plan (lent (w .before .before))
   wrote =
       write-entry (edition .filed) edition tree plan (lent (w .before .before)) _ (w .write-edition .ensures)
       (w .before .before .check-tree .ensures)
