@@ -1,4 +1,4 @@
-//! A model of document 01 with requests One to Five of document 02: every entry with its answers
+//! A model of document 01 with requests One to Six of document 02: every entry with its answers
 //! and the buffers it leaves behind.
 //!
 //! It follows the documents' words closely and is not meant to be fast. The entries have the same
@@ -13,7 +13,10 @@ mod quick;
 mod sheets;
 mod tree;
 
-pub use archive::{archive_bytes, archive_length, read_archive, write_archive, ARCHIVE_NODES};
+pub use archive::{
+    archive_bytes, archive_length, convert_to_1, convert_to_2, read_archive, read_archive2,
+    write_archive, write_archive2, Edition, ARCHIVE_NODES, EDITIONS, FIRST, SECOND,
+};
 pub use plan::{judge, pages, verdict, Page};
 pub use planners::{
     plan_best, plan_depth_first, plan_level, plan_pair, plan_rightmost, plan_single, scratch_length,
