@@ -1,5 +1,6 @@
 /* libembed.a: reads tree tables, plans how a tree is laid on pages, judges plans, writes and reads
- * the archive, and prints plans as leader sheets.
+ * the archive in two editions, converts film of one to the other, and prints plans as leader
+ * sheets.
  *
  * What a caller must see to. A buffer is lent as a pointer and a length. The pointer is valid for
  * that many elements, aligned for them, and not null, also where the length is 0. A buffer that a
@@ -28,9 +29,18 @@
  * A plan has N marks of a byte each, for the nodes in their order: 0 (stays with its parent), 1
  * (begins a run) or 2 (continues the run of the sibling just before). Each run is a page.
  *
- * The archive of a tree of up to 1024 nodes and a plan of P pages has 6 + 8 * P + 8 * N bytes: N,
- * K, P, the page records and the node records. docs/RULE-SHEET.txt tells it byte by byte, with
- * examples. Longer trees are read, planned, judged and printed, and have no archive.
+ * The archive of a tree and a plan of P pages has two editions, both in words as the table's:
+ *
+ *   head           N, K, P; in edition 2 the word 8194, then N, K, P
+ *   then for each page, by its first node, a record of four words, in edition 2 of five:
+ *                  first node, last sibling of its run, weight, next page (0 in the last); in
+ *                  edition 2 also the number of nodes on the page
+ *   then for each node a record of four words:
+ *                  weight, label, parent (0 for node 1), next node of the same page (0 in its last)
+ *
+ * The first edition takes up to 1024 nodes and has 6 + 8 * P + 8 * N bytes; edition 2 takes as many
+ * as a table and has 8 + 10 * P + 8 * N. The first word tells them apart, so that no archive is of
+ * both. docs/RULE-SHEET.txt tells them byte by byte, with examples.
  *
  * The leader sheets of a plan of P pages have 58 pages each, the last one up to 58. A sheet is 60
  * lines, and a line 80 columns and a newline (byte 10), so a sheet has 4860 bytes:
@@ -58,19 +68,21 @@ extern "C" {
 #define BALDUQEN_MAX_NODES 2048
 #define BALDUQEN_MAX_LIMIT 1024
 
-/* The most nodes of the archive, which film decks size their memory by. */
+/* The most nodes of the archive's first edition, which film decks size their memory by. Edition 2
+ * takes as many as a table. */
 #define BALDUQEN_ARCHIVE_NODES 1024
 
 /* The bytes of stack that a call uses at most, on x86-64. As measured: balduqen_read_archive 66 KiB,
  * the planners 55, balduqen_write_archive 33, balduqen_print_sheets 29, the judge 29,
  * balduqen_read_tree 5. */
-#define BALDUQEN_STACK 98304
+#define BALDUQEN_STACK 131072
 
-/* Buffer lengths: bytes of a table, 32-bit words of a planner's scratch, bytes of an archive and of
- * leader sheets. */
+/* Buffer lengths: bytes of a table, 32-bit words of a planner's scratch, bytes of an archive of the
+ * first edition and of edition 2, and of leader sheets. */
 #define BALDUQEN_TABLE_LENGTH(nodes) (4 + 8 * (size_t)(nodes))
 #define BALDUQEN_SCRATCH_LENGTH(nodes, limit) (4 * (size_t)(nodes) * ((size_t)(limit) + 3))
 #define BALDUQEN_ARCHIVE_LENGTH(pages, nodes) (6 + 8 * (size_t)(pages) + 8 * (size_t)(nodes))
+#define BALDUQEN_ARCHIVE2_LENGTH(pages, nodes) (8 + 10 * (size_t)(pages) + 8 * (size_t)(nodes))
 #define BALDUQEN_SHEETS_LENGTH(pages) (4860 * (((size_t)(pages) + 57) / 58))
 
 /* Number 0 and place 0 are acceptance. Any other number is a refusal:
@@ -88,13 +100,16 @@ extern "C" {
  *   10   a mark is not allowed                               first such node
  *   11   a page weighs over K                                first such page
  *   12   an output buffer has the wrong length               the right length
- *   13   no tree and plan write it, also if labels may be 0  0
+ *   13   no tree and plan write this archive in the edition  0
+ *        asked for; in the first, also if labels may be 0
  *   14   a label is 0: a lot that nobody has filed           first such node
- *   15   the tree has more nodes than the archive takes      N
+ *   15   the tree has more nodes than the first edition      N
+ *        takes
  *
- * The lowest that applies is given, with 14 before 6 and 15 before 12; balduqen_read_archive checks
- * 13, then 12, then 8. Number 5 is retired and never given: it was for a weight of 0, which is
- * allowed now.
+ * The lowest that applies is given, with 14 before 6 and 15 before 12; but the readers of archives
+ * check 13, then 12, then 8, balduqen_convert_to_2 checks 13, then 14, then 12, and
+ * balduqen_convert_to_1 13, then 15, then 12. Number 5 is retired and never given: it was for a
+ * weight of 0, which is allowed now.
  */
 enum {
     BALDUQEN_ACCEPTED = 0,
@@ -168,23 +183,50 @@ balduqen_answer balduqen_plan_depth_first(const uint8_t *table, size_t table_len
                                           uint8_t *marks, size_t marks_length,
                                           uint32_t *scratch, size_t scratch_length);
 
-/* Writes the archive of a tree of up to 1024 nodes and a plan. The archive buffer has exactly
- * 6 + 8 * P + 8 * N bytes, where P is the page count that the planner or the judge gave. Refuses 1
- * to 4, 6 to 8, 10 to 12, 14 and 15; a longer tree gets 15 with any plan that the judge accepts,
- * however long the buffer is. With the marks of balduqen_plan_best, page count and root weight on
- * film are that planner's. */
+/* Writes the archive of a tree of up to 1024 nodes and a plan, in its first edition. The archive
+ * buffer has exactly 6 + 8 * P + 8 * N bytes, where P is the page count that the planner or the
+ * judge gave. Refuses 1 to 4, 6 to 8, 10 to 12, 14 and 15; a longer tree gets 15 with any plan that
+ * the judge accepts, however long the buffer is. With the marks of balduqen_plan_best, page count
+ * and root weight on film are that planner's. */
 balduqen_answer balduqen_write_archive(const uint8_t *table, size_t table_length,
                                        const uint8_t *marks, size_t marks_length,
                                        uint8_t *archive, size_t archive_length);
 
-/* Reads the tree and the plan back from an archive: the very table and marks that it was written
- * from. The table buffer has exactly 4 + 8 * N bytes and the marks buffer N. Refuses 13, also where
- * N is over 1024, 12 for the table buffer, then 8 for the marks buffer. Film from before 14 was
- * refused may have labels 0, and is read like any other; what is read then cannot be planned,
- * judged or written again: 14. */
+/* Reads the tree and the plan back from an archive of the first edition: the very table and marks
+ * that it was written from. The table buffer has exactly 4 + 8 * N bytes and the marks buffer N.
+ * Refuses 13, also where N is over 1024, 12 for the table buffer, then 8 for the marks buffer. Film
+ * from before 14 was refused may have labels 0, and is read like any other; what is read then
+ * cannot be planned, judged or written again: 14. */
 balduqen_answer balduqen_read_archive(const uint8_t *archive, size_t archive_length,
                                       uint8_t *table, size_t table_length,
                                       uint8_t *marks, size_t marks_length);
+
+/* Writes the archive of a tree and a plan in edition 2: of any that the judge accepts. The archive
+ * buffer has exactly 8 + 10 * P + 8 * N bytes. Refuses 1 to 4, 6 to 8, 10 to 12 and 14. With the
+ * marks of balduqen_plan_best, page count and root weight on film are that planner's. */
+balduqen_answer balduqen_write_archive2(const uint8_t *table, size_t table_length,
+                                        const uint8_t *marks, size_t marks_length,
+                                        uint8_t *archive, size_t archive_length);
+
+/* Reads the tree and the plan back from an archive of edition 2, into buffers as those of
+ * balduqen_read_archive. Refuses 13, also where a label is 0, 12 for the table buffer, then 8 for
+ * the marks buffer. */
+balduqen_answer balduqen_read_archive2(const uint8_t *archive, size_t archive_length,
+                                       uint8_t *table, size_t table_length,
+                                       uint8_t *marks, size_t marks_length);
+
+/* The converters write film of one edition as film of the other, with the very tree and plan that
+ * it holds: nothing is planned anew. There and back gives the same bytes. */
+
+/* From the first edition to edition 2. The output has exactly 8 + 10 * P + 8 * N bytes. Refuses 13
+ * where balduqen_read_archive does, then 14 where it reads a label 0, then 12. */
+balduqen_answer balduqen_convert_to_2(const uint8_t *archive, size_t archive_length,
+                                      uint8_t *out, size_t out_length);
+
+/* From edition 2 to the first. The output has exactly 6 + 8 * P + 8 * N bytes. Refuses 13 where
+ * balduqen_read_archive2 does, then 15 where N is over 1024, then 12. */
+balduqen_answer balduqen_convert_to_1(const uint8_t *archive, size_t archive_length,
+                                      uint8_t *out, size_t out_length);
 
 /* Prints a plan as leader sheets: any plan that the judge accepts, whoever made it. The buffer has
  * exactly 4860 bytes for each sheet, BALDUQEN_SHEETS_LENGTH of the page count that the planner or

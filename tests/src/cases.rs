@@ -1,12 +1,12 @@
 //! Cases A to G of document 01, its examples of refusals, and what document 02 adds: one for refusal
-//! 14, the plans of request Two, those of trees with weights of 0, and trees that are too long for
-//! the archive.
+//! 14, the plans of request Two, those of trees with weights of 0, trees that are too long for the
+//! archive's first edition, and archives of edition 2.
 
 use crate::ffi;
 use crate::gen::Table;
 use crate::model::{
     plan_best, plan_depth_first, plan_level, plan_pair, plan_rightmost, plan_single, word, Answer,
-    Planner,
+    Edition, Planner,
 };
 
 #[derive(Clone, Copy, Debug, PartialEq, Eq)]
@@ -687,4 +687,25 @@ pub fn archive_of_e() -> Vec<u8> {
         2, 5, 3, 0, // node 5
         1, 6, 1, 0, // node 6
     ])
+}
+
+/// The same in edition 2: pages of one node, of three and of two.
+pub fn archive2_of_e() -> Vec<u8> {
+    bytes(&[
+        8194, 6, 5, 3, // the edition, N, K, P
+        1, 1, 5, 2, 1, // page 1
+        2, 6, 4, 3, 3, // page 2
+        4, 5, 4, 0, 2, // page 3
+        5, 1, 0, 0, // node 1
+        2, 2, 1, 3, // node 2
+        1, 3, 1, 6, // node 3
+        2, 4, 3, 5, // node 4
+        2, 5, 3, 0, // node 5
+        1, 6, 1, 0, // node 6
+    ])
+}
+
+/// One or the other.
+pub fn film_of_e(edition: Edition) -> Vec<u8> {
+    [archive_of_e(), archive2_of_e()][edition.number - 1].clone()
 }

@@ -57,6 +57,30 @@ pub fn file_all(records: &mut [u8]) {
     }
 }
 
+/// A test of one edition of the archive as a test of each.
+#[macro_export]
+macro_rules! tests_of_editions {
+    ($($test:ident)*) => {
+        mod first {
+            $(
+                #[test]
+                fn $test() {
+                    super::$test(balduqen_tests::model::FIRST);
+                }
+            )*
+        }
+
+        mod second {
+            $(
+                #[test]
+                fn $test() {
+                    super::$test(balduqen_tests::model::SECOND);
+                }
+            )*
+        }
+    };
+}
+
 /// Makes a call with a copy of the input and looks at it afterwards. The black box keeps the
 /// compiler from taking it for granted that the copy is unchanged.
 pub fn with_copy<T>(input: &[u8], call: impl FnOnce(&[u8]) -> T) -> T {

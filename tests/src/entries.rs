@@ -2,32 +2,70 @@
 
 use crate::cases::Kind;
 use crate::ffi;
-use crate::model::{self, Answer, Planner};
+use crate::model::{self, Answer, Edition, Planner};
+
+/// An entry that judges a plan and fills a buffer: table, marks, output.
+pub type Writer = fn(&[u8], &[u8], &mut [u8]) -> Answer;
+
+/// Those of one edition of the archive.
+pub struct Film {
+    pub write: Writer,
+    /// Archive, table, marks.
+    pub read: fn(&[u8], &mut [u8], &mut [u8]) -> Answer,
+    /// From film of this edition to film of the other: archive, output.
+    pub convert: fn(&[u8], &mut [u8]) -> Answer,
+}
 
 /// All entries of one side.
 pub struct Entries {
     pub read_tree: fn(&[u8]) -> Answer,
     pub judge: fn(&[u8], &[u8]) -> Answer,
     pub planner: fn(Kind) -> Planner,
-    pub write_archive: fn(&[u8], &[u8], &mut [u8]) -> Answer,
-    pub read_archive: fn(&[u8], &mut [u8], &mut [u8]) -> Answer,
-    pub print_sheets: fn(&[u8], &[u8], &mut [u8]) -> Answer,
+    /// By edition.
+    film: [Film; 2],
+    pub print_sheets: Writer,
 }
 
-pub const MODEL: Entries = Entries {
+impl Entries {
+    pub fn film(&self, edition: Edition) -> &Film {
+        &self.film[edition.number - 1]
+    }
+}
+
+pub static MODEL: Entries = Entries {
     read_tree: model::read_tree,
     judge: model::judge,
     planner: Kind::model,
-    write_archive: model::write_archive,
-    read_archive: model::read_archive,
+    film: [
+        Film {
+            write: model::write_archive,
+            read: model::read_archive,
+            convert: model::convert_to_2,
+        },
+        Film {
+            write: model::write_archive2,
+            read: model::read_archive2,
+            convert: model::convert_to_1,
+        },
+    ],
     print_sheets: model::print_sheets,
 };
 
-pub const LIBRARY: Entries = Entries {
+pub static LIBRARY: Entries = Entries {
     read_tree: ffi::read_tree,
     judge: ffi::judge,
     planner: Kind::library,
-    write_archive: ffi::write_archive,
-    read_archive: ffi::read_archive,
+    film: [
+        Film {
+            write: ffi::write_archive,
+            read: ffi::read_archive,
+            convert: ffi::convert_to_2,
+        },
+        Film {
+            write: ffi::write_archive2,
+            read: ffi::read_archive2,
+            convert: ffi::convert_to_1,
+        },
+    ],
     print_sheets: ffi::print_sheets,
 };

@@ -44,15 +44,24 @@ fn is_allowed(tree: &Tree, before: &[u8], mark: u8) -> bool {
 
 /// The weights of the pages of a plan with allowed marks, in the order of their first nodes.
 pub fn page_weights(tree: &Tree, marks: &[u8]) -> Vec<u32> {
-    // Each node's weight is carried to the first node of its page.
-    let mut weights = vec![0; tree.node_count() + 1];
+    sums_of_pages(tree, marks, |node| tree.weights[node])
+}
+
+/// How many nodes are on each of these pages.
+pub fn page_sizes(tree: &Tree, marks: &[u8]) -> Vec<u32> {
+    sums_of_pages(tree, marks, |_| 1)
+}
+
+fn sums_of_pages(tree: &Tree, marks: &[u8], of_node: impl Fn(usize) -> u32) -> Vec<u32> {
+    // What each node has is carried to the first node of its page.
+    let mut sums = vec![0; tree.node_count() + 1];
     for node in tree.nodes() {
-        weights[first_of_page(tree, marks, node)] += tree.weights[node];
+        sums[first_of_page(tree, marks, node)] += of_node(node);
     }
     // A page is there by its first node, whatever it weighs.
     tree.nodes()
         .filter(|&node| marks[node - 1] == 1)
-        .map(|node| weights[node])
+        .map(|node| sums[node])
         .collect()
 }
 

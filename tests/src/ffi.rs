@@ -83,30 +83,59 @@ macro_rules! writer {
 }
 
 writer!(write_archive, balduqen_write_archive);
+writer!(write_archive2, balduqen_write_archive2);
 writer!(print_sheets, balduqen_print_sheets);
 
-pub fn read_archive(archive: &[u8], table: &mut [u8], marks: &mut [u8]) -> Answer {
-    extern "C" {
-        fn balduqen_read_archive(
-            archive: *const u8,
-            archive_length: usize,
-            table: *mut u8,
-            table_length: usize,
-            marks: *mut u8,
-            marks_length: usize,
-        ) -> Answer;
-    }
-    let (archive, archive_length) = (archive.as_ptr(), archive.len());
-    let (table, table_length) = (table.as_mut_ptr(), table.len());
-    let (marks, marks_length) = (marks.as_mut_ptr(), marks.len());
-    unsafe {
-        balduqen_read_archive(
-            archive,
-            archive_length,
-            table,
-            table_length,
-            marks,
-            marks_length,
-        )
-    }
+macro_rules! reader {
+    ($name:ident, $entry:ident) => {
+        pub fn $name(archive: &[u8], table: &mut [u8], marks: &mut [u8]) -> Answer {
+            extern "C" {
+                fn $entry(
+                    archive: *const u8,
+                    archive_length: usize,
+                    table: *mut u8,
+                    table_length: usize,
+                    marks: *mut u8,
+                    marks_length: usize,
+                ) -> Answer;
+            }
+            let (archive, archive_length) = (archive.as_ptr(), archive.len());
+            let (table, table_length) = (table.as_mut_ptr(), table.len());
+            let (marks, marks_length) = (marks.as_mut_ptr(), marks.len());
+            unsafe {
+                $entry(
+                    archive,
+                    archive_length,
+                    table,
+                    table_length,
+                    marks,
+                    marks_length,
+                )
+            }
+        }
+    };
 }
+
+reader!(read_archive, balduqen_read_archive);
+reader!(read_archive2, balduqen_read_archive2);
+
+macro_rules! converter {
+    ($name:ident, $entry:ident) => {
+        pub fn $name(archive: &[u8], out: &mut [u8]) -> Answer {
+            extern "C" {
+                fn $entry(
+                    archive: *const u8,
+                    archive_length: usize,
+                    out: *mut u8,
+                    out_length: usize,
+                ) -> Answer;
+            }
+            let (archive, archive_length) = (archive.as_ptr(), archive.len());
+            let (out, out_length) = (out.as_mut_ptr(), out.len());
+            unsafe { $entry(archive, archive_length, out, out_length) }
+        }
+    };
+}
+
+converter!(convert_to_2, balduqen_convert_to_2);
+converter!(convert_to_1, balduqen_convert_to_1);

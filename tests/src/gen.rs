@@ -1,6 +1,6 @@
 //! Trees, tables and damaged tables, random ones from fixed seeds and small ones exhaustively.
 
-use crate::model::{archive_bytes, pages, read, Tree, MAX_LIMIT, MAX_NODES};
+use crate::model::{pages, read, Edition, Tree, MAX_LIMIT, MAX_NODES};
 
 /// A generator of random numbers (splitmix64). The same seed gives the same numbers.
 pub struct Random(u64);
@@ -294,15 +294,15 @@ pub fn for_each_linking(count: usize, mut visit: impl FnMut(&Table)) {
 
 /// Calls `visit` with every archive of one page and so many nodes whose parents are 0 to one above
 /// the count. All its other words are as they should be.
-pub fn for_each_parenting(count: usize, mut visit: impl FnMut(&[u8])) {
+pub fn for_each_parenting(edition: Edition, count: usize, mut visit: impl FnMut(&[u8])) {
     let table = Table::new(9, &all_parents(count)[0], &vec![1; count]).bytes();
     let tree = read(&table).expect("an accepted table");
     let mut marks = vec![0; count];
     marks[0] = 1;
-    let mut archive = archive_bytes(&tree, &marks);
+    let mut archive = edition.bytes(&tree, &marks);
     for_each_list(count, count as u8 + 1, |parents| {
-        for (node, &parent) in parents.iter().enumerate() {
-            archive[14 + 8 * node + 5] = parent;
+        for (node, &parent) in (1..).zip(parents) {
+            archive[2 * (edition.node_at(1, node) + 2) + 1] = parent;
         }
         visit(&archive);
     });

@@ -1,6 +1,8 @@
 //! Film kept as bytes, with the tables and plans that the library wrote it from and its verdicts:
 //! film with labels 0 from before 14 was refused, which no library since then can make anew, and
 //! film from before weights of 0 were taken, which every library since then has to make as it is.
+//! Some of the latter is there in edition 2, too, worked out by hand from request Six before there
+//! was a library that writes it.
 
 use crate::model::Answer;
 
@@ -248,5 +250,52 @@ pub fn kept_filed() -> [Kept; 5] {
             verdict: Answer::accepted(9, 4),
             unfiled: 0,
         },
+    ]
+}
+
+/// Film of `kept_filed` in edition 2. On that of sixteen nodes, pages have nodes in their runs and
+/// below these.
+pub fn by_hand() -> [(Kept, Vec<u8>); 3] {
+    let film = |name: &str| {
+        let mut kept = kept_filed().into_iter();
+        kept.find(|film| film.name == name).expect(name)
+    };
+    [
+        (
+            film("one node of the highest limit"),
+            bytes(
+                "
+                2002 0001 0400 0001
+                0001 0001 0400 0000 0001
+                0400 ffff 0000 0000
+            ",
+            ),
+        ),
+        (
+            film("a page for each of a chain"),
+            bytes(
+                "
+                2002 0004 0001 0004
+                0001 0001 0001 0002 0001  0002 0002 0001 0003 0001  0003 0003 0001 0004 0001
+                0004 0004 0001 0000 0001
+                0001 0100 0000 0000  0001 0001 0001 0000  0001 ff00 0002 0000  0001 0002 0003 0000
+            ",
+            ),
+        ),
+        (
+            film("sixteen nodes"),
+            bytes(
+                "
+                2002 0010 000c 0007
+                0001 0001 000a 0002 0002  0002 0002 000a 0003 0003  0005 0005 0009 0004 0002
+                0006 0006 000a 0005 0003  000a 000e 000c 0006 0004  000b 000b 0009 0007 0001
+                000f 000f 0008 0000 0001
+                0004 012c 0000 0010  0003 0011 0001 0003  0005 ffff 0002 0004  0002 0100 0002 0000
+                0006 00ff 0001 0009  0001 1234 0005 0007  0007 0008 0006 0008  0002 0009 0006 0000
+                0003 0fff 0005 0000  0001 0001 0001 000c  0009 8000 000a 0000  0004 000c 000a 000d
+                0002 004d 000a 000e  0005 0014 0001 0000  0008 0014 000e 0000  0006 0015 0001 0000
+            ",
+            ),
+        ),
     ]
 }

@@ -1,21 +1,25 @@
 //! What is asked of all entries alike, of the model's and of the library's: that they take trees of
-//! up to 2,048 nodes, and the archive's up to 1,024, that a tree of sound form is refused with 7
-//! exactly where no set of sibling runs holds it within the limit, that a label 0 is refused with 14
-//! by all but the archive reader, which opens film with it as before, and that a weight of 0 is taken
-//! by all, at any node.
+//! up to 2,048 nodes, and those of the archive's first edition up to 1,024, that a tree of sound form
+//! is refused with 7 exactly where no set of sibling runs holds it within the limit, that a label 0
+//! is refused with 14 by all but the archive's readers, of which the first edition's opens film with
+//! it as before and the second's finds none, that a weight of 0 is taken by all, at any node, and
+//! that film of either edition is converted as it is.
 
 use balduqen_tests::cases::{
-    archive_of_note_between, case_e, long_case_e, note_between, once_refused_tables, Kind, KINDS,
-    MARKS_OF_E,
+    archive_of_note_between, case_e, film_of_e, long_case_e, made, note_between,
+    once_refused_tables, Kind, KINDS, MARKS_OF_E,
 };
 use balduqen_tests::check::{first_unfiled, show, with_copy, Lent, Seen, RETIRED};
-use balduqen_tests::entries::{Entries, LIBRARY, MODEL};
-use balduqen_tests::exhaustive::{best_of_run_sets, for_each_table_and_best, Score};
+use balduqen_tests::entries::{Entries, Writer, LIBRARY, MODEL};
+use balduqen_tests::exhaustive::{
+    best_of_run_sets, for_each_table_and_best, page_sizes, page_weights, Score,
+};
+use balduqen_tests::film::set_word;
 use balduqen_tests::gen::*;
-use balduqen_tests::kept::{kept, kept_filed};
+use balduqen_tests::kept::{by_hand, kept, kept_filed};
 use balduqen_tests::model::{
-    archive_length, read_sound, scratch_length, sheets_length, word, Answer, ARCHIVE_NODES,
-    MAX_LIMIT, MAX_NODES,
+    read, read_sound, scratch_length, sheets_length, word, Answer, Edition, ARCHIVE_NODES,
+    EDITIONS, FIRST, MAX_LIMIT, MAX_NODES, SECOND,
 };
 use balduqen_tests::rule_sheet::rebuild;
 use balduqen_tests::sheet_reader::read_sheets;
@@ -30,16 +34,17 @@ struct Asked {
     judge: Answer,
     /// In the order of `KINDS`.
     planners: [Answer; KINDS.len()],
-    write_archive: Answer,
+    /// By edition.
+    write: [Answer; 2],
     print_sheets: Answer,
 }
 
 /// The lengths of the buffers that the entries fill, marks apart: words of a scratch, bytes of an
-/// archive and of sheets.
+/// archive by edition, and of sheets.
 #[derive(Clone, Copy)]
 struct Lengths {
     scratch: usize,
-    archive: usize,
+    archives: [usize; 2],
     sheets: usize,
 }
 
@@ -49,7 +54,7 @@ impl Lengths {
         let (count, limit) = (word(table, 0), word(table, 1));
         Lengths {
             scratch: scratch_length(count, limit),
-            archive: archive_length(count, count),
+            archives: EDITIONS.map(|edition| edition.length(count, count)),
             sheets: sheets_length(count),
         }
     }
@@ -73,22 +78,27 @@ impl Asked {
                 with_copy(plan, |plan| (entries.judge)(table, plan))
             }),
             planners: KINDS.map(|kind| make_plan(entries, kind, table, marks, lengths.scratch)),
-            write_archive: fill(entries.write_archive, table, plan, lengths.archive),
+            write: EDITIONS.map(|edition| {
+                let length = lengths.archives[edition.number - 1];
+                fill(entries.film(edition).write, table, plan, length)
+            }),
             print_sheets: fill(entries.print_sheets, table, plan, lengths.sheets),
         }
     }
 
     fn all(&self) -> Vec<Answer> {
-        let of_plan = [self.judge, self.write_archive, self.print_sheets];
+        let [first, second] = self.write;
+        let of_plan = [self.judge, first, second, self.print_sheets];
         [&[self.read_tree][..], &of_plan, &self.planners].concat()
     }
 
     fn expect_refused(&self, table: &[u8], number: u32, place: usize) {
         let refusal = Answer::refused(number, place);
-        assert_eq!(self.all(), [refusal; 4 + KINDS.len()], "{}", show(table));
+        assert_eq!(self.all(), [refusal; 5 + KINDS.len()], "{}", show(table));
     }
 
-    /// The verdicts of the planners are not looked at. The archive has no more than 1,024 nodes.
+    /// The verdicts of the planners are not looked at. The archive's first edition has no more than
+    /// 1,024 nodes.
     fn expect_accepted(&self, table: &[u8]) {
         let count = word(table, 0);
         let of_ones = Answer::accepted(count, word(table, 2) as u32);
@@ -98,7 +108,7 @@ impl Asked {
         };
         assert_eq!(self.read_tree, Answer::ACCEPTED, "{}", show(table));
         assert_eq!(self.judge, of_ones, "{}", show(table));
-        assert_eq!(self.write_archive, written, "{}", show(table));
+        assert_eq!(self.write, [written, of_ones], "{}", show(table));
         assert_eq!(self.print_sheets, of_ones, "{}", show(table));
         let planned = self.planners.iter().all(Answer::is_accepted);
         assert!(planned, "{:?}: {}", self.planners, show(table));
@@ -119,11 +129,8 @@ fn make_plan(entries: &Entries, kind: Kind, table: &[u8], marks: usize, scratch:
     answer
 }
 
-/// An entry that fills a buffer from a table and a plan: the archive's writer or the printer of
-/// sheets.
-type Filler = fn(&[u8], &[u8], &mut [u8]) -> Answer;
-
-fn fill(entry: Filler, table: &[u8], plan: &[u8], length: usize) -> Answer {
+/// What a writer of the archive or the printer of sheets answers.
+fn fill(entry: Writer, table: &[u8], plan: &[u8], length: usize) -> Answer {
     let on_entry = vec![7; length];
     let mut lent = Lent::new(&on_entry, 0xa5);
     let answer = with_copy(table, |table| {
@@ -133,37 +140,69 @@ fn fill(entry: Filler, table: &[u8], plan: &[u8], length: usize) -> Answer {
     answer
 }
 
-/// A table of so many nodes, well-formed but for their number, and the archive of its plan with a
-/// page for each node.
-fn table_and_archive(random: &mut Random, form: Form, count: usize, limit: usize) -> [Vec<u8>; 2] {
-    let parents = random_parents(random, form, count);
-    let weights: Vec<u16> = (0..count)
-        .map(|_| random.between(0, limit) as u16)
-        .collect();
-    let table = Table::new(limit as u16, &parents, &weights);
-    let mut words = vec![count as u16, limit as u16, count as u16];
-    for (page, &weight) in (1..).zip(&weights) {
-        let next = if usize::from(page) < count {
-            page + 1
-        } else {
-            0
-        };
-        words.extend([page, page, weight, next]);
-    }
-    for (record, &parent) in table.records.iter().zip(&parents) {
-        words.extend([record.weight, record.label, parent as u16, 0]);
-    }
-    let archive = words.iter().flat_map(|word| word.to_be_bytes()).collect();
-    [table.bytes(), archive]
+/// A tree of so many nodes, well-formed but for their number: its table, and the archives of its plan
+/// with a page for each node, by edition. They are made here by hand, without the model.
+struct Ones {
+    table: Vec<u8>,
+    films: [Vec<u8>; 2],
+    verdict: Answer,
 }
 
-/// What the archive reader answers, with buffers of the lengths of this table and plan, and what it
+impl Ones {
+    fn new(random: &mut Random, form: Form, count: usize, limit: usize) -> Ones {
+        let parents = random_parents(random, form, count);
+        let weights: Vec<u16> = (0..count)
+            .map(|_| random.between(0, limit) as u16)
+            .collect();
+        let table = Table::new(limit as u16, &parents, &weights);
+        let film = |opening: &[u16], nodes_of_page: &[u16]| {
+            let mut words = opening.to_vec();
+            words.extend([count, limit, count].map(|word| word as u16));
+            for (page, &weight) in (1..).zip(&weights) {
+                let next = if usize::from(page) < count {
+                    page + 1
+                } else {
+                    0
+                };
+                words.extend([page, page, weight, next]);
+                words.extend(nodes_of_page);
+            }
+            for (record, &parent) in table.records.iter().zip(&parents) {
+                words.extend([record.weight, record.label, parent as u16, 0]);
+            }
+            words.iter().flat_map(|word| word.to_be_bytes()).collect()
+        };
+        Ones {
+            films: [film(&[], &[]), film(&[8194], &[1])],
+            table: table.bytes(),
+            verdict: Answer::accepted(count, weights[0].into()),
+        }
+    }
+
+    /// The plan has as many marks as nodes.
+    fn marks(&self) -> Vec<u8> {
+        vec![1; self.verdict.pages as usize]
+    }
+
+    fn film(&self, edition: Edition) -> &[u8] {
+        &self.films[edition.number - 1]
+    }
+}
+
+/// What an archive's reader answers, with buffers of the lengths of this table and plan, and what it
 /// leaves in them: these, or the bytes of before.
-fn read_archive(entries: &Entries, archive: &[u8], table: &[u8], plan: &[u8]) -> Answer {
+fn read_archive(
+    entries: &Entries,
+    edition: Edition,
+    archive: &[u8],
+    table: &[u8],
+    plan: &[u8],
+) -> Answer {
+    let read = entries.film(edition).read;
     let mut lent_table = Lent::new(&vec![7; table.len()], 0xa5);
     let mut lent_marks = Lent::new(&vec![7; plan.len()], 0x5a);
     let answer = with_copy(archive, |archive| {
-        (entries.read_archive)(archive, lent_table.slice(), lent_marks.slice())
+        read(archive, lent_table.slice(), lent_marks.slice())
     });
     let (new_table, new_marks) = (lent_table.content(), lent_marks.content());
     if answer.is_accepted() {
@@ -174,21 +213,45 @@ fn read_archive(entries: &Entries, archive: &[u8], table: &[u8], plan: &[u8]) ->
     answer
 }
 
-/// The most nodes of the archive, one more, and the most of a table.
+/// What a converter answers, with an output of the length of this film, and what it leaves there:
+/// this film, or the bytes of before.
+fn convert(entries: &Entries, edition: Edition, archive: &[u8], film: &[u8]) -> Answer {
+    let convert = entries.film(edition).convert;
+    let mut lent = Lent::new(&vec![7; film.len()], 0xa5);
+    let answer = with_copy(archive, |archive| convert(archive, lent.slice()));
+    match answer.is_accepted() {
+        true => assert!(lent.content() == film, "{}", show(lent.content())),
+        false => assert!(lent.content().iter().all(|&byte| byte == 7)),
+    }
+    answer
+}
+
+/// The most nodes of the archive's first edition, one more, and the most of a table.
 const LONG: [usize; 3] = [1024, 1025, 2048];
 
 fn as_many_nodes_as_may_be(entries: &Entries) {
     let random = &mut Random::new(1101);
     for (form, count) in forms_with(&LONG) {
         for limit in [1, 9, 100] {
-            let [table, archive] = table_and_archive(random, form, count, limit);
-            Asked::of(entries, &table).expect_accepted(&table);
-            let expected = match count <= 1024 {
-                true => Answer::accepted(count, word(&table, 2) as u32),
-                false => Answer::refused(13, 0),
-            };
-            let answer = read_archive(entries, &archive, &table, &vec![1; count]);
-            assert_eq!(answer, expected);
+            let ones = Ones::new(random, form, count, limit);
+            Asked::of(entries, &ones.table).expect_accepted(&ones.table);
+            for edition in EDITIONS {
+                let film = ones.film(edition);
+                let (read, converted) = match (edition, count) {
+                    (_, ..=1024) => (ones.verdict, ones.verdict),
+                    (FIRST, _) => (Answer::refused(13, 0), Answer::refused(13, 0)),
+                    _ => (ones.verdict, Answer::refused(15, count)),
+                };
+                let answer = read_archive(entries, edition, film, &ones.table, &ones.marks());
+                assert_eq!(answer, read);
+                let answer = convert(entries, edition, film, ones.film(edition.other()));
+                assert_eq!(answer, converted);
+                let mut written = vec![7; film.len()];
+                let write = entries.film(edition).write;
+                if write(&ones.table, &ones.marks(), &mut written).is_accepted() {
+                    assert!(written == film, "{}", show(&written));
+                }
+            }
         }
     }
 }
@@ -198,10 +261,15 @@ fn one_node_too_many(entries: &Entries) {
     let random = &mut Random::new(1102);
     for form in FORMS {
         for limit in [1, 9, 100, 1024] {
-            let [table, archive] = table_and_archive(random, form, 2049, limit);
-            Asked::of(entries, &table).expect_refused(&table, 2, 2049);
-            let answer = read_archive(entries, &archive, &table, &[1; 2049]);
-            assert_eq!(answer, Answer::refused(13, 0));
+            let ones = Ones::new(random, form, 2049, limit);
+            Asked::of(entries, &ones.table).expect_refused(&ones.table, 2, 2049);
+            for edition in EDITIONS {
+                let film = ones.film(edition);
+                let answer = read_archive(entries, edition, film, &ones.table, &ones.marks());
+                assert_eq!(answer, Answer::refused(13, 0));
+                let answer = convert(entries, edition, film, ones.film(edition.other()));
+                assert_eq!(answer, Answer::refused(13, 0));
+            }
         }
     }
 }
@@ -216,7 +284,7 @@ fn other_lengths(asked: usize) -> [usize; 6] {
 fn long_trees_in_all_lengths(entries: &Entries) {
     let random = &mut Random::new(1107);
     for (form, count) in forms_with(&LONG) {
-        let table = table_and_archive(random, form, count, 5)[0].clone();
+        let table = Ones::new(random, form, count, 5).table;
         let (plan, right) = (vec![1; count], Lengths::of(&table));
         for length in other_lengths(table.len()) {
             let mut other = table.clone();
@@ -229,7 +297,7 @@ fn long_trees_in_all_lengths(entries: &Entries) {
             let asked = Asked::with(entries, &table, &vec![1; length], &right);
             assert_eq!(asked.read_tree, Answer::ACCEPTED);
             let refusal = Answer::refused(8, count);
-            assert_eq!(asked.all()[1..], [refusal; 3 + KINDS.len()]);
+            assert_eq!(asked.all()[1..], [refusal; 4 + KINDS.len()]);
         }
         for scratch in other_lengths(right.scratch) {
             let refusal = Answer::refused(9, right.scratch);
@@ -240,20 +308,23 @@ fn long_trees_in_all_lengths(entries: &Entries) {
                 assert_eq!(answer.is_accepted(), !is_short, "{kind:?} {answer:?}");
             }
         }
-        for archive in other_lengths(right.archive) {
-            let refusal = match count <= 1024 {
-                true => Answer::refused(12, right.archive),
-                false => Answer::refused(15, count),
-            };
-            let answer = fill(entries.write_archive, &table, &plan, archive);
-            assert_eq!(answer, refusal);
+        for edition in EDITIONS {
+            let right = right.archives[edition.number - 1];
+            for archive in other_lengths(right) {
+                let refusal = match (edition, count) {
+                    (FIRST, 1025..) => Answer::refused(15, count),
+                    _ => Answer::refused(12, right),
+                };
+                let answer = fill(entries.film(edition).write, &table, &plan, archive);
+                assert_eq!(answer, refusal);
+            }
         }
         for sheets in other_lengths(right.sheets) {
             let answer = fill(entries.print_sheets, &table, &plan, sheets);
             assert_eq!(answer, Answer::refused(12, right.sheets));
         }
     }
-    let table = table_and_archive(random, Form::Mixed, 2049, 5)[0].clone();
+    let table = Ones::new(random, Form::Mixed, 2049, 5).table;
     let right = Lengths::of(&table);
     for length in [4, table.len() - 1, table.len(), table.len() + 1] {
         let mut other = table.clone();
@@ -269,25 +340,67 @@ fn long_trees_in_all_lengths(entries: &Entries) {
     }
 }
 
-/// The archive's reader: of film with more than 1,024 nodes it says 13, whatever its buffers are.
+/// The archive's readers: of film with more than 1,024 nodes the first edition's says 13, whatever
+/// its buffers are.
 fn long_film_in_all_lengths(entries: &Entries) {
     let random = &mut Random::new(1108);
     for (form, count) in forms_with(&LONG) {
-        let [table, archive] = table_and_archive(random, form, count, 5);
-        let verdict = Answer::accepted(count, word(&table, 2) as u32);
-        for table_length in other_lengths(table.len()).into_iter().chain([table.len()]) {
+        let ones = Ones::new(random, form, count, 5);
+        let right = ones.table.len();
+        for table_length in other_lengths(right).into_iter().chain([right]) {
             for marks_length in other_lengths(count).into_iter().chain([count]) {
-                let expected = match (table_length == table.len(), marks_length == count) {
-                    _ if count > 1024 => Answer::refused(13, 0),
-                    (true, true) => verdict,
-                    (true, false) => Answer::refused(8, count),
-                    (false, _) => Answer::refused(12, table.len()),
+                let (mut table, mut marks) = (ones.table.clone(), ones.marks());
+                table.resize(table_length, 9);
+                marks.resize(marks_length, 9);
+                for edition in EDITIONS {
+                    let expected = match (table_length == right, marks_length == count) {
+                        _ if edition == FIRST && count > 1024 => Answer::refused(13, 0),
+                        (true, true) => ones.verdict,
+                        (true, false) => Answer::refused(8, count),
+                        (false, _) => Answer::refused(12, right),
+                    };
+                    let film = ones.film(edition);
+                    let answer = read_archive(entries, edition, film, &table, &marks);
+                    assert_eq!(answer, expected, "{count} {form:?}");
+                }
+            }
+        }
+    }
+}
+
+/// The converters: 15 of film with more than 1,024 nodes, whatever the output is, and 12 of other
+/// film. A label 0 at the last node of many is 14 of the first edition's film, as one at any node
+/// before it is; the second edition has none.
+fn conversions_in_all_lengths(entries: &Entries) {
+    let random = &mut Random::new(1111);
+    for (form, count) in forms_with(&LONG) {
+        let ones = Ones::new(random, form, count, 5);
+        for edition in EDITIONS {
+            let right = ones.film(edition.other());
+            for length in other_lengths(right.len()).into_iter().chain([right.len()]) {
+                let mut out = right.to_vec();
+                out.resize(length, 9);
+                let expected = match (edition, count) {
+                    (FIRST, 1025..) => Answer::refused(13, 0),
+                    (_, 1025..) => Answer::refused(15, count),
+                    _ if length != right.len() => Answer::refused(12, right.len()),
+                    _ => ones.verdict,
                 };
-                let (mut new_table, mut new_marks) = (table.clone(), vec![1; count]);
-                new_table.resize(table_length, 9);
-                new_marks.resize(marks_length, 9);
-                let answer = read_archive(entries, &archive, &new_table, &new_marks);
-                assert_eq!(answer, expected, "{count} {form:?}");
+                let mut film = ones.film(edition).to_vec();
+                assert_eq!(convert(entries, edition, &film, &out), expected);
+                let unfiled = |node| match (edition, count) {
+                    (FIRST, ..=1024) => Answer::refused(14, node),
+                    _ => Answer::refused(13, 0),
+                };
+                for node in [count, count - 1, 2, 1] {
+                    set_word(&mut film, edition.node_at(count, node) + 1, 0);
+                    let answer = convert(entries, edition, &film, &out);
+                    assert_eq!(answer, unfiled(node));
+                }
+                // The last node has no next one.
+                *film.last_mut().expect("a byte") = 1;
+                let answer = convert(entries, edition, &film, &out);
+                assert_eq!(answer, Answer::refused(13, 0));
             }
         }
     }
@@ -296,6 +409,7 @@ fn long_film_in_all_lengths(entries: &Entries) {
 /// A tree that is too long for the archive, with a further fault each: what the judge refuses comes
 /// before 15, and 15 before 12. The output keeps its bytes, whatever its length.
 fn fifteen_in_its_order(entries: &Entries) {
+    let write = entries.film(FIRST).write;
     for count in [1025, 2048] {
         let refused = |number: u32, place: usize, change: &dyn Fn(&mut Table, &mut Vec<u8>)| {
             let mut table = long_case_e(count);
@@ -303,10 +417,10 @@ fn fifteen_in_its_order(entries: &Entries) {
             plan.resize(count, 0);
             change(&mut table, &mut plan);
             // The plan of E has three pages. With 1,024 nodes the archive would be shorter.
-            let right = archive_length(3, count);
+            let right = FIRST.length(3, count);
             let lengths = other_lengths(right).into_iter();
-            for length in lengths.chain([right, archive_length(3, 1024)]) {
-                let answer = fill(entries.write_archive, &table.bytes(), &plan, length);
+            for length in lengths.chain([right, FIRST.length(3, 1024)]) {
+                let answer = fill(write, &table.bytes(), &plan, length);
                 assert_eq!(answer, Answer::refused(number, place), "{count}: {length}");
             }
         };
@@ -350,14 +464,14 @@ fn fifteen_in_its_order(entries: &Entries) {
     // At 1,024 nodes there is none.
     let mut plan = MARKS_OF_E.to_vec();
     plan.resize(1024, 0);
-    let right = archive_length(3, 1024);
+    let right = FIRST.length(3, 1024);
     for length in other_lengths(right).into_iter().chain([right]) {
         let expected = match length == right {
             true => Answer::accepted(3, 5),
             false => Answer::refused(12, right),
         };
         let table = long_case_e(1024).bytes();
-        assert_eq!(fill(entries.write_archive, &table, &plan, length), expected);
+        assert_eq!(fill(write, &table, &plan, length), expected);
     }
 }
 
@@ -517,11 +631,21 @@ fn fourteen_in_its_order(entries: &Entries) {
     refused(14, 3, |table| table.limit = 1);
 }
 
-/// Film from before 14 was refused is opened: its verdict, its table and its plan.
+/// Film from before 14 was refused is opened: its verdict, its table and its plan. It is no film of
+/// the second edition, and is not converted to it.
 fn kept_film_is_read(entries: &Entries) {
     for film in kept() {
-        let answer = read_archive(entries, &film.archive, &film.table, &film.marks);
+        let answer = read_archive(entries, FIRST, &film.archive, &film.table, &film.marks);
         assert_eq!(answer, film.verdict, "{}", film.name);
+        let answer = read_archive(entries, SECOND, &film.archive, &film.table, &film.marks);
+        assert_eq!(answer, Answer::refused(13, 0), "{}", film.name);
+        let length = SECOND.length(film.verdict.pages as usize, film.marks.len());
+        for length in other_lengths(length).into_iter().chain([length]) {
+            let answer = convert(entries, FIRST, &film.archive, &vec![7; length]);
+            assert_eq!(answer, Answer::refused(14, film.unfiled), "{}", film.name);
+            let answer = convert(entries, SECOND, &film.archive, &vec![7; length]);
+            assert_eq!(answer, Answer::refused(13, 0), "{}", film.name);
+        }
     }
 }
 
@@ -530,8 +654,9 @@ fn kept_film_is_not_taken_again(entries: &Entries) {
     for film in kept() {
         let count = film.marks.len();
         let scratch = scratch_length(count, word(&film.table, 1));
-        let archive = film.archive.len();
-        let sheets = sheets_length(film.verdict.pages as usize);
+        let pages = film.verdict.pages as usize;
+        let [first, second] = EDITIONS.map(|edition| edition.length(pages, count));
+        let sheets = sheets_length(pages);
         // The plan of the film, one page for all, which is mostly too heavy, marks that are not
         // allowed, and other lengths.
         let mut one_page = vec![0; count];
@@ -540,15 +665,15 @@ fn kept_film_is_not_taken_again(entries: &Entries) {
         plans.extend([0, count - 1, count + 1].map(|length| vec![1; length]));
         for plan in &plans {
             for scratch in [0, scratch - 1, scratch] {
-                for (archive, sheets) in [
-                    (0, 0),
-                    (archive - 1, sheets - 1),
-                    (archive, sheets),
-                    (archive + 1, sheets + 1),
+                for (archives, sheets) in [
+                    ([0, 0], 0),
+                    ([first - 1, second - 1], sheets - 1),
+                    ([first, second], sheets),
+                    ([first + 1, second + 1], sheets + 1),
                 ] {
                     let lengths = Lengths {
                         scratch,
-                        archive,
+                        archives,
                         sheets,
                     };
                     let asked = Asked::with(entries, &film.table, plan, &lengths);
@@ -576,34 +701,37 @@ fn kept_film_in_the_order_of_the_reader(entries: &Entries) {
                 let (mut new_table, mut new_marks) = (film.table.clone(), film.marks.clone());
                 new_table.resize(table, 9);
                 new_marks.resize(marks, 9);
-                let answer = read_archive(entries, &film.archive, &new_table, &new_marks);
+                let answer = read_archive(entries, FIRST, &film.archive, &new_table, &new_marks);
                 assert_eq!(answer, expected, "{}", film.name);
-                let refusal = read_archive(entries, &bad, &new_table, &new_marks);
+                let refusal = read_archive(entries, FIRST, &bad, &new_table, &new_marks);
                 assert_eq!(refusal, Answer::refused(13, 0), "{}", film.name);
             }
         }
     }
 }
 
-/// The largest film, with label 0 at the last node.
+/// The largest film, with label 0 at the last node: of the first edition it is read. A tree that is
+/// too long for that gets 14 from its writer all the same.
 fn label_0_of_the_last_of_many(entries: &Entries) {
     let random = &mut Random::new(1104);
-    for form in FORMS {
-        let [mut table, mut archive] = table_and_archive(random, form, ARCHIVE_NODES, 9);
-        // Both end in the node's record, and its label is the second word of four.
-        for bytes in [&mut table, &mut archive] {
+    for (form, count) in forms_with(&[ARCHIVE_NODES, MAX_NODES]) {
+        let mut ones = Ones::new(random, form, count, 9);
+        // All end in the node's record, and its label is the second word of four.
+        let [first, second] = &mut ones.films;
+        for bytes in [&mut ones.table, first, second] {
             let label = bytes.len() - 6;
             bytes[label..label + 2].fill(0);
         }
-        Asked::of(entries, &table).expect_refused(&table, 14, ARCHIVE_NODES);
-        let verdict = Answer::accepted(ARCHIVE_NODES, word(&table, 2) as u32);
-        let answer = read_archive(entries, &archive, &table, &[1; ARCHIVE_NODES]);
-        assert_eq!(answer, verdict);
-        // Too long for film, and for its writer 14 all the same.
-        let mut table = table_and_archive(random, form, MAX_NODES, 9)[0].clone();
-        let label = table.len() - 6;
-        table[label..label + 2].fill(0);
-        Asked::of(entries, &table).expect_refused(&table, 14, MAX_NODES);
+        Asked::of(entries, &ones.table).expect_refused(&ones.table, 14, count);
+        for edition in EDITIONS {
+            let expected = match edition == FIRST && count == ARCHIVE_NODES {
+                true => ones.verdict,
+                false => Answer::refused(13, 0),
+            };
+            let film = ones.film(edition);
+            let answer = read_archive(entries, edition, film, &ones.table, &ones.marks());
+            assert_eq!(answer, expected, "{count} {form:?}");
+        }
     }
 }
 
@@ -630,7 +758,7 @@ fn five_is_never_given(entries: &Entries) {
         // Buffers for twelve nodes and limit 12, whatever the table's head says.
         let lengths = Lengths {
             scratch: 720,
-            archive: 198,
+            archives: [198, 224],
             sheets: 4860,
         };
         let asked = Asked::with(entries, &table, &[1; 12], &lengths);
@@ -645,22 +773,45 @@ fn on_film(entries: &Entries, table: &[u8], marks: &[u8], weights: &[usize]) {
     on_sheets(entries, table, marks, weights);
 }
 
+/// In both editions, and from the one to the other; with more than 1,024 nodes in the second.
 fn on_archive(entries: &Entries, table: &[u8], marks: &[u8], weights: &[usize]) {
     let verdict = Answer::accepted(weights.len(), weights[0] as u32);
-    let mut archive = vec![7; archive_length(weights.len(), marks.len())];
-    let answer = (entries.write_archive)(table, marks, &mut archive);
-    assert_eq!(answer, verdict, "{}", show(table));
-    let written: Vec<usize> = (0..weights.len())
-        .map(|page| word(&archive, 3 + 4 * page + 2))
-        .collect();
-    assert_eq!(written, weights, "{}", show(table));
-    let answer = read_archive(entries, &archive, table, marks);
-    assert_eq!(answer, verdict, "{}", show(table));
-    let told = rebuild(&archive).expect("a sound archive");
+    let films = EDITIONS.map(|edition| {
+        let mut film = vec![7; edition.length(weights.len(), marks.len())];
+        let answer = (entries.film(edition).write)(table, marks, &mut film);
+        if edition == FIRST && marks.len() > 1024 {
+            assert_eq!(answer, Answer::refused(15, marks.len()));
+            return film;
+        }
+        assert_eq!(answer, verdict, "{}", show(table));
+        let written: Vec<usize> = words_of_pages(edition, &film, 2);
+        assert_eq!(written, weights, "{}", show(table));
+        let answer = read_archive(entries, edition, &film, table, marks);
+        assert_eq!(answer, verdict, "{}", show(table));
+        film
+    });
+    let [first, second] = &films;
+    let tree = read(table).expect("an accepted table");
+    let sizes = words_of_pages(SECOND, second, 4);
+    let sizes = sizes.into_iter().map(|nodes| nodes as u32);
+    assert!(sizes.eq(page_sizes(&tree, marks)), "{}", show(table));
+    if marks.len() > 1024 {
+        return;
+    }
+    assert_eq!(convert(entries, FIRST, first, second), verdict);
+    assert_eq!(convert(entries, SECOND, second, first), verdict);
+    let told = rebuild(first).expect("a sound archive");
     let told_marks: Vec<u8> = told.nodes.iter().map(|node| node.mark).collect();
     assert_eq!(told_marks, marks, "{}", show(table));
     let sums: Vec<usize> = told.pages.iter().map(|page| page.sum).collect();
     assert_eq!(sums, weights, "{}", show(table));
+}
+
+/// A word of each page record, by its place in the record.
+fn words_of_pages(edition: Edition, archive: &[u8], field: usize) -> Vec<usize> {
+    let [_, _, pages] = edition.head(archive);
+    let of_page = |page| word(archive, edition.page_at(page) + field);
+    (1..=pages).map(of_page).collect()
 }
 
 fn on_sheets(entries: &Entries, table: &[u8], marks: &[u8], weights: &[usize]) {
@@ -681,9 +832,11 @@ fn on_sheets(entries: &Entries, table: &[u8], marks: &[u8], weights: &[usize]) {
 fn heavy_on_film(entries: &Entries, table: &[u8], marks: &[u8], page: usize) {
     let refusal = Answer::refused(11, page);
     assert_eq!((entries.judge)(table, marks), refusal, "{}", show(table));
-    let archive = archive_length(marks.len(), marks.len());
-    let answer = fill(entries.write_archive, table, marks, archive);
-    assert_eq!(answer, refusal, "{}", show(table));
+    for edition in EDITIONS {
+        let archive = edition.length(marks.len(), marks.len());
+        let answer = fill(entries.film(edition).write, table, marks, archive);
+        assert_eq!(answer, refusal, "{}", show(table));
+    }
     let answer = fill(entries.print_sheets, table, marks, sheets_length(2));
     assert_eq!(answer, refusal, "{}", show(table));
 }
@@ -693,7 +846,7 @@ fn film_with_a_note(entries: &Entries) {
     let (table, marks) = (note_between().bytes(), [1, 1, 2, 2]);
     on_film(entries, &table, &marks, &[2, 2]);
     let mut archive = [7; 54];
-    (entries.write_archive)(&table, &marks, &mut archive);
+    (entries.film(FIRST).write)(&table, &marks, &mut archive);
     assert_eq!(archive[..], archive_of_note_between());
 }
 
@@ -762,7 +915,7 @@ fn notes_on_full_pages(entries: &Entries) {
 }
 
 /// A note, two, and up to 2,048 in every form of tree, under the lowest limit and the highest: one
-/// page of weight 0 by every planner, on sheets and, up to 1,024, on film.
+/// page of weight 0 by every planner, on sheets and on film.
 fn notes_only(entries: &Entries) {
     let random = &mut Random::new(1106);
     for form in FORMS {
@@ -779,9 +932,8 @@ fn notes_only(entries: &Entries) {
                     assert_eq!(answer, Answer::accepted(1, 0), "{kind:?} {form:?} {limit}");
                     assert_eq!(marks, one_page, "{kind:?} {form:?} {limit}");
                 }
-                let tell = if count <= 1024 { on_film } else { on_sheets };
-                tell(entries, &table, &one_page, &[0]);
-                tell(entries, &table, &vec![1; count], &vec![0; count]);
+                on_film(entries, &table, &one_page, &[0]);
+                on_film(entries, &table, &vec![1; count], &vec![0; count]);
             }
         }
     }
@@ -791,16 +943,84 @@ fn notes_only(entries: &Entries) {
 /// as it was.
 fn kept_film_is_written_again(entries: &Entries) {
     for film in kept_filed() {
-        let answer = read_archive(entries, &film.archive, &film.table, &film.marks);
+        let answer = read_archive(entries, FIRST, &film.archive, &film.table, &film.marks);
         assert_eq!(answer, film.verdict, "{}", film.name);
         assert_eq!((entries.read_tree)(&film.table), Answer::ACCEPTED);
         let verdict = (entries.judge)(&film.table, &film.marks);
         assert_eq!(verdict, film.verdict, "{}", film.name);
         let mut again = vec![7; film.archive.len()];
-        let answer = (entries.write_archive)(&film.table, &film.marks, &mut again);
+        let answer = (entries.film(FIRST).write)(&film.table, &film.marks, &mut again);
         assert_eq!(answer, film.verdict, "{}", film.name);
         assert_eq!(again, film.archive, "{}", film.name);
     }
+}
+
+/// Film that was worked out by hand in edition 2: it is written so, read back, and converted.
+fn film_by_hand(entries: &Entries) {
+    for (film, second) in by_hand() {
+        let (table, marks, verdict) = (film.table, film.marks, film.verdict);
+        let mut written = vec![7; second.len()];
+        let answer = (entries.film(SECOND).write)(&table, &marks, &mut written);
+        assert_eq!(answer, verdict, "{}", film.name);
+        assert_eq!(written, second, "{}", film.name);
+        let answer = read_archive(entries, SECOND, &second, &table, &marks);
+        assert_eq!(answer, verdict, "{}", film.name);
+        let answer = convert(entries, FIRST, &film.archive, &second);
+        assert_eq!(answer, verdict, "{}", film.name);
+        let answer = convert(entries, SECOND, &second, &film.archive);
+        assert_eq!(answer, verdict, "{}", film.name);
+    }
+    let [first, second] = EDITIONS.map(film_of_e);
+    let verdict = Answer::accepted(3, 5);
+    assert_eq!(convert(entries, FIRST, &first, &second), verdict);
+    assert_eq!(convert(entries, SECOND, &second, &first), verdict);
+}
+
+/// The plans of all planners on film of both editions, and from the one to the other: each is still
+/// that planner's, though it may not be the best.
+fn plans_on_film(entries: &Entries) {
+    for made in made() {
+        let tree = read(&made.table.bytes()).expect("an accepted table");
+        let weights = page_weights(&tree, &made.marks).into_iter();
+        let weights: Vec<usize> = weights.map(|weight| weight as usize).collect();
+        assert_eq!(
+            (weights.len(), weights[0]),
+            (made.pages, made.root as usize)
+        );
+        on_archive(entries, &made.table.bytes(), &made.marks, &weights);
+    }
+}
+
+/// The best plan of every small tree, on film of both editions and from the one to the other: page
+/// count and root weight are told by its bytes, and they are the lowest of all sets of runs.
+fn best_plans_on_film(entries: &Entries) {
+    let mut check = |table: &[u8], best: Option<Score>| {
+        let (count, limit) = (word(table, 0), word(table, 1));
+        // Some outweigh the limit.
+        let Some((pages, root)) = best else {
+            return;
+        };
+        let mut marks = vec![7; count];
+        let mut scratch = vec![7; scratch_length(count, limit)];
+        let answer = (entries.planner)(Kind::Best)(table, &mut marks, &mut scratch);
+        assert_eq!(answer, Answer::accepted(pages, root), "{}", show(table));
+        let mut films = vec![];
+        for edition in EDITIONS {
+            let other = edition.other();
+            let mut film = vec![7; edition.length(pages, count)];
+            let mut converted = vec![7; other.length(pages, count)];
+            let written = (entries.film(edition).write)(table, &marks, &mut film);
+            let answered = (entries.film(edition).convert)(&film, &mut converted);
+            assert_eq!((written, answered), (answer, answer), "{}", show(table));
+            films.extend([(edition, film), (other, converted)]);
+        }
+        for (edition, film) in films {
+            let on_film = (edition.head(&film)[2], words_of_pages(edition, &film, 2)[0]);
+            assert_eq!(on_film, (pages, root as usize), "{}", show(&film));
+        }
+    };
+    for_each_table_and_best(1..=5, &[0, 1, 2, 3], &[1, 2, 3, 4], &mut check);
+    for_each_table_and_best(6..=6, &[1, 2], &[2, 3], &mut check);
 }
 
 /// The header has a name for each number and a line for each but 0, in rising order; 5 is retired
@@ -824,7 +1044,7 @@ fn numbers_of_the_header() {
     assert!(HEADER.contains(&format!("Number {RETIRED} is retired and never given")));
 }
 
-/// The header declares the eleven doors, each once.
+/// The header declares the fifteen doors, each once.
 #[test]
 fn functions_of_the_header() {
     let declared: Vec<&str> = HEADER
@@ -846,6 +1066,10 @@ fn functions_of_the_header() {
         "plan_depth_first",
         "write_archive",
         "read_archive",
+        "write_archive2",
+        "read_archive2",
+        "convert_to_2",
+        "convert_to_1",
         "print_sheets",
     ];
     assert_eq!(declared, doors);
@@ -880,7 +1104,9 @@ fn lengths_of_the_header() {
             let text = format!("BALDUQEN_SCRATCH_LENGTH({count}, {other})");
             agree(&text, scratch_length(count, other));
             let text = format!("BALDUQEN_ARCHIVE_LENGTH({other}, {count})");
-            agree(&text, archive_length(other, count));
+            agree(&text, FIRST.length(other, count));
+            let text = format!("BALDUQEN_ARCHIVE2_LENGTH({other}, {count})");
+            agree(&text, SECOND.length(other, count));
         }
     }
     for pages in 1..=MAX_NODES {
@@ -890,6 +1116,7 @@ fn lengths_of_the_header() {
     // What is handed to a macro need not be a single number.
     agree("BALDUQEN_SHEETS_LENGTH(1 ? 58 : 59)", 4860);
     agree("BALDUQEN_SHEETS_LENGTH(59) / 2", 4860);
+    agree("BALDUQEN_ARCHIVE2_LENGTH(1 ? 3 : 4, 1 ? 6 : 7) / 2", 43);
     agree("BALDUQEN_MAX_NODES", MAX_NODES);
     agree("BALDUQEN_MAX_LIMIT", MAX_LIMIT);
     agree("BALDUQEN_ARCHIVE_NODES", ARCHIVE_NODES);
@@ -925,8 +1152,12 @@ fn declarations_of_the_header() {
     ] {
         declare(&format!("plan_{kind}"), &[read, filled, scratch]);
     }
-    declare("write_archive", &[read, read, filled]);
-    declare("read_archive", &[read, filled, filled]);
+    for edition in ["", "2"] {
+        declare(&format!("write_archive{edition}"), &[read, read, filled]);
+        declare(&format!("read_archive{edition}"), &[read, filled, filled]);
+    }
+    declare("convert_to_2", &[read, filled]);
+    declare("convert_to_1", &[read, filled]);
     declare("print_sheets", &[read, read, filled]);
     again += "_Static_assert(sizeof(balduqen_answer) == 16, \"four words\");\n";
     compile(&again);
@@ -955,6 +1186,7 @@ macro_rules! tests_of_entries {
             film_with_a_note notes_at_every_place_of_a_run pages_of_weight_0 notes_on_full_pages
             notes_only kept_film_is_written_again long_trees_in_all_lengths
             long_film_in_all_lengths fifteen_in_its_order longest_scratch heaviest_pages
+            conversions_in_all_lengths film_by_hand plans_on_film best_plans_on_film
         );
     };
 }

@@ -4,14 +4,17 @@
 
 use balduqen_tests::cases::*;
 use balduqen_tests::check::{show, Seen};
+use balduqen_tests::entries::LIBRARY;
 use balduqen_tests::ffi;
+use balduqen_tests::film::{kept_in, most_nodes, set_word};
 use balduqen_tests::gen::*;
 use balduqen_tests::guarded::{Guarded, Side, SIDES};
 use balduqen_tests::kept::{kept, kept_filed};
 use balduqen_tests::model::{
-    self, archive_bytes, archive_length, read, scratch_length, sheets_length, word, Answer,
-    ARCHIVE_NODES, MAX_NODES,
+    self, read, scratch_length, sheets_length, word, Answer, Edition, ARCHIVE_NODES, EDITIONS,
+    FIRST, MAX_NODES,
 };
+use balduqen_tests::tests_of_editions;
 use std::env;
 use std::os::unix::process::ExitStatusExt;
 use std::process::{Command, Stdio};
@@ -58,14 +61,15 @@ fn plan_of_each_kind(table: &[u8], marks: &[u8], scratch: &[u32]) {
     }
 }
 
-fn write_archive(table: &[u8], marks: &[u8], archive: &[u8]) -> Answer {
+fn write_archive(edition: Edition, table: &[u8], marks: &[u8], archive: &[u8]) -> Answer {
+    let write = LIBRARY.film(edition).write;
     let mut model_archive = archive.to_vec();
-    let expected = model::write_archive(table, marks, &mut model_archive);
+    let expected = edition.write(table, marks, &mut model_archive);
     for side in SIDES {
         let table = Guarded::read_only(table, side);
         let marks = Guarded::read_only(marks, side);
         let mut archive = Guarded::new(archive, side);
-        let answer = ffi::write_archive(table.content(), marks.content(), archive.slice());
+        let answer = write(table.content(), marks.content(), archive.slice());
         assert_eq!(answer, expected, "{}", show(table.content()));
         assert!(archive.content() == model_archive);
     }
@@ -86,16 +90,31 @@ fn print_sheets(table: &[u8], marks: &[u8], sheets: &[u8]) -> Answer {
     expected
 }
 
-fn read_archive(archive: &[u8], table: &[u8], marks: &[u8]) -> Answer {
+fn read_archive(edition: Edition, archive: &[u8], table: &[u8], marks: &[u8]) -> Answer {
+    let read = LIBRARY.film(edition).read;
     let (mut model_table, mut model_marks) = (table.to_vec(), marks.to_vec());
-    let expected = model::read_archive(archive, &mut model_table, &mut model_marks);
+    let expected = edition.read(archive, &mut model_table, &mut model_marks);
     for side in SIDES {
         let archive = Guarded::read_only(archive, side);
         let mut table = Guarded::new(table, side);
         let mut marks = Guarded::new(marks, side);
-        let answer = ffi::read_archive(archive.content(), table.slice(), marks.slice());
+        let answer = read(archive.content(), table.slice(), marks.slice());
         assert_eq!(answer, expected, "{}", show(archive.content()));
         assert!(table.content() == model_table && marks.content() == model_marks);
+    }
+    expected
+}
+
+fn convert(edition: Edition, archive: &[u8], out: &[u8]) -> Answer {
+    let convert = LIBRARY.film(edition).convert;
+    let mut model_out = out.to_vec();
+    let expected = edition.convert(archive, &mut model_out);
+    for side in SIDES {
+        let archive = Guarded::read_only(archive, side);
+        let mut out = Guarded::new(out, side);
+        let answer = convert(archive.content(), out.slice());
+        assert_eq!(answer, expected, "{}", show(archive.content()));
+        assert!(out.content() == model_out);
     }
     expected
 }
@@ -106,7 +125,10 @@ fn hand_to_all(table: &[u8], marks: &[u8], limit: usize) -> Answer {
     let verdict = judge(table, marks);
     plan_of_each_kind(table, marks, &vec![7; scratch_length(marks.len(), limit)]);
     let pages = verdict.pages as usize;
-    write_archive(table, marks, &vec![7; archive_length(pages, marks.len())]);
+    for edition in EDITIONS {
+        let archive = vec![7; edition.length(pages, marks.len())];
+        write_archive(edition, table, marks, &archive);
+    }
     print_sheets(table, marks, &vec![7; sheets_length(pages)]);
     read_tree(table)
 }
@@ -132,15 +154,20 @@ fn hand_in_all_lengths(table: &[u8], marks: &[u8], limit: usize) -> Answer {
         marks.resize(length, 1);
         judge(table, &marks);
         plan_of_each_kind(table, &marks, &scratch);
-        write_archive(table, &marks, &vec![7; archive_length(length, length)]);
+        for edition in EDITIONS {
+            let archive = vec![7; edition.length(length, length)];
+            write_archive(edition, table, &marks, &archive);
+        }
         print_sheets(table, &marks, &vec![7; sheets_length(length)]);
     }
     for length in other_lengths(scratch.len()) {
         plan_of_each_kind(table, marks, &vec![7; length]);
     }
     let pages = model::judge(table, marks).pages as usize;
-    for length in other_lengths(archive_length(pages, marks.len())) {
-        write_archive(table, marks, &vec![7; length]);
+    for edition in EDITIONS {
+        for length in other_lengths(edition.length(pages, marks.len())) {
+            write_archive(edition, table, marks, &vec![7; length]);
+        }
     }
     for length in other_lengths(sheets_length(pages.max(1))) {
         print_sheets(table, marks, &vec![7; length]);
@@ -148,20 +175,37 @@ fn hand_in_all_lengths(table: &[u8], marks: &[u8], limit: usize) -> Answer {
     hand_to_all(table, marks, limit)
 }
 
-/// Hands an archive to its reader, with buffers that are right for so many nodes.
-fn hand_to_reader(archive: &[u8], count: usize) -> Answer {
-    read_archive(archive, &vec![7; 4 + 8 * count], &vec![7; count])
+/// The output that a converter asks for, by the head of the film, if there is one of so many nodes.
+fn converted_length(edition: Edition, archive: &[u8], count: usize) -> usize {
+    let has_head = archive.len() >= 2 * edition.page_at(1);
+    let pages = if has_head {
+        edition.head(archive)[2]
+    } else {
+        1
+    };
+    edition.other().length(pages, count)
+}
+
+/// Hands an archive to its reader and to its converter, with buffers that are right for so many
+/// nodes. Gives the reader's answer.
+fn hand_to_reader(edition: Edition, archive: &[u8], count: usize) -> Answer {
+    let out = vec![7; converted_length(edition, archive, count)];
+    convert(edition, archive, &out);
+    read_archive(edition, archive, &vec![7; 4 + 8 * count], &vec![7; count])
 }
 
 /// The same, and also with each buffer in turn of another length.
-fn hand_to_reader_in_all_lengths(archive: &[u8], count: usize) -> Answer {
+fn hand_to_reader_in_all_lengths(edition: Edition, archive: &[u8], count: usize) -> Answer {
+    for length in other_lengths(converted_length(edition, archive, count)) {
+        convert(edition, archive, &vec![7; length]);
+    }
     for length in other_lengths(4 + 8 * count) {
-        read_archive(archive, &vec![7; length], &vec![7; count]);
+        read_archive(edition, archive, &vec![7; length], &vec![7; count]);
     }
     for length in other_lengths(count) {
-        read_archive(archive, &vec![7; 4 + 8 * count], &vec![7; length]);
+        read_archive(edition, archive, &vec![7; 4 + 8 * count], &vec![7; length]);
     }
-    hand_to_reader(archive, count)
+    hand_to_reader(edition, archive, count)
 }
 
 /// The plan with a page for each of so many nodes.
@@ -303,18 +347,18 @@ fn long_tables_of_other_lengths() {
     }
 }
 
-/// A tree that is too long for the archive: with outputs of any length 15, after what is wrong with
-/// the plan.
+/// A tree that is too long for the archive's first edition: with outputs of any length 15, after what
+/// is wrong with the plan.
 #[test]
 fn trees_too_long_for_the_archive() {
     for count in [1025, 2048] {
         let table = long_case_e(count).bytes();
         let plan = |marks: [u8; 6]| [&marks[..], &vec![0; count - 6]].concat();
-        let right = archive_length(3, count);
-        let short = archive_length(3, 1024);
+        let right = FIRST.length(3, count);
+        let short = FIRST.length(3, 1024);
         let lengths = other_lengths(right).into_iter().chain(other_lengths(short));
         for length in lengths.chain([right, short]) {
-            let write = |marks: &[u8]| write_archive(&table, marks, &vec![7; length]);
+            let write = |marks: &[u8]| write_archive(FIRST, &table, marks, &vec![7; length]);
             assert_eq!(write(&plan(MARKS_OF_E)), Answer::refused(15, count));
             assert_eq!(write(&ones(count)), Answer::refused(15, count));
             assert_eq!(write(&plan([1, 0, 0, 0, 0, 0])), Answer::refused(11, 1));
@@ -325,19 +369,24 @@ fn trees_too_long_for_the_archive() {
     }
 }
 
-/// Film that would be sound but for its more than 1,024 nodes.
-#[test]
-fn archives_of_too_many_nodes() {
+/// Film that would be sound in the first edition but for its more than 1,024 nodes, and in the second
+/// is; there converting it gives 15.
+fn archives_of_many_nodes(edition: Edition) {
     let random = &mut Random::new(1210);
     for (form, count) in forms_with(&[1025, 2048]) {
         let table = random_table(random, form, count, 60).bytes();
         let tree = read(&table).expect("an accepted table");
         for marks in [feasible_plan(random, &tree), ones(count)] {
-            let archive = archive_bytes(&tree, &marks);
-            for buffers in [1024, count] {
-                let answer = hand_to_reader_in_all_lengths(&archive, buffers);
-                assert_eq!(answer, Answer::refused(13, 0));
-            }
+            let archive = edition.bytes(&tree, &marks);
+            let [read, converted] = match edition {
+                FIRST => [Answer::refused(13, 0); 2],
+                _ => [model::verdict(&tree, &marks), Answer::refused(15, count)],
+            };
+            hand_to_reader_in_all_lengths(edition, &archive, 1024);
+            let answer = hand_to_reader_in_all_lengths(edition, &archive, count);
+            assert_eq!(answer, read);
+            let answer = convert(edition, &archive, &vec![7; 100]);
+            assert_eq!(answer, converted);
         }
     }
 }
@@ -431,27 +480,33 @@ fn damaged_tables() {
     seen.expect(&[0, 1, 2, 3, 4, 6, 7, 14], 20);
 }
 
-/// Film with labels 0 is read; what is read of it is refused by all other entries, and each leaves
-/// its buffers alone.
-#[test]
-fn kept_film() {
+/// Film with labels 0 is read in the first edition, and only there; it is not converted. What is read
+/// of it is refused by all other entries, and each leaves its buffers alone.
+fn kept_film(edition: Edition) {
     for film in kept() {
-        let answer = hand_to_reader_in_all_lengths(&film.archive, film.marks.len());
-        assert_eq!(answer, film.verdict, "{}", film.name);
+        let archive = kept_in(edition, &film);
         let refusal = Answer::refused(14, film.unfiled);
+        let [read, converted] = match edition {
+            FIRST => [film.verdict, refusal],
+            _ => [Answer::refused(13, 0); 2],
+        };
+        let answer = hand_to_reader_in_all_lengths(edition, &archive, film.marks.len());
+        assert_eq!(answer, read, "{}", film.name);
+        let answer = convert(edition, &archive, &[]);
+        assert_eq!(answer, converted, "{}", film.name);
         let limit = word(&film.table, 1);
         let answer = hand_in_all_lengths(&film.table, &film.marks, limit);
         assert_eq!(answer, refusal, "{}", film.name);
-        let answer = write_archive(&film.table, &film.marks, &film.archive);
+        let answer = write_archive(edition, &film.table, &film.marks, &archive);
         assert_eq!(answer, refusal, "{}", film.name);
     }
 }
 
 /// Film from before weights of 0 is read and written again.
-#[test]
-fn kept_filed_film() {
+fn kept_filed_film(edition: Edition) {
     for film in kept_filed() {
-        let answer = hand_to_reader_in_all_lengths(&film.archive, film.marks.len());
+        let archive = kept_in(edition, &film);
+        let answer = hand_to_reader_in_all_lengths(edition, &archive, film.marks.len());
         assert_eq!(answer, film.verdict, "{}", film.name);
         let limit = word(&film.table, 1);
         let answer = hand_in_all_lengths(&film.table, &film.marks, limit);
@@ -471,11 +526,14 @@ fn tables_of_notes() {
         let table = Table::new(1, &parents, &[0; MAX_NODES]).bytes();
         let answer = hand_in_all_lengths(&table, &ones(MAX_NODES), 1);
         assert_eq!(answer, Answer::ACCEPTED);
-        let parents = random_parents(random, form, ARCHIVE_NODES);
-        let table = Table::new(1, &parents, &[0; ARCHIVE_NODES]).bytes();
-        let tree = read(&table).expect("an accepted table");
-        let archive = archive_bytes(&tree, &ones(ARCHIVE_NODES));
-        assert!(hand_to_reader(&archive, ARCHIVE_NODES).is_accepted());
+        for edition in EDITIONS {
+            let count = edition.most_nodes;
+            let parents = random_parents(random, form, count);
+            let table = Table::new(1, &parents, &vec![0; count]).bytes();
+            let tree = read(&table).expect("an accepted table");
+            let archive = edition.bytes(&tree, &ones(count));
+            assert!(hand_to_reader(edition, &archive, count).is_accepted());
+        }
     }
     // Of the children only the first and the last weigh something, and one run has them all.
     let parents = [&[0][..], &[1; MAX_NODES - 1]].concat();
@@ -517,61 +575,62 @@ fn changed_marks() {
     }
 }
 
-#[test]
-fn good_archives() {
+fn good_archives(edition: Edition) {
     let random = &mut Random::new(1204);
-    let verdict = Answer::accepted(3, 5);
-    assert_eq!(hand_to_reader_in_all_lengths(&archive_of_e(), 6), verdict);
+    let answer = hand_to_reader_in_all_lengths(edition, &film_of_e(edition), 6);
+    assert_eq!(answer, Answer::accepted(3, 5));
     for round in 0..200 {
-        let most = if round % 50 == 0 { ARCHIVE_NODES } else { 30 };
-        let table = any_table(random, most, 60).bytes();
+        let table = any_table(random, most_nodes(edition, round, 50, 30), 60).bytes();
         let tree = read(&table).expect("an accepted table");
         for marks in [feasible_plan(random, &tree), ones(tree.node_count())] {
-            let archive = archive_bytes(&tree, &marks);
-            let answer = hand_to_reader_in_all_lengths(&archive, marks.len());
+            let archive = edition.bytes(&tree, &marks);
+            let answer = hand_to_reader_in_all_lengths(edition, &archive, marks.len());
             assert!(answer.is_accepted());
         }
     }
-    for form in FORMS {
-        let table = random_table(random, form, ARCHIVE_NODES, 1024).bytes();
+    for (form, count) in forms_with(&[ARCHIVE_NODES, edition.most_nodes]) {
+        let table = random_table(random, form, count, 1024).bytes();
         let tree = read(&table).expect("an accepted table");
-        let archive = archive_bytes(&tree, &ones(ARCHIVE_NODES));
-        assert!(hand_to_reader(&archive, ARCHIVE_NODES).is_accepted());
+        let archive = edition.bytes(&tree, &ones(count));
+        let answer = hand_to_reader(edition, &archive, count);
+        assert!(answer.is_accepted());
     }
 }
 
 /// Case E's archive cut short at every length, and longer than it should be.
-#[test]
-fn archives_of_every_length() {
-    let archive = archive_of_e();
+fn archives_of_every_length(edition: Edition) {
+    let archive = film_of_e(edition);
     for length in 0..=archive.len() + 20 {
         let mut bytes = archive.clone();
         bytes.resize(length, 1);
         let is_whole = length == archive.len();
-        let answer = hand_to_reader_in_all_lengths(&bytes, 6);
+        let answer = hand_to_reader_in_all_lengths(edition, &bytes, 6);
         assert_eq!(answer.is_accepted(), is_whole);
     }
 }
 
 /// Counts, limits and page counts that promise more, or less, than there is, in front of nothing, of
 /// case E's records, and of as many bytes as promised.
-#[test]
-fn heads_of_archives() {
-    let values: [u16; 14] = [
+fn heads_of_archives(edition: Edition) {
+    let values = [
         0, 1, 2, 3, 4, 6, 7, 1023, 1024, 1025, 2048, 2049, 32768, 65535,
     ];
-    let rest = &archive_of_e()[6..];
+    let head_bytes = 2 * edition.page_at(1);
+    let film = film_of_e(edition);
     let mut accepted = 0;
     for nodes in values {
         for pages in values {
             for limit in [0, 5, 1024, 65535] {
-                let words = [nodes, limit, pages];
-                let head: Vec<u8> = words.iter().flat_map(|word| word.to_be_bytes()).collect();
-                let promised = 8 * usize::from(nodes) + 8 * usize::from(pages);
-                for rest in [&[], rest, &vec![1; promised]] {
+                let mut head = film[..head_bytes].to_vec();
+                for (field, value) in [nodes, limit, pages].into_iter().enumerate() {
+                    set_word(&mut head, edition.head_at() + field, value);
+                }
+                let promised = edition.length(pages, nodes) - head_bytes;
+                for rest in [&[], &film[head_bytes..], &vec![1; promised]] {
                     let archive = [&head, rest].concat();
-                    accepted += usize::from(hand_to_reader(&archive, 6).is_accepted());
-                    hand_to_reader(&archive, nodes.into());
+                    let answer = hand_to_reader(edition, &archive, 6);
+                    accepted += usize::from(answer.is_accepted());
+                    hand_to_reader(edition, &archive, nodes);
                 }
             }
         }
@@ -581,31 +640,50 @@ fn heads_of_archives() {
 }
 
 /// Case E's archive with every word set to values that lead elsewhere.
-#[test]
-fn changed_archives() {
-    let archive = archive_of_e();
+fn changed_archives(edition: Edition) {
+    let archive = film_of_e(edition);
     for place in 0..archive.len() / 2 {
-        for value in [0u16, 1, 2, 3, 4, 5, 6, 7, 255, 256, 1024, 1025, 2048, 65535] {
+        for value in [
+            0, 1, 2, 3, 4, 5, 6, 7, 255, 256, 1024, 1025, 2048, 2049, 8193, 8194, 8195, 65535,
+        ] {
             let mut changed = archive.clone();
-            changed[2 * place..2 * place + 2].copy_from_slice(&value.to_be_bytes());
-            hand_to_reader(&changed, 6);
+            set_word(&mut changed, place, value);
+            hand_to_reader(edition, &changed, 6);
         }
     }
 }
 
-#[test]
-fn damaged_archives() {
+fn damaged_archives(edition: Edition) {
     let random = &mut Random::new(1205);
     let mut seen = Seen::default();
     for _ in 0..3000 {
         let table = any_table(random, 12, 60).bytes();
         let tree = read(&table).expect("an accepted table");
         let marks = feasible_plan(random, &tree);
-        let mut archive = archive_bytes(&tree, &marks);
+        let mut archive = edition.bytes(&tree, &marks);
         for _ in 0..random.between(1, 2) {
             archive = flipped(random, archive);
         }
-        seen.add(hand_to_reader(&archive, marks.len()));
+        seen.add(hand_to_reader(edition, &archive, marks.len()));
     }
     seen.expect(&[0, 13], 200);
 }
+
+/// Film of the one edition is handed to the other's reader and converter.
+fn archives_of_the_other_edition(edition: Edition) {
+    let random = &mut Random::new(1211);
+    let other = edition.other();
+    for (form, count) in forms_with(&[1, 2, 100, other.most_nodes]) {
+        let table = random_table(random, form, count, 60).bytes();
+        let tree = read(&table).expect("an accepted table");
+        for marks in [feasible_plan(random, &tree), ones(count)] {
+            let answer = hand_to_reader(edition, &other.bytes(&tree, &marks), count);
+            assert_eq!(answer, Answer::refused(13, 0));
+        }
+    }
+}
+
+tests_of_editions!(
+    archives_of_many_nodes kept_film kept_filed_film good_archives archives_of_every_length
+    heads_of_archives changed_archives damaged_archives archives_of_the_other_edition
+);

@@ -1,12 +1,12 @@
 //! How much stack the library's entries use, against the most that include/balduqen.h gives. No entry
 //! calls itself, so that the frames of a call are the same for every tree; the trees here have the
-//! most nodes, of a table or of the archive, and every form.
+//! most nodes, of a table or of the archive's first edition, and every form.
 
 use balduqen_tests::cases::KINDS;
 use balduqen_tests::entries::LIBRARY;
 use balduqen_tests::gen::*;
 use balduqen_tests::model::{
-    archive_length, scratch_length, sheets_length, Answer, ARCHIVE_NODES, MAX_NODES,
+    scratch_length, sheets_length, Answer, Edition, ARCHIVE_NODES, EDITIONS, FIRST, MAX_NODES,
 };
 use balduqen_tests::stack::stack_used;
 use std::hint::black_box;
@@ -21,22 +21,30 @@ fn defined(name: &str) -> usize {
     number.parse().expect(number)
 }
 
-/// What the archive's writer and reader used while tables had no more nodes than the archive: longer
-/// tables must cost them nothing, since film decks size their memory by its 1,024 nodes.
+/// What the writer and the reader of the archive's first edition used while tables had no more nodes
+/// than that: longer tables and the second edition must cost them nothing, since film decks size their
+/// memory by its 1,024 nodes.
 const WRITER_BEFORE: usize = 43_576;
 const READER_BEFORE: usize = 77_400;
 
 /// The answer of a call, after a look at its stack.
-fn within_stack(what: &str, mut call: impl FnMut() -> Answer) -> Answer {
+fn within_stack(what: &str, call: impl FnMut() -> Answer) -> Answer {
+    within(defined("BALDUQEN_STACK"), what, call)
+}
+
+fn within(most: usize, what: &str, mut call: impl FnMut() -> Answer) -> Answer {
     let mut answer = Answer::refused(1, 0);
     let used = stack_used(&mut || answer = call());
-    let most = match what {
-        "write" => WRITER_BEFORE,
-        "read" => READER_BEFORE,
-        _ => defined("BALDUQEN_STACK"),
-    };
     assert!(used <= most, "{what}: {used} bytes, at most {most}");
     answer
+}
+
+/// The most that the writer and the reader of an edition may use.
+fn most_of(edition: Edition) -> [usize; 2] {
+    match edition {
+        FIRST => [WRITER_BEFORE, READER_BEFORE],
+        _ => [defined("BALDUQEN_STACK"); 2],
+    }
 }
 
 /// The same of a call that must be an acceptance.
@@ -46,9 +54,8 @@ fn accepted_within_stack(what: &str, call: impl FnMut() -> Answer) -> Answer {
     answer
 }
 
-/// Plans a tree with so many nodes, judges and prints it, and hands it to the archive's writer. Gives
-/// the marks, the writer's output, and the answers of judge and writer.
-fn all_but_the_reader(table: &[u8], count: usize, limit: usize) -> (Vec<u8>, Vec<u8>, [Answer; 2]) {
+/// Plans a tree with so many nodes, judges and prints it. Gives the marks and the verdict.
+fn all_but_the_archive(table: &[u8], count: usize, limit: usize) -> (Vec<u8>, Answer) {
     let mut marks = vec![0; count];
     let mut scratch = vec![0; scratch_length(count, limit)];
     accepted_within_stack("read tree", || (LIBRARY.read_tree)(table));
@@ -60,27 +67,45 @@ fn all_but_the_reader(table: &[u8], count: usize, limit: usize) -> (Vec<u8>, Vec
     let mut sheets = vec![0; sheets_length(judged.pages as usize)];
     let print = LIBRARY.print_sheets;
     accepted_within_stack("print", || print(table, &marks, &mut sheets));
-    let mut archive = vec![0; archive_length(judged.pages as usize, count)];
-    let write = LIBRARY.write_archive;
-    let written = within_stack("write", || write(table, &marks, &mut archive));
-    (marks, archive, [judged, written])
+    (marks, judged)
+}
+
+/// Writes, reads and converts film of an edition; of the second, what is too long for the first gets
+/// as far as 15.
+fn all_of_the_archive(edition: Edition, table: &[u8], marks: &[u8], judged: Answer) {
+    let (pages, count) = (judged.pages as usize, marks.len());
+    let film = LIBRARY.film(edition);
+    let [of_writer, of_reader] = most_of(edition);
+    let mut archive = vec![0; edition.length(pages, count)];
+    let written = within(of_writer, "write", || {
+        (film.write)(table, marks, &mut archive)
+    });
+    if count > edition.most_nodes {
+        assert_eq!(written, Answer::refused(15, count));
+        return;
+    }
+    assert_eq!(written, judged);
+    let (mut table_back, mut marks_back) = (vec![0; table.len()], vec![0; count]);
+    let read = within(of_reader, "read", || {
+        (film.read)(&archive, &mut table_back, &mut marks_back)
+    });
+    assert_eq!(read, judged);
+    let mut out = vec![0; edition.other().length(pages, count)];
+    let converted = within_stack("convert", || (film.convert)(&archive, &mut out));
+    let is_long = count > edition.other().most_nodes;
+    assert_eq!(converted.number, if is_long { 15 } else { 0 });
 }
 
 #[test]
 fn every_entry() {
     let mut random = Random::new(90);
-    for form in FORMS {
+    for (form, count) in forms_with(&[MAX_NODES, ARCHIVE_NODES]) {
         for limit in [7, 300] {
-            let table = random_table(&mut random, form, MAX_NODES, limit).bytes();
-            let [_, written] = all_but_the_reader(&table, MAX_NODES, limit).2;
-            assert_eq!(written, Answer::refused(15, MAX_NODES));
-            let table = random_table(&mut random, form, ARCHIVE_NODES, limit).bytes();
-            let (mut marks, archive, [judged, written]) =
-                all_but_the_reader(&table, ARCHIVE_NODES, limit);
-            assert_eq!(written, judged);
-            let mut back = vec![0; table.len()];
-            let read = LIBRARY.read_archive;
-            accepted_within_stack("read", || read(&archive, &mut back, &mut marks));
+            let table = random_table(&mut random, form, count, limit).bytes();
+            let (marks, judged) = all_but_the_archive(&table, count, limit);
+            for edition in EDITIONS {
+                all_of_the_archive(edition, &table, &marks, judged);
+            }
         }
     }
 }

@@ -59,6 +59,11 @@ impl Edition {
         self.opening.len()
     }
 
+    /// The words N, K and P of an archive that is long enough for them.
+    pub fn head(&self, archive: &[u8]) -> [usize; 3] {
+        [0, 1, 2].map(|field| word(archive, self.head_at() + field))
+    }
+
     /// Where the record of a page begins.
     pub fn page_at(&self, page: usize) -> usize {
         self.head_at() + 3 + self.page_words * (page - 1)
@@ -177,8 +182,7 @@ impl Edition {
         if archive.len() < 2 * self.page_at(1) {
             return None;
         }
-        let [count, limit, page_count] =
-            [0, 1, 2].map(|field| word(archive, self.head_at() + field));
+        let [count, limit, page_count] = self.head(archive);
         if count > self.most_nodes || archive.len() != self.length(page_count, count) {
             return None;
         }

@@ -1,31 +1,37 @@
-//! The archive reader of the library.
+//! The archive's readers of the library, one for each edition.
 
 use balduqen_tests::cases::*;
 use balduqen_tests::check::{file_all, first_unfiled, show, with_copy, Lent, Seen};
+use balduqen_tests::entries::LIBRARY;
 use balduqen_tests::exhaustive::for_each_plan;
-use balduqen_tests::ffi;
+use balduqen_tests::film::*;
 use balduqen_tests::gen::*;
-use balduqen_tests::kept::{kept, kept_filed};
-use balduqen_tests::model::{
-    self, archive_bytes, archive_length, read, read_as_before, verdict, word, Answer, ARCHIVE_NODES,
-};
+use balduqen_tests::kept::kept;
+use balduqen_tests::model::{read, read_as_before, verdict, word, Answer, Edition, FIRST};
+use balduqen_tests::tests_of_editions;
 
 /// The library's answer, table and marks, checked against the model's. The buffers hold these bytes
 /// on entry.
-fn read_into(archive: &[u8], table: &[u8], marks: &[u8]) -> (Answer, Vec<u8>, Vec<u8>) {
+fn read_into(
+    edition: Edition,
+    archive: &[u8],
+    table: &[u8],
+    marks: &[u8],
+) -> (Answer, Vec<u8>, Vec<u8>) {
     let (mut model_table, mut model_marks) = (table.to_vec(), marks.to_vec());
-    let model_answer = model::read_archive(archive, &mut model_table, &mut model_marks);
+    let model_answer = edition.read(archive, &mut model_table, &mut model_marks);
+    let read = LIBRARY.film(edition).read;
     let mut lent_table = Lent::new(table, 0xa5);
     let mut lent_marks = Lent::new(marks, 0x5a);
     let answer = with_copy(archive, |archive| {
-        ffi::read_archive(archive, lent_table.slice(), lent_marks.slice())
+        read(archive, lent_table.slice(), lent_marks.slice())
     });
     assert_eq!(answer, model_answer, "{}", show(archive));
     let (new_table, new_marks) = (lent_table.content(), lent_marks.content());
     assert_eq!(new_table, model_table, "{answer:?}: {}", show(archive));
     assert_eq!(new_marks, model_marks, "{answer:?}: {}", show(archive));
     if answer.is_accepted() {
-        assert_rewritten(archive, new_table, new_marks);
+        assert_rewritten(edition, archive, new_table, new_marks);
     } else {
         assert!(new_table == table && new_marks == marks, "{answer:?}");
     }
@@ -34,114 +40,89 @@ fn read_into(archive: &[u8], table: &[u8], marks: &[u8]) -> (Answer, Vec<u8>, Ve
 
 /// An archive that is read is the very one that writing what was read gives. With a label 0 that is
 /// refused; it holds of the archive and the table with these lots filed.
-fn assert_rewritten(archive: &[u8], table: &[u8], marks: &[u8]) {
+fn assert_rewritten(edition: Edition, archive: &[u8], table: &[u8], marks: &[u8]) {
+    let write = LIBRARY.film(edition).write;
     let mut again = vec![7; archive.len()];
     let (mut archive, mut table) = (archive.to_vec(), table.to_vec());
     if let Some(node) = first_unfiled(&table) {
-        let refusal = ffi::write_archive(&table, marks, &mut again);
+        assert_eq!(edition, FIRST, "{}", show(&archive));
+        let refusal = write(&table, marks, &mut again);
         assert_eq!(refusal, Answer::refused(14, node), "{}", show(&archive));
         assert!(again.iter().all(|&byte| byte == 7));
-        let node_records = 6 + 8 * word(&archive, 2);
+        let node_records = 2 * edition.node_at(edition.head(&archive)[2], 1);
         file_all(&mut archive[node_records..]);
         file_all(&mut table[4..]);
     }
-    let answer = ffi::write_archive(&table, marks, &mut again);
+    let answer = write(&table, marks, &mut again);
     assert!(answer.is_accepted(), "{answer:?}: {}", show(&archive));
     assert!(again == archive, "{}; {}", show(&again), show(&archive));
 }
 
-/// Reads into buffers of the lengths that the archive's first word asks for.
-fn read_archive(archive: &[u8]) -> Answer {
-    let count = if archive.len() < 2 {
+/// Reads into buffers of the lengths that the archive's head asks for.
+fn read_archive(edition: Edition, archive: &[u8]) -> Answer {
+    let count = if archive.len() < 2 * edition.page_at(1) {
         0
     } else {
-        word(archive, 0)
+        edition.head(archive)[0]
     };
-    read_into(archive, &vec![7; 4 + 8 * count], &vec![7; count]).0
+    read_into(edition, archive, &vec![7; 4 + 8 * count], &vec![7; count]).0
 }
 
-/// The table of a tree that is accepted, but for labels 0 at times, and the archive of a feasible
-/// plan of it.
-fn random_archive(random: &mut Random, most: usize, limit: usize) -> (Vec<u8>, Vec<u8>) {
-    let mut table = any_table(random, most, limit);
-    if random.once_in(4) {
-        table = table.unfiled(random);
-    }
-    let table = table.bytes();
-    let tree = read_as_before(&table).expect("a table that is accepted but for labels");
-    let marks = feasible_plan(random, &tree);
-    let archive = archive_bytes(&tree, &marks);
-    (table, archive)
-}
-
-/// Case E, film with a note, older film, and some random ones, most of them of up to seven nodes.
-fn small_archives() -> Vec<Vec<u8>> {
-    let random = &mut Random::new(1001);
-    let mut archives = vec![archive_of_e(), archive_of_note_between()];
-    archives.extend(kept().map(|film| film.archive));
-    archives.extend(kept_filed().map(|film| film.archive));
-    for limit in [12, 100] {
-        archives.extend((0..4).map(|_| random_archive(random, 7, limit).1));
-    }
-    archives
-}
-
-#[test]
-fn case_e_and_its_plan() {
+fn case_e_and_its_plan(edition: Edition) {
     let told = (
         Answer::accepted(3, 5),
         case_e().bytes(),
         MARKS_OF_E.to_vec(),
     );
-    assert_eq!(read_into(&archive_of_e(), &[7; 52], &[7; 6]), told);
-    assert_eq!(read_into(&[], &[], &[]).0, Answer::refused(13, 0));
-    let refusal = ffi::read_archive(&archive_of_e(), &mut [], &mut []);
+    let film = film_of_e(edition);
+    assert_eq!(read_into(edition, &film, &[7; 52], &[7; 6]), told);
+    let thirteen = Answer::refused(13, 0);
+    assert_eq!(read_into(edition, &[], &[], &[]).0, thirteen);
+    let refusal = (LIBRARY.film(edition).read)(&film, &mut [], &mut []);
     assert_eq!(refusal, Answer::refused(12, 52));
-    assert_eq!(read_into(&[], &[7; 52], &[7; 6]).0, Answer::refused(13, 0));
+    assert_eq!(read_into(edition, &[], &[7; 52], &[7; 6]).0, thirteen);
 }
 
 /// 13, then 12, then 8.
-#[test]
-fn order_of_the_checks() {
-    let good = archive_of_e();
+fn order_of_the_checks(edition: Edition) {
+    let good = film_of_e(edition);
     let mut bad = good.clone();
-    bad[77] = 1;
+    *bad.last_mut().expect("a byte") = 1;
     for table in [0, 4, 51, 52, 53, 60] {
         for marks in [0, 5, 6, 7, 12] {
             let refusal = Answer::refused(13, 0);
-            assert_eq!(read_into(&bad, &vec![7; table], &vec![7; marks]).0, refusal);
+            let answer = read_into(edition, &bad, &vec![7; table], &vec![7; marks]).0;
+            assert_eq!(answer, refusal);
             let expected = match (table, marks) {
                 (52, 6) => Answer::accepted(3, 5),
                 (52, _) => Answer::refused(8, 6),
                 _ => Answer::refused(12, 52),
             };
-            assert_eq!(
-                read_into(&good, &vec![7; table], &vec![7; marks]).0,
-                expected
-            );
+            let answer = read_into(edition, &good, &vec![7; table], &vec![7; marks]).0;
+            assert_eq!(answer, expected);
         }
     }
 }
 
-#[test]
-fn all_plans_of_small_trees() {
+fn all_plans_of_small_trees(edition: Edition) {
     let mut seen = Seen::default();
     let mut read_all = |table: &[u8]| {
         let mut tree = read(table).expect("an accepted table");
         for_each_plan(&tree, |marks| {
-            let answer = read_archive(&archive_bytes(&tree, marks));
+            let film = edition.bytes(&tree, marks);
+            let answer = read_archive(edition, &film);
             // Plans that are not feasible are not read.
             assert_eq!(answer.is_accepted(), verdict(&tree, marks).is_accepted());
             seen.add(answer);
+            // Nor is film of the one edition as film of the other.
+            let refusal = read_archive(edition.other(), &film);
+            assert_eq!(refusal, Answer::refused(13, 0));
         });
         // Nor are trees that are refused for weight.
         tree.limit = 1;
         if tree.weights.contains(&2) {
-            let ones = vec![1; tree.node_count()];
-            assert_eq!(
-                read_archive(&archive_bytes(&tree, &ones)),
-                Answer::refused(13, 0)
-            );
+            let film = edition.bytes(&tree, &vec![1; tree.node_count()]);
+            assert_eq!(read_archive(edition, &film), Answer::refused(13, 0));
         }
     };
     for_each_table(1..=5, &[1, 2], &[2, 3, 4], &mut read_all);
@@ -150,19 +131,21 @@ fn all_plans_of_small_trees() {
     seen.expect(&[0, 13], 1000);
 }
 
-/// Labels of 0 and 1 are all read alike.
-#[test]
-fn all_labels_of_small_trees() {
+/// Labels of 0 and 1 are all read alike in the first edition; in the second 0 is never read.
+fn all_labels_of_small_trees(edition: Edition) {
     let mut seen = Seen::default();
     for_each_table(1..=4, &[0, 1, 2], &[3], |table| {
         for_each_labelling(table, |table| {
             let tree = read_as_before(table).expect("a table that is accepted but for labels");
+            let is_film = edition == FIRST || first_unfiled(table).is_none();
             for_each_plan(&tree, |marks| {
                 let on_entry = (vec![7; table.len()], vec![7; marks.len()]);
-                let read = read_into(&archive_bytes(&tree, marks), &on_entry.0, &on_entry.1);
-                let told = match verdict(&tree, marks) {
-                    verdict if verdict.is_accepted() => (verdict, table.to_vec(), marks.to_vec()),
-                    _ => (Answer::refused(13, 0), on_entry.0, on_entry.1),
+                let film = edition.bytes(&tree, marks);
+                let read = read_into(edition, &film, &on_entry.0, &on_entry.1);
+                let verdict = verdict(&tree, marks);
+                let told = match is_film && verdict.is_accepted() {
+                    true => (verdict, table.to_vec(), marks.to_vec()),
+                    false => (Answer::refused(13, 0), on_entry.0, on_entry.1),
                 };
                 assert_eq!(read, told);
                 seen.add(read.0);
@@ -172,81 +155,101 @@ fn all_labels_of_small_trees() {
     seen.expect(&[0, 13], 1000);
 }
 
-/// A label 0 hides no other fault, and is none: of kept film with one word set anew, what is read
-/// has another label, limit or parent.
-#[test]
-fn changed_words_of_kept_film() {
+/// A label 0 hides no other fault, and is none in the first edition: of kept film with one word set
+/// anew, what is read has another label, limit or parent.
+fn changed_words_of_kept_film(edition: Edition) {
     for film in kept() {
         let mut seen = Seen::default();
-        let node_records = 3 + 4 * word(&film.archive, 2);
-        for place in 0..film.archive.len() / 2 {
+        let archive = kept_in(edition, &film);
+        let node_records = edition.node_at(film.verdict.pages as usize, 1);
+        for place in 0..archive.len() / 2 {
             let is_label = place > node_records && (place - node_records) % 4 == 1;
             let is_parent = place > node_records && (place - node_records) % 4 == 2;
+            let is_limit = place == edition.head_at() + 1;
             for value in [0, 1, 2, 3, 5, 20, 40, 41, 1024, 1025, 2048, 2049, 65535] {
-                let mut changed = film.archive.clone();
-                changed[2 * place..2 * place + 2].copy_from_slice(&u16::to_be_bytes(value));
-                let answer = read_archive(&changed);
-                if is_label || changed == film.archive {
+                let mut changed = archive.clone();
+                set_word(&mut changed, place, value);
+                let answer = read_archive(edition, &changed);
+                let mut records = changed[2 * node_records..].chunks(8);
+                let is_filed = records.all(|record| word(record, 1) != 0);
+                if edition != FIRST && !is_filed {
+                    assert_eq!(answer, Answer::refused(13, 0), "word {place}: {value}");
+                } else if is_label || changed == archive {
                     assert_eq!(answer, film.verdict, "word {place}: {value}");
-                } else if !is_parent && place != 1 {
+                } else if !is_parent && !is_limit {
                     assert_eq!(answer, Answer::refused(13, 0), "word {place}: {value}");
                 }
                 seen.add(answer);
             }
         }
-        seen.expect(&[0, 13], 10);
+        match (edition, film.name) {
+            (FIRST, _) => seen.expect(&[0, 13], 10),
+            // With one label set anew there is another that is 0.
+            (_, "forty nodes") => seen.expect(&[13], 10),
+            _ => seen.expect(&[0, 13], 10),
+        }
     }
 }
 
-#[test]
-fn random_archives() {
+fn random_archives(edition: Edition) {
     let random = &mut Random::new(1002);
     let mut seen = Seen::default();
     for round in 0..10000 {
-        let most = if round % 50 == 0 { ARCHIVE_NODES } else { 30 };
-        let (table, archive) = random_archive(random, most, 60);
-        let count = word(&archive, 0);
+        let most = most_nodes(edition, round, 50, 30);
+        let (table, archive) = random_film(random, edition, most, 60);
+        let count = word(&table, 0);
         let table_length = table.len() - 2 + random.pick(&[0, 1, 2, 2, 2, 2, 2, 2, 3, 4]);
         let marks_length = count - 1 + random.pick(&[0, 1, 1, 2]);
         let buffers = (random.bytes(table_length), random.bytes(marks_length));
-        seen.add(read_into(&archive, &buffers.0, &buffers.1).0);
+        let answer = read_into(edition, &archive, &buffers.0, &buffers.1).0;
+        let is_film = edition == FIRST || first_unfiled(&table).is_none();
+        assert_eq!(answer.number != 13, is_film);
+        seen.add(answer);
     }
-    seen.expect(&[0, 8, 12], 1000);
+    match edition {
+        FIRST => seen.expect(&[0, 8, 12], 1000),
+        _ => seen.expect(&[0, 8, 12, 13], 1000),
+    }
 }
 
-#[test]
-fn largest_archives() {
+fn largest_archives(edition: Edition) {
     let random = &mut Random::new(1003);
+    let count = edition.most_nodes;
     for form in FORMS {
-        let table = random_table(random, form, ARCHIVE_NODES, 1024).bytes();
+        let table = random_table(random, form, count, 1024).bytes();
         let tree = read(&table).expect("an accepted table");
-        for marks in [vec![1; ARCHIVE_NODES], feasible_plan(random, &tree)] {
-            let archive = archive_bytes(&tree, &marks);
-            assert!(read_archive(&archive).is_accepted());
+        for marks in [vec![1; count], feasible_plan(random, &tree)] {
+            let archive = edition.bytes(&tree, &marks);
+            assert!(read_archive(edition, &archive).is_accepted());
+            let refusal = read_archive(edition.other(), &archive);
+            assert_eq!(refusal, Answer::refused(13, 0));
             for _ in 0..20 {
-                read_archive(&changed_words(random, &archive));
+                read_archive(edition, &changed_words(random, edition, &archive));
             }
         }
     }
 }
 
-/// Film that would be sound but for its more than 1,024 nodes: 13, into buffers of any length.
-#[test]
-fn longer_archives() {
+/// Film that would be sound but for its nodes, which are more than the edition takes: 13, into
+/// buffers of any length.
+fn longer_archives(edition: Edition) {
     let random = &mut Random::new(1006);
     let refusal = Answer::refused(13, 0);
-    for (form, count) in forms_with(&[1025, 1026, 2047, 2048, 2049]) {
+    let (most, head) = (edition.most_nodes, edition.head_at());
+    let mut counts = vec![1025, 1026, 2047, 2048, 2049];
+    counts.retain(|&count| count > most);
+    for (form, count) in forms_with(&counts) {
         let table = random_table(random, form, count.min(2048), 1024).bytes();
         let tree = read(&table).expect("an accepted table");
         let ones = vec![1; tree.node_count()];
         for marks in [ones, feasible_plan(random, &tree)] {
-            let mut archive = archive_bytes(&tree, &marks);
+            let mut archive = edition.bytes(&tree, &marks);
             if count == 2049 {
                 // Another leaf, on the page of node 1 or not.
-                archive[..2].copy_from_slice(&2049u16.to_be_bytes());
+                set_word(&mut archive, head, 2049);
                 archive.extend([0, 0, 0, 1, 0, 1, 0, 0]);
             }
-            assert_eq!(read_archive(&archive), refusal);
+            assert_eq!(read_archive(edition, &archive), refusal);
             for table in [
                 0,
                 4,
@@ -257,144 +260,152 @@ fn longer_archives() {
                 table.len() + 1,
             ] {
                 for marks in [0, 1024, 1025, count - 1, count, count + 1] {
-                    let answer = read_into(&archive, &vec![7; table], &vec![7; marks]).0;
+                    let answer = read_into(edition, &archive, &vec![7; table], &vec![7; marks]).0;
                     assert_eq!(answer, refusal);
                 }
             }
             // The head of a shorter one, and one that is shorter.
+            let pages = edition.head(&archive)[2];
             let mut shorter = archive.clone();
-            shorter[..2].copy_from_slice(&1024u16.to_be_bytes());
-            assert_eq!(read_archive(&shorter), refusal);
-            shorter.truncate(archive_length(word(&archive, 2), 1024));
-            read_archive(&shorter);
-            archive.truncate(archive_length(word(&archive, 2), 1024));
-            assert_eq!(read_archive(&archive), refusal);
+            set_word(&mut shorter, head, most);
+            assert_eq!(read_archive(edition, &shorter), refusal);
+            shorter.truncate(edition.length(pages, most));
+            read_archive(edition, &shorter);
+            archive.truncate(edition.length(pages, most));
+            assert_eq!(read_archive(edition, &archive), refusal);
         }
     }
 }
 
-/// Every number of nodes around the archive's most, on one page and with a page each.
-#[test]
-fn every_number_of_nodes() {
+/// Every number of nodes around the first edition's most and the table's, on few pages and with a
+/// page each.
+fn every_number_of_nodes(edition: Edition) {
     for count in (1000..=1050).chain(2040..=2048) {
         let table = long_case_e(count).bytes();
         let tree = read(&table).expect("an accepted table");
         let marks = [&MARKS_OF_E[..], &vec![0; count - 6]].concat();
         for marks in [marks, vec![1; count]] {
-            let expected = match count {
-                ..=1024 => verdict(&tree, &marks),
-                _ => Answer::refused(13, 0),
+            let expected = match (edition, count) {
+                (FIRST, 1025..) => Answer::refused(13, 0),
+                _ => verdict(&tree, &marks),
             };
-            assert_eq!(read_archive(&archive_bytes(&tree, &marks)), expected);
+            let film = edition.bytes(&tree, &marks);
+            assert_eq!(read_archive(edition, &film), expected);
         }
     }
 }
 
-#[test]
-fn every_single_byte_change() {
+fn every_single_byte_change(edition: Edition) {
     let mut seen = Seen::default();
-    for archive in small_archives() {
+    for archive in small_films(edition) {
         for place in 0..archive.len() {
             for value in 0..=255 {
                 let mut changed = archive.clone();
                 changed[place] = value;
-                seen.add(read_archive(&changed));
+                seen.add(read_archive(edition, &changed));
             }
         }
     }
     seen.expect(&[0, 13], 1000);
 }
 
-#[test]
-fn every_length() {
-    for archive in small_archives() {
+fn every_single_word_change(edition: Edition) {
+    let mut seen = Seen::default();
+    for archive in small_films(edition) {
+        for_each_word_change(&archive, |changed| {
+            seen.add(read_archive(edition, changed));
+        });
+    }
+    seen.expect(&[0, 13], 1000);
+}
+
+fn every_length(edition: Edition) {
+    let refusal = Answer::refused(13, 0);
+    for archive in small_films(edition) {
         for length in 0..archive.len() {
-            assert_eq!(read_archive(&archive[..length]), Answer::refused(13, 0));
+            assert_eq!(read_archive(edition, &archive[..length]), refusal);
         }
         for more in 1..=24 {
             let longer = [&archive[..], &vec![0; more]].concat();
-            assert_eq!(read_archive(&longer), Answer::refused(13, 0));
+            assert_eq!(read_archive(edition, &longer), refusal);
         }
     }
 }
 
-/// Sets one to three words to small values, so that two changes can make good for each other.
-fn changed_words(random: &mut Random, archive: &[u8]) -> Vec<u8> {
-    let mut changed = archive.to_vec();
-    for _ in 0..random.between(1, 3) {
-        let place = random.between(0, archive.len() / 2 - 1);
-        let near = word(archive, place) + random.between(0, 2);
-        let any = random.between(0, word(archive, 0) + 1);
-        let value = random.pick(&[near.saturating_sub(1), any, 0]).min(65535) as u16;
-        changed[2 * place..2 * place + 2].copy_from_slice(&value.to_be_bytes());
-    }
-    changed
-}
-
-#[test]
-fn changed_archives() {
+fn changed_archives(edition: Edition) {
     let random = &mut Random::new(1004);
     let mut seen = Seen::default();
     for round in 0..40000 {
-        let most = if round % 200 == 0 { ARCHIVE_NODES } else { 6 };
+        let most = most_nodes(edition, round, 200, 6);
         let limit = random.pick(&[12, 100]);
-        let (_, archive) = random_archive(random, most, limit);
-        seen.add(read_archive(&changed_words(random, &archive)));
-        seen.add(read_archive(&flipped(random, archive)));
+        let (_, archive) = random_film(random, edition, most, limit);
+        let changed = changed_words(random, edition, &archive);
+        seen.add(read_archive(edition, &changed));
+        seen.add(read_archive(edition, &flipped(random, archive)));
     }
     seen.expect(&[0, 13], 1000);
 }
 
 /// As many parents are accepted as there are shapes.
-#[test]
-fn all_parents_of_one_page() {
+fn all_parents_of_one_page(edition: Edition) {
     for (count, shapes) in [(1, 1), (2, 1), (3, 2), (4, 5), (5, 14)] {
         let mut accepted = 0;
-        for_each_parenting(count, |archive| {
-            accepted += usize::from(read_archive(archive).is_accepted());
+        for_each_parenting(edition, count, |archive| {
+            accepted += usize::from(read_archive(edition, archive).is_accepted());
         });
         assert_eq!(accepted, shapes);
     }
 }
 
-/// Two page records or two node records change places.
-#[test]
-fn exchanged_records() {
+/// Two page records, two node records or one of each change places.
+fn exchanged_records(edition: Edition) {
     let random = &mut Random::new(1005);
     for _ in 0..10000 {
-        let (_, archive) = random_archive(random, 8, 12);
-        let records = archive.len() / 8;
-        let (first, second) = (
-            random.between(0, records - 1),
-            random.between(0, records - 1),
-        );
+        let (_, archive) = random_film(random, edition, 8, 12);
+        let [count, _, pages] = edition.head(&archive);
+        let mut record = || match random.between(1, pages + count) {
+            page if page <= pages => (edition.page_at(page), edition.page_words),
+            other => (edition.node_at(pages, other - pages), 4),
+        };
+        let (one, other) = (record(), record());
         let mut changed = archive.clone();
-        for byte in 0..8 {
-            changed.swap(6 + 8 * first + byte, 6 + 8 * second + byte);
+        for byte in 0..2 * one.1.min(other.1) {
+            changed.swap(2 * one.0 + byte, 2 * other.0 + byte);
         }
-        read_archive(&changed);
+        read_archive(edition, &changed);
     }
 }
 
 /// Heads with counts at or near the ends, and the lengths that they ask for.
-#[test]
-fn heads() {
+fn heads(edition: Edition) {
+    let refusal = Answer::refused(13, 0);
     let values = [0, 1, 2, 3, 1023, 1024, 1025, 2048, 2049, 65535];
     for nodes in values {
         for limit in [0, 1, 2, 3, 1023, 1024, 1025, 65535] {
             for pages in values {
-                let words: [u16; 3] = [nodes, limit, pages];
-                let head: Vec<u8> = words.iter().flat_map(|word| word.to_be_bytes()).collect();
-                let asked = 8 * usize::from(nodes) + 8 * usize::from(pages);
+                let words = [edition.opening, &[nodes, limit, pages]].concat();
+                let head: Vec<u8> = words
+                    .iter()
+                    .flat_map(|&word| (word as u16).to_be_bytes())
+                    .collect();
+                let asked = edition.length(pages, nodes) - head.len();
                 for length in [0, 1, 8, asked] {
                     let archive = [&head[..], &vec![0; length]].concat();
-                    assert_eq!(read_archive(&archive), Answer::refused(13, 0));
+                    assert_eq!(read_archive(edition, &archive), refusal);
                 }
             }
         }
     }
     for first in 0..=255 {
-        assert_eq!(read_archive(&[first]), Answer::refused(13, 0));
-        assert_eq!(read_archive(&[0, first]), Answer::refused(13, 0));
+        for short in [&[first][..], &[0, first], &[32, first]] {
+            assert_eq!(read_archive(edition, short), refusal);
+        }
     }
 }
+
+tests_of_editions!(
+    case_e_and_its_plan order_of_the_checks all_plans_of_small_trees all_labels_of_small_trees
+    changed_words_of_kept_film random_archives largest_archives longer_archives
+    every_number_of_nodes every_single_byte_change every_single_word_change every_length
+    changed_archives all_parents_of_one_page exchanged_records heads
+);
