@@ -1,5 +1,7 @@
 //! Tests of the proved library through its C interface, each call against the model.
 
+#[path = "library/convert.rs"]
+mod convert;
 #[path = "library/judge.rs"]
 mod judge;
 #[path = "library/planners.rs"]
