@@ -1,6 +1,8 @@
-//! The planners and the leader sheets of the proved library behind its C interface.
+//! The planners, the leader sheets and the film of the proved library behind its C interface.
 
+use crate::archive::Film;
 use crate::planner::{Answer, Kind, Planner};
+use crate::sheets::Printer;
 
 /// A slice goes as a pointer and then a length. Each call hands over slices that live through it,
 /// which is what makes the unsafe block sound.
@@ -44,26 +46,93 @@ pub fn planner(kind: Kind) -> Planner {
     }
 }
 
-/// The library's sheets.
-pub fn print_sheets(table: &[u8], marks: &[u8], sheets: &mut [u8]) -> Answer {
-    extern "C" {
-        fn balduqen_print_sheets(
-            table: *const u8,
-            table_length: usize,
-            marks: *const u8,
-            marks_length: usize,
-            sheets: *mut u8,
-            sheets_length: usize,
-        ) -> Answer;
-    }
-    unsafe {
-        balduqen_print_sheets(
-            table.as_ptr(),
-            table.len(),
-            marks.as_ptr(),
-            marks.len(),
-            sheets.as_mut_ptr(),
-            sheets.len(),
-        )
-    }
+/// An entry that judges a plan and fills a buffer.
+macro_rules! writer {
+    ($entry:ident) => {{
+        extern "C" {
+            fn $entry(
+                table: *const u8,
+                table_length: usize,
+                marks: *const u8,
+                marks_length: usize,
+                out: *mut u8,
+                out_length: usize,
+            ) -> Answer;
+        }
+        fn call(table: &[u8], marks: &[u8], out: &mut [u8]) -> Answer {
+            unsafe {
+                $entry(
+                    table.as_ptr(),
+                    table.len(),
+                    marks.as_ptr(),
+                    marks.len(),
+                    out.as_mut_ptr(),
+                    out.len(),
+                )
+            }
+        }
+        call
+    }};
 }
+
+macro_rules! reader {
+    ($entry:ident) => {{
+        extern "C" {
+            fn $entry(
+                archive: *const u8,
+                archive_length: usize,
+                table: *mut u8,
+                table_length: usize,
+                marks: *mut u8,
+                marks_length: usize,
+            ) -> Answer;
+        }
+        fn call(archive: &[u8], table: &mut [u8], marks: &mut [u8]) -> Answer {
+            unsafe {
+                $entry(
+                    archive.as_ptr(),
+                    archive.len(),
+                    table.as_mut_ptr(),
+                    table.len(),
+                    marks.as_mut_ptr(),
+                    marks.len(),
+                )
+            }
+        }
+        call
+    }};
+}
+
+macro_rules! converter {
+    ($entry:ident) => {{
+        extern "C" {
+            fn $entry(
+                archive: *const u8,
+                archive_length: usize,
+                out: *mut u8,
+                out_length: usize,
+            ) -> Answer;
+        }
+        fn call(archive: &[u8], out: &mut [u8]) -> Answer {
+            unsafe { $entry(archive.as_ptr(), archive.len(), out.as_mut_ptr(), out.len()) }
+        }
+        call
+    }};
+}
+
+/// The library's sheets.
+pub const PRINT_SHEETS: Printer = writer!(balduqen_print_sheets);
+
+/// The library's film, by edition.
+pub const FILM: [Film; 2] = [
+    Film {
+        write: writer!(balduqen_write_archive),
+        read: reader!(balduqen_read_archive),
+        convert: converter!(balduqen_convert_to_2),
+    },
+    Film {
+        write: writer!(balduqen_write_archive2),
+        read: reader!(balduqen_read_archive2),
+        convert: converter!(balduqen_convert_to_1),
+    },
+];

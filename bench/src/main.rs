@@ -1,9 +1,10 @@
 //! The planners of the proved library beside the same steps in plain Rust and beside the report's
-//! DHW, and its leader sheets beside plain Rust: on the same trees, in the same run, as ratios.
-//! Nothing passes or fails by its time.
+//! DHW, and its leader sheets and archives beside plain Rust: on the same trees, in the same run, as
+//! ratios. Nothing passes or fails by its time.
 //!
 //! `rt staticlib embed` writes the library; `cargo run --release` in this folder then prints the table.
 
+mod archive;
 mod clock;
 mod columns;
 mod dhw;
@@ -19,7 +20,7 @@ mod tree;
 
 use load::{Load, DOUBLES, MOST_NODES, NODES};
 use planner::{Kind, COLUMNS, GREEDY, KINDS, QUICK};
-use show::{GrowthRow, Row, SheetRow};
+use show::{FilmRow, GrowthRow, Row, SheetRow};
 
 fn main() {
     let [loads, long_loads] = [NODES, MOST_NODES].map(load::loads);
@@ -74,6 +75,11 @@ fn main() {
     show::print_worst_of_sheets(&rows);
     show::print_head_of_most();
     show::print_worst_of_sheets(&sheet_rows_of(&long_loads));
+
+    show::print_head_of_film();
+    show::print_worst_of_film(&film_rows_of(&loads));
+    show::print_head_of_most();
+    show::print_worst_of_film(&film_rows_of(&long_loads));
 }
 
 /// The times of these planners.
@@ -94,6 +100,17 @@ fn sheet_rows_of(loads: &[Load]) -> Vec<[SheetRow<'_>; 2]> {
             measure::check_sheets(load, &plan);
             let times = measure::sheet_times(load, &plan);
             SheetRow { load, plan, times }
+        })
+    };
+    loads.iter().map(of_load).collect()
+}
+
+/// The times of all that is done with film of two plans.
+fn film_rows_of(loads: &[Load]) -> Vec<[FilmRow<'_>; 2]> {
+    let of_load = |load| {
+        measure::plans(load).map(|plan| {
+            let times = measure::film_times(load, &plan);
+            FilmRow { load, plan, times }
         })
     };
     loads.iter().map(of_load).collect()

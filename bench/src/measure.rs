@@ -1,6 +1,7 @@
-//! Runs all forms of a planner on a tree, and both forms of the leader sheets of a plan: first they
-//! must agree, then they are timed.
+//! Runs all forms of a planner on a tree, and both forms of the leader sheets and of the film of a
+//! plan: first they must agree, then they are timed.
 
+use crate::archive::{archive_bytes, most_nodes, Film, PLAIN};
 use crate::clock::time;
 use crate::dhw::{self, Entries};
 use crate::load::{Load, DOUBLES, NODES};
@@ -174,7 +175,7 @@ impl Samples {
 }
 
 /// The library's sheets, and those in plain Rust.
-const PRINTERS: [Printer; 2] = [library::print_sheets, sheets::print];
+const PRINTERS: [Printer; 2] = [library::PRINT_SHEETS, sheets::print];
 
 /// A plan whose sheets are printed.
 pub struct Plan {
@@ -221,4 +222,97 @@ pub fn sheet_times(load: &Load, plan: &Plan) -> [Option<Duration>; 2] {
         |_| true,
         |print| print(&load.table, &plan.marks, &mut sheets),
     )
+}
+
+/// What is done with film: of an edition, from 0 on.
+#[derive(Clone, Copy)]
+pub enum Step {
+    Write(usize),
+    Read(usize),
+    /// To the other edition.
+    Convert(usize),
+}
+
+pub const STEPS: [Step; 6] = [
+    Step::Write(0),
+    Step::Read(0),
+    Step::Convert(0),
+    Step::Write(1),
+    Step::Read(1),
+    Step::Convert(1),
+];
+
+/// What the entries of film are lent: a table and a plan, their film by edition, and outputs.
+struct Lent<'a> {
+    table: &'a [u8],
+    marks: &'a [u8],
+    films: [Vec<u8>; 2],
+    new_table: Vec<u8>,
+    new_marks: Vec<u8>,
+    new_films: [Vec<u8>; 2],
+}
+
+impl Step {
+    fn is_tried(self, nodes: usize) -> bool {
+        match self {
+            Step::Write(edition) | Step::Read(edition) => nodes <= most_nodes(edition),
+            Step::Convert(_) => (0..2).all(|edition| nodes <= most_nodes(edition)),
+        }
+    }
+
+    fn run(self, film: &[Film; 2], lent: &mut Lent) -> Answer {
+        let [first, second] = &mut lent.new_films;
+        match self {
+            Step::Write(0) => (film[0].write)(lent.table, lent.marks, first),
+            Step::Write(_) => (film[1].write)(lent.table, lent.marks, second),
+            Step::Read(edition) => (film[edition].read)(
+                &lent.films[edition],
+                &mut lent.new_table,
+                &mut lent.new_marks,
+            ),
+            Step::Convert(0) => (film[0].convert)(&lent.films[0], second),
+            Step::Convert(_) => (film[1].convert)(&lent.films[1], first),
+        }
+    }
+}
+
+/// The library's film, and that in plain Rust.
+const FILM: [&[Film; 2]; 2] = [&library::FILM, &PLAIN];
+
+/// The times of the library and of plain Rust, in the order of `STEPS`; none where a step is not
+/// tried.
+pub type FilmTimes = [[Option<Duration>; 2]; STEPS.len()];
+
+/// Before it is timed, each step must leave the same in both forms.
+pub fn film_times(load: &Load, plan: &Plan) -> FilmTimes {
+    let soiled = [0, 1].map(|edition| vec![0xa5; archive_bytes(edition, plan.pages, load.nodes)]);
+    let mut lent = Lent {
+        table: &load.table,
+        marks: &plan.marks,
+        films: soiled.clone(),
+        new_table: vec![0xa5; load.table.len()],
+        new_marks: vec![0xa5; load.nodes],
+        new_films: soiled,
+    };
+    for (film, plain) in lent.films.iter_mut().zip(&PLAIN) {
+        (plain.write)(lent.table, lent.marks, film);
+    }
+    STEPS.map(|step| {
+        let is_tried = step.is_tried(load.nodes);
+        for film in FILM.into_iter().filter(|_| is_tried) {
+            check_film(load, plan, step.run(film, &mut lent), &lent, step);
+        }
+        in_turns(FILM, |_| is_tried, |film| step.run(film, &mut lent))
+    })
+}
+
+/// Panics unless a step is accepted and has left what it should.
+fn check_film(load: &Load, plan: &Plan, answer: Answer, lent: &Lent, step: Step) {
+    let is_left = match step {
+        Step::Write(edition) => lent.new_films[edition] == lent.films[edition],
+        Step::Convert(edition) => lent.new_films[1 - edition] == lent.films[1 - edition],
+        Step::Read(_) => lent.new_table == lent.table && lent.new_marks == lent.marks,
+    };
+    let place = format!("{}: film of {}", load.name(), plan.name);
+    assert!(answer.number == 0 && is_left, "{place}: {answer:?}");
 }

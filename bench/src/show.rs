@@ -1,8 +1,8 @@
 //! The table of times and ratios, the worst ratios, the quick planners' times by size, the growth of
-//! level and best, and the table of the leader sheets.
+//! level and best, the table of the leader sheets, and the worst ratios of film.
 
 use crate::load::{Load, DOUBLES, MOST_NODES, SIZES};
-use crate::measure::{Form, Growth, Plan, Times};
+use crate::measure::{FilmTimes, Form, Growth, Plan, Step, Times, STEPS};
 use crate::planner::{Kind, KINDS};
 use std::time::Duration;
 
@@ -298,5 +298,48 @@ pub fn print_worst_of_sheets(rows: &[[SheetRow; 2]]) {
         let figures = of_plan.filter_map(|row| Some((quotient(row.times)?, row.load)));
         let name = format!("lib/Rust   sheets, {:<11}", rows[0][index].plan.name);
         print_ends(&name, figures.collect(), true);
+    }
+}
+
+const NOTES_OF_FILM: &str = "\
+Film of the same plans, in the first edition and in edition 2: writing, reading, and converting to
+the other edition. To write, both forms read and check the table and judge the plan; what is read is
+written again and compared. In brackets the longest time of lib in microseconds.
+";
+
+pub fn print_head_of_film() {
+    println!("\n{NOTES_OF_FILM}");
+}
+
+pub struct FilmRow<'a> {
+    pub load: &'a Load,
+    pub plan: Plan,
+    pub times: FilmTimes,
+}
+
+impl Step {
+    fn name(self) -> String {
+        match self {
+            Step::Write(edition) => format!("write {}", edition + 1),
+            Step::Read(edition) => format!("read {}", edition + 1),
+            Step::Convert(edition) => format!("to {}", 2 - edition),
+        }
+    }
+}
+
+/// The worst ratio for each step and plan.
+pub fn print_worst_of_film(rows: &[[FilmRow; 2]]) {
+    println!();
+    for (step, name) in STEPS.map(Step::name).into_iter().enumerate() {
+        for index in 0..2 {
+            let of_plan = || rows.iter().map(|rows| &rows[index]);
+            let times = of_plan().filter_map(|row| row.times[step][0]);
+            let longest = times.max().unwrap_or_default();
+            let figures = of_plan().filter_map(|row| Some((quotient(row.times[step])?, row.load)));
+            let micros = 1e6 * longest.as_secs_f64();
+            let plan = rows[0][index].plan.name;
+            let name = format!("lib/Rust   {name:<8} {plan:<11} ({micros:>6.1})");
+            print_ends(&name, figures.collect(), true);
+        }
     }
 }

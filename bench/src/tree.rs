@@ -101,6 +101,11 @@ impl Tree {
 
     /// The pages of such marks, by number.
     pub fn pages(&self, marks: &[u8]) -> Vec<Page> {
+        self.pages_and_nodes(marks).0
+    }
+
+    /// The same, and the page that each node is on, from 0 on.
+    pub fn pages_and_nodes(&self, marks: &[u8]) -> (Vec<Page>, Vec<usize>) {
         let mut page = vec![0; self.count() + 1];
         let mut pages: Vec<Page> = vec![];
         for node in 1..=self.count() {
@@ -124,7 +129,7 @@ impl Tree {
             pages[page[node]].weight += self.weight[node];
         }
         assert!(pages.iter().all(|page| page.weight as usize <= self.limit));
-        pages
+        (pages, page)
     }
 }
 
@@ -147,6 +152,6 @@ fn read_head(table: &[u8]) -> Result<(usize, usize), Answer> {
     Ok((count, limit))
 }
 
-fn word(table: &[u8], index: usize) -> usize {
-    usize::from(u16::from_be_bytes([table[2 * index], table[2 * index + 1]]))
+pub fn word(bytes: &[u8], index: usize) -> usize {
+    usize::from(u16::from_be_bytes([bytes[2 * index], bytes[2 * index + 1]]))
 }
