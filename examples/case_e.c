@@ -1,5 +1,5 @@
-/* Plans case E, writes its archive, lists the pages off the archive's bytes, reads it back and prints
- * the first lines of its leader sheet.
+/* Plans case E, writes its archive, lists the pages off the archive's bytes, reads it back,
+ * converts it to edition 2 and back, and prints the first lines of its leader sheet.
  *
  *   gcc -std=c11 -Wall -Wextra -Werror -Iinclude examples/case_e.c -o case_e LIB/libembed.a
  *
@@ -15,6 +15,7 @@ enum { NODES = 6, LIMIT = 5 };
 enum { TABLE = BALDUQEN_TABLE_LENGTH(NODES), SCRATCH = BALDUQEN_SCRATCH_LENGTH(NODES, LIMIT) };
 /* Every plan fits, since none has more pages than nodes. */
 enum { MOST_ARCHIVE = BALDUQEN_ARCHIVE_LENGTH(NODES, NODES) };
+enum { MOST_ARCHIVE2 = BALDUQEN_ARCHIVE2_LENGTH(NODES, NODES) };
 enum { MOST_SHEETS = BALDUQEN_SHEETS_LENGTH(NODES), LINE = 81 };
 
 /* N and K, then weight, label, first child and next sibling of each node. */
@@ -63,7 +64,7 @@ static void list_pages(const uint8_t *archive)
 static bool same_bytes(const char *name, const uint8_t *one, const uint8_t *other, size_t length)
 {
     bool same = memcmp(one, other, length) == 0;
-    printf("%s read back: %s\n", name, same ? "same" : "different");
+    printf("%s back: %s\n", name, same ? "same" : "different");
     return same;
 }
 
@@ -77,9 +78,29 @@ static bool read_back(const uint8_t *archive, size_t length, const uint8_t *mark
         balduqen_read_archive(archive, length, table_back, TABLE, marks_back, NODES);
     if (!accepted("read", read))
         return false;
-    bool same_table = same_bytes("table", table, table_back, TABLE);
-    bool same_marks = same_bytes("marks", marks, marks_back, NODES);
+    bool same_table = same_bytes("table read", table, table_back, TABLE);
+    bool same_marks = same_bytes("marks read", marks, marks_back, NODES);
     return same_table && same_marks && same_verdict("read", planned, read.pages, read.root);
+}
+
+/* Whether the archive is the same after a turn through edition 2, whose page records have a fifth
+ * word. */
+static bool convert(const uint8_t *archive, size_t length, balduqen_answer planned)
+{
+    uint8_t second[MOST_ARCHIVE2] = {0};
+    uint8_t first[MOST_ARCHIVE] = {0};
+    size_t second_length = BALDUQEN_ARCHIVE2_LENGTH(planned.pages, NODES);
+    balduqen_answer there = balduqen_convert_to_2(archive, length, second, second_length);
+    if (!accepted("convert", there) ||
+        !same_verdict("convert", planned, there.pages, there.root))
+        return false;
+    printf("edition 2 begins with %u, nodes of each page:", word(second, 0));
+    for (unsigned page = 1; page <= there.pages; page++)
+        printf(" %u", word(second, 4 + 5 * (page - 1) + 4));
+    printf("\n");
+    balduqen_answer back = balduqen_convert_to_1(second, second_length, first, length);
+    return accepted("convert back", back) &&
+           same_bytes("archive converted", archive, first, length);
 }
 
 /* The leader sheet's line 1 and the lines of its pages; a plan of so few pages has one sheet. */
@@ -112,7 +133,8 @@ static bool run(void)
         return false;
 
     list_pages(archive);
-    return read_back(archive, length, marks, planned) && print_sheet(marks, planned);
+    return read_back(archive, length, marks, planned) && convert(archive, length, planned) &&
+           print_sheet(marks, planned);
 }
 
 int main(void)
