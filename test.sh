@@ -91,7 +91,7 @@ add_one readme "$?"
 (cd bench && CARGO_TARGET_DIR=../target/bench cargo build --release --offline)
 add_one bench "$?"
 
-in_rust tests tests/entries.rs=50 tests/guarded.rs=22 tests/library.rs=155 tests/model.rs=56 tests/program.rs=18 tests/rule_sheet.rs=38 \
+in_rust tests tests/entries.rs=58 tests/guarded.rs=32 tests/library.rs=212 tests/model.rs=71 tests/program.rs=18 tests/rule_sheet.rs=38 \
   tests/sheet_reader.rs=9 tests/stack.rs=2 tests/threads.rs=1
 in_rust tools src/main.rs=28 tests/commands.rs=6 tests/must_fail_logs.rs=3
 
