@@ -1020,7 +1020,7 @@ fn best_plans_on_film(entries: &Entries) {
         }
     };
     for_each_table_and_best(1..=5, &[0, 1, 2, 3], &[1, 2, 3, 4], &mut check);
-    for_each_table_and_best(6..=6, &[1, 2], &[2, 3], &mut check);
+    for_each_table_and_best(6..=6, &[0, 1, 2], &[2, 3], &mut check);
 }
 
 /// The header has a name for each number and a line for each but 0, in rising order; 5 is retired
