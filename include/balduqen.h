@@ -72,9 +72,9 @@ extern "C" {
  * takes as many as a table. */
 #define BALDUQEN_ARCHIVE_NODES 1024
 
-/* The bytes of stack that a call uses at most, on x86-64. As measured: balduqen_read_archive 66 KiB,
- * the planners 55, balduqen_write_archive 33, balduqen_print_sheets 29, the judge 29,
- * balduqen_read_tree 5. */
+/* The bytes of stack that a call uses at most, on x86-64. As measured: balduqen_convert_to_1 and
+ * balduqen_read_archive2 95 KiB, balduqen_convert_to_2 and balduqen_read_archive 66, the planners
+ * 55, the archive's writers 41, balduqen_print_sheets 29, the judge 29, balduqen_read_tree 5. */
 #define BALDUQEN_STACK 131072
 
 /* Buffer lengths: bytes of a table, 32-bit words of a planner's scratch, bytes of an archive of the
