@@ -308,7 +308,7 @@ written again and compared. In brackets the longest time of lib in microseconds.
 ";
 
 pub fn print_head_of_film() {
-    println!("\n{NOTES_OF_FILM}");
+    print!("\n{NOTES_OF_FILM}");
 }
 
 pub struct FilmRow<'a> {

@@ -385,7 +385,7 @@ fn archives_of_many_nodes(edition: Edition) {
             hand_to_reader_in_all_lengths(edition, &archive, 1024);
             let answer = hand_to_reader_in_all_lengths(edition, &archive, count);
             assert_eq!(answer, read);
-            let answer = convert(edition, &archive, &vec![7; 100]);
+            let answer = convert(edition, &archive, &[7; 100]);
             assert_eq!(answer, converted);
         }
     }
