@@ -75,7 +75,7 @@ extern "C" {
 /* The bytes of stack that a call uses at most, on x86-64. As measured: balduqen_convert_to_1 and
  * balduqen_read_archive2 95 KiB, balduqen_convert_to_2 and balduqen_read_archive 66, the planners
  * 55, the archive's writers 41, balduqen_print_sheets 29, the judge 29, balduqen_read_tree 5. */
-#define BALDUQEN_STACK 131072
+#define BALDUQEN_STACK 98304
 
 /* Buffer lengths: bytes of a table, 32-bit words of a planner's scratch, bytes of an archive of the
  * first edition and of edition 2, and of leader sheets. */
