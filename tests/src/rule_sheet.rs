@@ -1,11 +1,33 @@
 //! A reader of archives, written from docs/RULE-SHEET.txt ALONE.
 //!
-//! It does what a person with the sheet would do, section by section and check by check, and has no
-//! rule that is not printed there. Nothing of the model or the library is used. Its author wrote the
-//! sheet as well and so knew document 01: that it reads archives as the model does shows that the
-//! sheet's rules are complete, not that a stranger finds them clear.
+//! It does what a person with the sheet would do, section by section and check by check, tells the
+//! edition by itself as that person has to, and has no rule that is not printed there. Nothing of
+//! the model or the library is used. Its author wrote the sheet as well and so knew documents 01
+//! and 02: that it reads archives as the model does shows that the sheet's rules are complete, not
+//! that a stranger finds them clear.
 
 use std::fmt;
+
+/// The edition, which section 5 has written down.
+#[derive(Clone, Copy, Debug, PartialEq, Eq)]
+pub enum Edition {
+    First,
+    Two,
+}
+
+impl Edition {
+    /// Of what the sheet says of the first edition and of edition 2, that for this one.
+    fn pick<T>(self, first: T, two: T) -> T {
+        match self {
+            Edition::First => first,
+            Edition::Two => two,
+        }
+    }
+
+    pub fn number(self) -> usize {
+        self.pick(1, 2)
+    }
+}
 
 /// What the sheet has written down where a check fails (section 5).
 #[derive(Clone, Copy, Debug, PartialEq, Eq)]
@@ -57,6 +79,8 @@ pub struct Page {
     pub weight: usize,
     /// Zero if there is none.
     pub next_page: usize,
+    /// In edition 2 only.
+    pub node_count: Option<usize>,
     pub run: Vec<usize>,
     pub nodes: Vec<usize>,
     /// The sum of the weights of its nodes.
@@ -66,6 +90,7 @@ pub struct Page {
 /// What the sheet gets back from a sound archive. Node 1 and page 1 are at index 0.
 #[derive(Clone, Debug, PartialEq, Eq)]
 pub struct Rebuilt {
+    pub edition: Edition,
     pub limit: usize,
     pub nodes: Vec<Node>,
     pub pages: Vec<Page>,
@@ -82,14 +107,15 @@ struct Head {
 }
 
 pub fn rebuild(archive: &[u8]) -> Result<Rebuilt, Failed> {
-    let lines = write_out(archive);
-    let head = read_head(archive, &lines)?;
-    let (page_lines, node_lines) = name_lines(&lines, &head);
-    let mut nodes = rebuild_tree(node_lines, &head)?;
-    let mut pages = rebuild_runs(page_lines, &head, &nodes)?;
+    let edition = tell_edition(archive);
+    let head = read_head(edition, archive)?;
+    let (page_lines, node_lines) = write_out(edition, &head, archive);
+    let mut nodes = rebuild_tree(&head, &node_lines)?;
+    let mut pages = rebuild_runs(&head, &page_lines, &nodes)?;
     get_marks_back(&mut nodes, &pages);
-    rebuild_pages(&head, &mut nodes, &mut pages)?;
+    rebuild_pages(edition, &head, &mut nodes, &mut pages)?;
     Ok(Rebuilt {
+        edition,
         limit: head.limit,
         nodes,
         pages,
@@ -113,42 +139,49 @@ fn word(bytes: &[u8]) -> usize {
     256 * usize::from(bytes[0]) + usize::from(bytes[1])
 }
 
-/// Section 5: three words on the first line, then four words on each line. The lines have no names
-/// yet, since N and P are not checked.
-fn write_out(archive: &[u8]) -> Vec<Line> {
-    let (head, records) = archive.split_at(archive.len().min(6));
-    let mut lines = vec![head];
-    lines.extend(records.chunks(8));
-    let words = |line: &[u8]| line.chunks_exact(2).map(word).collect();
-    lines.into_iter().map(words).collect()
+/// The words of the bytes. A last byte by itself is none.
+fn words(bytes: &[u8]) -> impl Iterator<Item = usize> + '_ {
+    bytes.chunks_exact(2).map(word)
+}
+
+/// Section 5. With fewer than two bytes there is no first word.
+pub fn tell_edition(archive: &[u8]) -> Edition {
+    match words(archive).next() {
+        Some(8194) => Edition::Two,
+        _ => Edition::First,
+    }
 }
 
 /// Section 6, the checks.
-fn read_head(archive: &[u8], lines: &[Line]) -> Result<Head, Failed> {
-    check(1, Place::None, archive.len() >= 6)?;
-    let head = Head {
-        nodes: lines[0][0],
-        limit: lines[0][1],
-        pages: lines[0][2],
-    };
-    check(2, Place::None, head.nodes >= 1 && head.nodes <= 1024)?;
-    check(3, Place::None, head.limit >= 1 && head.limit <= 1024)?;
-    check(4, Place::None, head.pages >= 1 && head.pages <= head.nodes)?;
-    check(
-        5,
-        Place::None,
-        archive.len() == 6 + 8 * head.pages + 8 * head.nodes,
-    )?;
-    Ok(head)
+fn read_head(edition: Edition, archive: &[u8]) -> Result<Head, Failed> {
+    let length = archive.len();
+    check(1, Place::None, length >= edition.pick(6, 8))?;
+    let line: Line = words(archive).take(edition.pick(3, 4)).collect();
+    let [n, k, p] = [3, 2, 1].map(|from_end| line[line.len() - from_end]);
+    check(2, Place::None, n >= 1 && n <= edition.pick(1024, 2048))?;
+    check(3, Place::None, (1..=1024).contains(&k))?;
+    check(4, Place::None, p >= 1 && p <= n)?;
+    let right = edition.pick(6 + 8 * p + 8 * n, 8 + 10 * p + 8 * n);
+    check(5, Place::None, length == right)?;
+    Ok(Head {
+        nodes: n,
+        limit: k,
+        pages: p,
+    })
 }
 
-/// Section 6, after check 5: which lines are the page records and which the node records.
-fn name_lines<'a>(lines: &'a [Line], head: &Head) -> (&'a [Line], &'a [Line]) {
-    lines[1..].split_at(head.pages)
+/// Section 6, after check 5: the lines of the page records and those of the node records.
+fn write_out(edition: Edition, head: &Head, archive: &[u8]) -> (Vec<Line>, Vec<Line>) {
+    let mut records = words(archive).skip(edition.pick(3, 4));
+    let mut lines = |count: usize, of: usize| -> Vec<Line> {
+        let line = |_| records.by_ref().take(of).collect();
+        (0..count).map(line).collect()
+    };
+    (lines(head.pages, edition.pick(4, 5)), lines(head.nodes, 4))
 }
 
 /// Section 7. Marks and pages are filled in later.
-fn rebuild_tree(lines: &[Line], head: &Head) -> Result<Vec<Node>, Failed> {
+fn rebuild_tree(head: &Head, lines: &[Line]) -> Result<Vec<Node>, Failed> {
     let mut nodes = vec![];
     for record in lines {
         nodes.push(Node {
@@ -180,7 +213,7 @@ fn rebuild_tree(lines: &[Line], head: &Head) -> Result<Vec<Node>, Failed> {
 }
 
 /// Section 8. The nodes of the pages and their sums are filled in later.
-fn rebuild_runs(lines: &[Line], head: &Head, nodes: &[Node]) -> Result<Vec<Page>, Failed> {
+fn rebuild_runs(head: &Head, lines: &[Line], nodes: &[Node]) -> Result<Vec<Page>, Failed> {
     let mut pages = vec![];
     for record in lines {
         pages.push(Page {
@@ -188,6 +221,7 @@ fn rebuild_runs(lines: &[Line], head: &Head, nodes: &[Node]) -> Result<Vec<Page>
             last_sibling: record[1],
             weight: record[2],
             next_page: record[3],
+            node_count: record.get(4).copied(),
             run: vec![],
             nodes: vec![],
             sum: 0,
@@ -239,7 +273,12 @@ fn get_marks_back(nodes: &mut [Node], pages: &[Page]) {
 }
 
 /// Section 10.
-fn rebuild_pages(head: &Head, nodes: &mut [Node], pages: &mut [Page]) -> Result<(), Failed> {
+fn rebuild_pages(
+    edition: Edition,
+    head: &Head,
+    nodes: &mut [Node],
+    pages: &mut [Page],
+) -> Result<(), Failed> {
     for n in 1..=head.nodes {
         if nodes[n - 1].mark == 0 {
             nodes[n - 1].page = nodes[nodes[n - 1].parent - 1].page;
@@ -259,6 +298,16 @@ fn rebuild_pages(head: &Head, nodes: &mut [Node], pages: &mut [Page]) -> Result<
         let of_page = &pages[node.page - 1].nodes;
         let next_node = of_page.iter().copied().find(|&other| other > n);
         check(16, Place::Node(n), node.next_node == next_node.unwrap_or(0))?;
+    }
+    if edition == Edition::First {
+        return Ok(());
+    }
+    for (p, page) in (1..).zip(pages.iter()) {
+        let number = page.nodes.len();
+        check(17, Place::Page(p), page.node_count == Some(number))?;
+    }
+    for (n, node) in (1..).zip(nodes.iter()) {
+        check(18, Place::Node(n), node.label != 0)?;
     }
     Ok(())
 }
