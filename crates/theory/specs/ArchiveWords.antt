@@ -8,8 +8,8 @@ use native.Mathlib.Omega.{arith}
 use native.Mathlib.Nat.{mul-le-mul-left}
 use mathlib.Core.Path.{_≡_, refl, _∙_, ap}
 use mathlib.Core.List.{List, [], _∷_, _++_}
-use lib.ListN.{length, getD, length-append, List·getD-append}
-use lib.Seq.{getD-append-add}
+use lib.ListN.{length, getD, take, drop, length-append, length-drop, List·getD-append}
+use lib.Seq.{length-take-le, getD-take, getD-drop, getD-append-add}
 use Rattle.model.specs.Basics.{listTo}
 use Rattle.model.specs.Table.{wordAt, nodeCount, limitOf, weightAt, labelAt}
 use Rattle.model.specs.Plan.{parentAt, pageCount, pageWeight}
@@ -37,37 +37,36 @@ pub record Described (e : Edition) : Type 0 where
   pub last-at : (t m : List ℕ) (p : ℕ) → getD (pageRecord e t m p) 1 0 ≡ pageRun t m p .last
   pub weight-at : (t m : List ℕ) (p : ℕ) → getD (pageRecord e t m p) 2 0 ≡ pageWeight t m p
 
-pub first-described : Described firstEdition
+-- a head with all its words
+abbrev wholeHead : List ℕ → List ℕ → List ℕ
+wholeHead t m = editionWord ∷ nodeCount t ∷ limitOf t ∷ pageCount t m ∷ []
+
+-- so it is with three or four words of head, and four or five a page record
+described : (e : Edition) → 3 ≤ e .head → e .head ≤ 4 → 4 ≤ e .page → e .page ≤ 5 → Described e
 unfolding headWords pageRecord
-first-described =
+described e head-low head-high page-low page-high =
     record {
-      head-low = omega arith;
-      head = λ t m. refl;
-      nodes-at = λ t m. refl;
-      limit-at = λ t m. refl;
-      pages-at = λ t m. refl;
-      page-low = omega arith;
-      page = λ t m p. refl;
-      first-at = λ t m p. refl;
-      last-at = λ t m p. refl;
-      weight-at = λ t m p. refl;
+      head-low = head-low;
+      head = λ t m. length-drop (4 - e .head) (wholeHead t m) ∙ omega arith;
+      nodes-at = λ t m. in-head t m (e .head - 3) 1 (omega arith);
+      limit-at = λ t m. in-head t m (e .head - 2) 2 (omega arith);
+      pages-at = λ t m. in-head t m (e .head - 1) 3 (omega arith);
+      page-low = page-low;
+      page = λ t m p. length-take-le (e .page) _ page-high;
+      first-at = λ t m p. getD-take (e .page) _ 0 0 (omega arith);
+      last-at = λ t m p. getD-take (e .page) _ 1 0 (omega arith);
+      weight-at = λ t m p. getD-take (e .page) _ 2 0 (omega arith);
     }
+  where
+    in-head : (t m : List ℕ) (i j : ℕ) → 4 - e .head + i ≡ j
+        → getD (drop (4 - e .head) (wholeHead t m)) i 0 ≡ getD (wholeHead t m) j 0
+    in-head t m i j at = getD-drop (4 - e .head) (wholeHead t m) i 0 ∙ ap (λ k. getD (wholeHead t m) k 0) at
+
+pub first-described : Described firstEdition
+first-described = described firstEdition (omega arith) (omega arith) (omega arith) (omega arith)
 
 pub second-described : Described secondEdition
-unfolding headWords pageRecord
-second-described =
-    record {
-      head-low = omega arith;
-      head = λ t m. refl;
-      nodes-at = λ t m. refl;
-      limit-at = λ t m. refl;
-      pages-at = λ t m. refl;
-      page-low = omega arith;
-      page = λ t m p. refl;
-      first-at = λ t m p. refl;
-      last-at = λ t m p. refl;
-      weight-at = λ t m p. refl;
-    }
+second-described = described secondEdition (omega arith) (omega arith) (omega arith) (omega arith)
 
 -- ---- The archive
 
