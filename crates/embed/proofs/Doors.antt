@@ -1,5 +1,5 @@
--- A door's four numbers and what it leaves, from its entry's answer and what that leaves; for the entries that write one
--- output, and for those that read an archive. Proves fills, refills. Assumes nothing.
+-- A door's four numbers and what it leaves, from its entry's answer and what that leaves; for the entries that write
+-- one output, and for those that read an archive. Proves fills, refills. Assumes nothing.
 use mathlib.Core.Path.{_≡_, _∙_, ap}
 use mathlib.Core.List.{List}
 use Prim.Native.Nat.{ℕ}
