@@ -1,7 +1,7 @@
 -- Document 01, 'Trees on both sides' and the examples of 'What is refused', computed from the definitions: one result
 -- for the starred cases and one for the refusals; one for the quick planners, one for trees with unfiled lots, one for
--- trees with notes that weigh nothing, one for the limits of nodes, one for edition 2 and film that is converted, and
--- two for leader sheets.
+-- trees with notes that weigh nothing, one for the limits of nodes, one for edition 2, one for film that is converted,
+-- and two for leader sheets.
 -- Assumes nothing.
 use mathlib.Core.Path.{_≡_, refl}
 use Prim.Native.Nat.{ℕ, _-_}
@@ -285,18 +285,12 @@ secondE =
 abbrev firstE : List ℕ
 firstE = archiveOf firstEdition (treeE 5 1) bestE
 
--- written and read; 14 and 13 for a label 0; each edition is 13 to the other. Converted there and back; with the plan
--- that the film has, though it is not the best; 13, then 14 or 15, then 12.
+-- written and read; 14 and 13 for a label 0; each edition is 13 to the other
 pub editions : List Bool
 editions =
     let lent : List ℕ = replicate 85 7 in
     let w = writeArchive secondEdition (treeE 5 1) bestE lent in
     let r = readArchive secondEdition secondE (replicate 52 7) (replicate 6 7) in
-    let there = convertArchive firstEdition secondEdition firstE (replicate 86 7) in
-    let back = convertArchive secondEdition firstEdition secondE (replicate 78 7) in
-    let unfiled : List ℕ = archiveOf firstEdition (unfiledF 3) bestF in
-    let short = convertArchive firstEdition secondEdition firstE lent in
-    let other : List ℕ = 1 ∷ 0 ∷ 1 ∷ [] in
     leaves (writeArchive secondEdition (treeE 5 1) bestE (replicate 86 7)) secondE
     ∷ sameList (archiveOf secondEdition (treeCD 5) (1 ∷ 0 ∷ 0 ∷ 0 ∷ []))
     (bytesOf (8194 ∷ 4 ∷ 5 ∷ 1 ∷ 1 ∷ 1 ∷ 5 ∷ 0 ∷ 4
@@ -310,22 +304,37 @@ editions =
     ∷ answers (readArchive firstEdition secondE [] [] .answer) 13 0
     ∷ answers (readArchive secondEdition firstE [] [] .answer) 13 0
     ∷ answers (readArchive secondEdition (archiveOf secondEdition (unfiledF 3) bestF) [] [] .answer) 13 0
-    ∷ leaves there secondE
-    ∷ saysFeasible (there .answer .beside) 3 5
-    ∷ leaves back firstE
-    ∷ saysFeasible (back .answer .beside) 3 5
-    ∷ leaves (convertArchive firstEdition secondEdition (archiveOf firstEdition treeF other) (replicate 52 7))
-    (archiveOf secondEdition treeF other)
-    ∷ answers (convertArchive firstEdition secondEdition secondE [] .answer) 13 0
-    ∷ answers (convertArchive secondEdition firstEdition firstE [] .answer) 13 0
-    ∷ answers (convertArchive firstEdition secondEdition unfiled [] .answer) 14 2
-    ∷ answers (convertArchive secondEdition ofFive secondE [] .answer) 15 6
-    ∷ keeps (short .answer) (short .output) lent 12 86
     ∷ []
 
 pub editions-hold : every computed editions ≡ true
 unfolding computed editions
 editions-hold = refl
+
+-- 13, then 14 or 15, then 12; with the plan that the film has, though it is not the best; there and back
+pub conversions : List Bool
+conversions =
+    let unfiled : List ℕ = archiveOf firstEdition (unfiledF 3) bestF in
+    let other : List ℕ = 1 ∷ 0 ∷ 1 ∷ [] in
+    let lent : List ℕ = replicate 85 7 in
+    let short = convertArchive firstEdition secondEdition firstE lent in
+    let there = convertArchive firstEdition secondEdition firstE (replicate 86 7) in
+    let back = convertArchive secondEdition firstEdition secondE (replicate 78 7) in
+    answers (convertArchive firstEdition secondEdition unfiled [] .answer) 14 2
+    ∷ leaves (convertArchive firstEdition secondEdition (archiveOf firstEdition treeF other) (replicate 52 7))
+    (archiveOf secondEdition treeF other)
+    ∷ answers (convertArchive firstEdition secondEdition secondE [] .answer) 13 0
+    ∷ answers (convertArchive secondEdition firstEdition firstE [] .answer) 13 0
+    ∷ answers (convertArchive secondEdition ofFive secondE [] .answer) 15 6
+    ∷ keeps (short .answer) (short .output) lent 12 86
+    ∷ leaves there secondE
+    ∷ saysFeasible (there .answer .beside) 3 5
+    ∷ leaves back firstE
+    ∷ saysFeasible (back .answer .beside) 3 5
+    ∷ []
+
+pub conversions-hold : every computed conversions ≡ true
+unfolding computed conversions
+conversions-hold = refl
 
 -- ---- Notes that weigh nothing
 
