@@ -1,3 +1,2 @@
-pub mod Decoded
 pub mod SameBytes
 pub mod ReadAnswers

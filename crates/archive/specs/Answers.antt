@@ -1,7 +1,7 @@
 -- What the reader promises: an answer with what is left in the lent buffers; and what it learns of a candidate, and of
 -- the film.
--- Defines restored, CopyJudged, Decoded, Told. Proves read-both; copy-refused to copy-same; too-many, told-many,
--- told-copy. Assumes nothing.
+-- Defines restored, CopyJudged, Told. Proves read-both; copy-refused to copy-same; told-many, told-copy. Assumes
+-- nothing.
 use Prim.Native.Nat.{ℕ, _≤_, _<_}
 use native.Mathlib.Omega.{arith}
 use mathlib.Core.Bool.{true, false, _&&_, true≢false}
@@ -22,10 +22,11 @@ use Rattle.theory.specs.Bools.{never-true, both-true, and-false-right}
 use Rattle.theory.specs.JudgeAnswers.{pageCount-le}
 use Rattle.theory.specs.Outputs.{written}
 use Rattle.theory.specs.ArchiveWords.{Described, length-archive, archive-nodes}
-use Rattle.theory.specs.ArchiveBack.{sameList-true, write-read, read-write}
+use Rattle.theory.specs.ArchiveBack.{sameList-true, write-read}
 use Rattle.theory.specs.ArchiveAnswers.{writeWith, WriteDone, writer-done, writer-refused}
 use Rattle.theory.specs.PromiseArchive.{read-promise}
 use Rattle.writer.specs.Size.{longestArchive, InRoom, fits-longest}
+use Rattle.film.specs.Decoded.{Decoded, too-many}
 
 abbrev pub restored : Answer → List ℕ → List ℕ → Restored
 restored r t m = record { answer = r; table = t; marks = m }
@@ -111,16 +112,6 @@ module _ {e : Edition} (room : InRoom e) (a t m : List ℕ) where
           }
 
 -- ---- The film
-
--- what stands at the start of tree and plan is what the film tells, if it is an archive
-abbrev pub Decoded : Edition → List ℕ → List ℕ → List ℕ → Type 0
-Decoded e a tree plan =
-    isArchive e a ≡ true
-    → (take (tableBytes (nodesIn e a)) tree ≡ tableIn e a) × (take (nodesIn e a) plan ≡ marksIn e a)
-
--- more nodes than its edition takes: no archive
-pub too-many : (e : Edition) (a : List ℕ) → e .most < nodesIn e a → isArchive e a ≡ false
-too-many e a many = never-true (isArchive e a) (λ y. omega (arith, read-write e a y .few))
 
 -- It was accepted, and what was decoded is what the film tells, with its verdict; or it is no archive.
 pub record Told (e : Edition) (a tree plan : List ℕ) (r : Answer) : Type 0 where

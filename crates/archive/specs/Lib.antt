@@ -1,5 +1,3 @@
 -- What the reader's code is written against.
 pub mod Room
 pub mod Answers
-pub mod DecodeTable
-pub mod DecodeMarks

@@ -1,6 +1,6 @@
 // Whether film of an edition is one. The writer that such film is held against writes the tree and the plan that were
 // decoded of it, and the film is one where that gives the very same bytes.
-use crate::fields::nodes_in;
+use film::fields::nodes_in;
 use model::Answer;
 use model::Edition;
 use table::check_tree;
@@ -14,7 +14,8 @@ ghost use Rattle.model.specs.Basics.{sameList};
 ghost use Rattle.model.specs.Archive.{nodesIn};
 ghost use Rattle.writer.specs.Size.{InRoom, longestArchive};
 ghost use Rattle.archive.specs.Room.{Room};
-ghost use Rattle.archive.specs.Answers.{CopyJudged, Decoded, Told};
+ghost use Rattle.film.specs.Decoded.{Decoded};
+ghost use Rattle.archive.specs.Answers.{CopyJudged, Told};
 
 // Whether two strings of bytes are the same.
 fn same_bytes(a: &[u8], b: &[u8]) -> bool

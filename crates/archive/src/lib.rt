@@ -1,8 +1,6 @@
 // The archive's reader, in an edition: it writes what it decoded, and compares. Refusal 13, and 12 and 8. And the
 // converters from one edition to the other.
 mod convert;
-mod decode;
-mod fields;
 mod judged;
 mod read;
 

@@ -1,7 +1,7 @@
 // The archive's reader: what the film tells, copied out.
-use crate::decode::decode;
-use crate::fields::nodes_in;
 use crate::judged::judge_film;
+use film::decode::decode;
+use film::fields::nodes_in;
 use model::Answer;
 use model::Edition;
 use table::refuse;
