@@ -18,11 +18,11 @@ use Rattle.theory.specs.TableChain.{chainAt}
 use Rattle.theory.specs.Lists.{zeros}
 use Rattle.theory.specs.SiblingsBack.{ChildOrNone}
 use Rattle.theory.specs.LaidByNumber.{siblingsBack, siblings-back-same, back-along, ChildrenLaid, marks-laid}
-use Rattle.best.specs.Cells.{cellAt}
-use Rattle.best.specs.CellsArrays.{childrenIn, childIn}
-use Rattle.best.specs.CellsRun.{nthPrev}
-use Rattle.best.specs.CellsNode.{figureAt, childrenUpTo, children-same, child-nthPrev}
-use Rattle.best.specs.CellsPlan.{NodesPlanned}
+use Rattle.columns.specs.Cells.{cellAt}
+use Rattle.columns.specs.CellsArrays.{childrenIn, childIn}
+use Rattle.columns.specs.CellsRun.{nthPrev}
+use Rattle.columns.specs.CellsNode.{figureAt, childrenUpTo, children-same, child-nthPrev}
+use Rattle.columns.specs.CellsPlan.{NodesPlanned}
 use Rattle.best.specs.LayChosen.{chosenIn}
 use Rattle.best.specs.LayContracts.{SecondsGain, startOf, NodeReady, NodeDone}
 

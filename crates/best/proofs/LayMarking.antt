@@ -16,9 +16,9 @@ use Rattle.model.specs.Plan.{begins}
 use Rattle.model.specs.Steps.{Child, Choice, runChoices}
 use Rattle.theory.specs.ReduceCount.{countGain}
 use Rattle.best.specs.CellsLevel.{levelFrom, levelFrom-bound, takeDownTo}
-use Rattle.best.specs.Cells.{lastChildren}
-use Rattle.best.specs.CellsArrays.{childrenIn, childIn, children-cons, children-length}
-use Rattle.best.specs.CellsRun.{asMembers, RunSums, countsOf, sums-count, nthPrev, nthPrev-le}
+use Rattle.columns.specs.Cells.{lastChildren}
+use Rattle.columns.specs.CellsArrays.{childrenIn, childIn, children-cons, children-length}
+use Rattle.columns.specs.CellsRun.{asMembers, RunSums, countsOf, sums-count, nthPrev, nthPrev-le}
 use Rattle.best.specs.LayChoices.{takes, lastMark, choicesByLevel, choicesByLevel-run, run-level, count-back}
 use Rattle.best.specs.LayChosen.{LaidRun}
 use Rattle.best.specs.LayContracts.{runChoicesBack, SecondsGain, SumReady, RunReady, RunDone}

@@ -16,11 +16,11 @@ use Rattle.model.specs.Plan.{parentAt}
 use Rattle.model.specs.Steps.{Child, Choice, entryAt, secondStart}
 use Rattle.theory.specs.SiblingsBack.{ChildOrNone, child-high, SiblingsBefore}
 use Rattle.theory.specs.LaidByNumber.{siblingsBack, siblings-back-none, siblings-back-cons}
-use Rattle.best.specs.Cells.{lastChildren, rebuilt, LengthFits, Agrees, stayChoice, cellAt, cell-entry}
-use Rattle.best.specs.CellsArrays.{childIn, childrenIn, children-none, children-cons, children-length}
-use Rattle.best.specs.CellsArrays.{children-good}
-use Rattle.best.specs.CellsRun.{nthPrev, nthPrev-shift, nthPrev-le, blockAt, block-apart}
-use Rattle.best.specs.CellsNode.{child-nthPrev}
+use Rattle.columns.specs.Cells.{lastChildren, rebuilt, LengthFits, Agrees, stayChoice, cellAt, cell-entry}
+use Rattle.columns.specs.CellsArrays.{childIn, childrenIn, children-none, children-cons, children-length}
+use Rattle.columns.specs.CellsArrays.{children-good}
+use Rattle.columns.specs.CellsRun.{nthPrev, nthPrev-shift, nthPrev-le, blockAt, block-apart}
+use Rattle.columns.specs.CellsNode.{child-nthPrev}
 use Rattle.best.specs.LayChosen.{chosenIn, choicesFor, LaidRun}
 use Rattle.best.specs.LayContracts.{runChoicesBack, SecondsGain, RunReady, RunDone, startOf, NodeReady, NodeDone}
 use Rattle.best.proofs.LayRuns.{children-nthPrev, children-nodes, nthPrev-add, AllNodes, laid-none, laid-one}

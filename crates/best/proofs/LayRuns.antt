@@ -12,8 +12,8 @@ use lib.Dec.{eqb}
 use borrow.Author.Tests.{eqb-true, eqb-false}
 use Rattle.model.specs.Steps.{Choice}
 use Rattle.theory.specs.SiblingsBack.{Earlier}
-use Rattle.best.specs.CellsArrays.{childrenIn, children-none, children-cons}
-use Rattle.best.specs.CellsRun.{nthPrev, nthPrev-shift}
+use Rattle.columns.specs.CellsArrays.{childrenIn, children-none, children-cons}
+use Rattle.columns.specs.CellsRun.{nthPrev, nthPrev-shift}
 use Rattle.best.specs.LayChosen.{chosenIn, choicesFor, choices-for-same, choices-for-more, LaidRun}
 use Rattle.best.specs.LayContracts.{SecondsGain}
 

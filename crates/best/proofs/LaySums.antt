@@ -7,11 +7,11 @@ use native.Mathlib.Omega.{arith}
 use lib.ListN.{length, getD, set, drop, replicate, length-set, length-replicate}
 use Rattle.model.specs.Table.{maxNodes, maxLimit}
 use Rattle.model.specs.Steps.{Child}
-use Rattle.best.specs.Cells.{lastChildren, lastChildren-one}
-use Rattle.best.specs.CellsArrays.{childrenIn, EachGood, childIn, children-cons, children-length}
-use Rattle.best.specs.CellsRun.{RunSums, sums-none, sums-more, sums-joins, nthPrev, nthPrev-le}
-use Rattle.best.specs.declared.run.Sums.{Sums}
-use Rattle.best.specs.CellsSums.{gainSlots, joinedSums}
+use Rattle.columns.specs.Cells.{lastChildren, lastChildren-one}
+use Rattle.columns.specs.CellsArrays.{childrenIn, EachGood, childIn, children-cons, children-length}
+use Rattle.columns.specs.CellsRun.{RunSums, sums-none, sums-more, sums-joins, nthPrev, nthPrev-le}
+use Rattle.columns.specs.declared.run.Sums.{Sums}
+use Rattle.columns.specs.CellsSums.{gainSlots, joinedSums}
 use Rattle.best.specs.LayContracts.{SumReady}
 use Rattle.best.proofs.LayRuns.{children-nthPrev, children-nodes}
 

@@ -1,9 +1,4 @@
--- The column of a child
-pub mod ColumnSweeps
-pub mod ColumnRuns
--- The columns and figures of nodes
-pub mod NodeColumns
-pub mod NodeGains
+-- The scratch before the first node
 pub mod NodeStart
 -- The marks: of a run, of a node's children, of all nodes
 pub mod LaySums

@@ -11,10 +11,10 @@ use Rattle.model.specs.Refusals.{scratchWords}
 use Rattle.theory.specs.TableFacts.{AcceptedFacts}
 use Rattle.theory.specs.Lists.{zeros}
 use Rattle.theory.specs.SiblingsBack.{SiblingsLinked}
-use Rattle.best.specs.Cells.{cellAt}
-use Rattle.best.specs.CellsArrays.{Swept}
-use Rattle.best.specs.CellsRun.{blockAt}
-use Rattle.best.specs.CellsNode.{ColumnsReady}
+use Rattle.columns.specs.Cells.{cellAt}
+use Rattle.columns.specs.CellsArrays.{Swept}
+use Rattle.columns.specs.CellsRun.{blockAt}
+use Rattle.columns.specs.CellsNode.{ColumnsReady}
 
 -- a block for each node, and one for none
 pub scratch-fits : (N K : ℕ) → 1 ≤ N → blockAt K (N + 1) ≤ scratchWords N K

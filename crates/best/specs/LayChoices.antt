@@ -18,8 +18,8 @@ use Rattle.theory.specs.Reduce.{sumOf}
 use Rattle.theory.specs.ReduceCount.{hasGain, countGain, countGain-cons}
 use Rattle.best.specs.CellsLevel.{GainLevel, takenOff, takeDownTo, takeDownTo-above, takeDownTo-under}
 use Rattle.best.specs.CellsLevel.{takeDownTo-at, levelHere, levelFrom, takeByLevel, reduce-level}
-use Rattle.best.specs.Cells.{lastChildren}
-use Rattle.best.specs.CellsRun.{asMembers, members-length, members-sound, RunSums, countsOf}
+use Rattle.columns.specs.Cells.{lastChildren}
+use Rattle.columns.specs.CellsRun.{asMembers, members-length, members-sound, RunSums, countsOf}
 
 -- ---- The last member
 

@@ -7,7 +7,7 @@ use native.Mathlib.Omega.{arith}
 use lib.ListN.{length, getD}
 use lib.Dec.{eqb}
 use Rattle.model.specs.Steps.{Choice}
-use Rattle.best.specs.CellsRun.{nthPrev, nthPrev-shift}
+use Rattle.columns.specs.CellsRun.{nthPrev, nthPrev-shift}
 
 -- the mark of node u, and whether it follows its second plan
 abbrev pub chosenIn : List ℕ → List ℕ → ℕ → Choice

@@ -12,10 +12,10 @@ use Rattle.model.specs.Plan.{begins, parentAt}
 use Rattle.model.specs.Steps.{Child, Choice, runOf, runChoices, entryAt, secondStart}
 use Rattle.theory.specs.SiblingsBack.{Earlier, ChildOrNone}
 use Rattle.theory.specs.LaidByNumber.{siblingsBack}
-use Rattle.best.specs.Cells.{lastChildren}
-use Rattle.best.specs.CellsArrays.{childrenIn, EachGood}
-use Rattle.best.specs.CellsRun.{nthPrev}
-use Rattle.best.specs.CellsNode.{ColumnsReady, ColumnsBack}
+use Rattle.columns.specs.Cells.{lastChildren}
+use Rattle.columns.specs.CellsArrays.{childrenIn, EachGood}
+use Rattle.columns.specs.CellsRun.{nthPrev}
+use Rattle.columns.specs.CellsNode.{ColumnsReady, ColumnsBack}
 use Rattle.best.specs.LayChosen.{chosenIn, LaidRun}
 
 -- ---- A run

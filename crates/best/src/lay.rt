@@ -1,8 +1,8 @@
 // Marks are laid from the root down: a child follows its second plan where a chosen run took it, else its best plan.
-use crate::column::block_at;
-use crate::run::GAINS;
-use crate::run::Sums;
-use crate::run::join;
+use columns::column::block_at;
+use columns::run::GAINS;
+use columns::run::Sums;
+use columns::run::join;
 use table::SLOTS;
 use table::words::limit_of;
 use table::words::node_count;
@@ -16,13 +16,13 @@ ghost use lib.ListN.{length, getD, replicate};
 ghost use Rattle.model.specs.Basics.{pick};
 ghost use Rattle.model.specs.Table.{maxNodes, maxLimit, nodeCount, limitOf, weightAt, treeOf};
 ghost use Rattle.model.specs.Steps.{layMarks, rootChoice};
-ghost use Rattle.best.specs.Cells.{lastChildren};
-ghost use Rattle.best.specs.CellsArrays.{childrenIn, EachGood};
+ghost use Rattle.columns.specs.Cells.{lastChildren};
+ghost use Rattle.columns.specs.CellsArrays.{childrenIn, EachGood};
 ghost use Rattle.best.specs.LayChoices.{takes, lastMark};
-ghost use Rattle.best.specs.CellsPlan.{NodesPlanned};
-ghost use Rattle.best.specs.CellsRun.{countsOf, RunSums};
+ghost use Rattle.columns.specs.CellsPlan.{NodesPlanned};
+ghost use Rattle.columns.specs.CellsRun.{countsOf, RunSums};
 ghost use Rattle.best.specs.CellsLevel.{levelFrom};
-ghost use Rattle.best.specs.CellsSums.{gainSlots};
+ghost use Rattle.columns.specs.CellsSums.{gainSlots};
 ghost use Rattle.best.specs.LayContracts.{SumReady, RunReady, RunDone, startOf, NodeReady, NodeDone};
 
 // Of a run's gains those above `gain` are taken, and of those at `gain` the earliest `times`.

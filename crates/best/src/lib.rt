@@ -1,13 +1,9 @@
-// The plan of the best planner, and of the level planner: a column of cells for each child, the figures of each
-// node, and the marks.
-mod column;
+// The plan of the best planner, and of the level planner: the marks, from the columns and the figures of all nodes.
 mod lay;
-mod node;
-mod run;
 
+use columns::node::open_block;
+use columns::node::plan_nodes;
 use lay::lay_nodes;
-use node::open_block;
-use node::plan_nodes;
 use table::SLOTS;
 use table::links::link_before;
 use table::words::limit_of;

@@ -5,7 +5,7 @@ use Rattle.best.proofs.lay.find_level.Tie as tie
 use Prim.Native.Nat.{_+_, _-_, _*_, _≤_, _<_}
 use mathlib.Core.Path.{_≡_, sym, _∙_, ap}
 use native.Mathlib.Omega.{arith}
-use Rattle.best.specs.CellsRun.{countsOf}
+use Rattle.columns.specs.CellsRun.{countsOf}
 use Rattle.best.specs.CellsLevel.{levelFrom}
 use Rattle.best.specs.LayChoices.{levelling, levelling-start, levelling-down}
 use Rattle.best.specs.LayChoices.{levelling-stop, levelling-take, levelling-none}

@@ -8,7 +8,7 @@ use lib.ListN.{getD}
 use native.Mathlib.Omega.{arith}
 use Rattle.model.specs.Table.{maxNodes, maxLimit, slots}
 use Rattle.theory.specs.SiblingsBack.{child-high}
-use Rattle.best.specs.CellsRun.{blockAt}
+use Rattle.columns.specs.CellsRun.{blockAt}
 use Rattle.best.proofs.LayNode.{Walking, Found, limit-small, nodes-small, walk-from, walk-high, walk-reads}
 use Rattle.best.proofs.LayNode.{block-small, prev-less, stay-fits, walk-stay, walk-ready, walk-less, walk-run}
 use Rattle.best.proofs.LayNode.{walk-end}
