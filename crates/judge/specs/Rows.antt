@@ -1,17 +1,21 @@
 -- What the arrays of the judge hold, what its pass over a plan finds, and the test of a mark by numbers.
--- Defines goodCase, Layout, layoutOf, Cleared, IsLayout. Assumes nothing.
-use Prim.Native.Nat.{ℕ, _<_}
+-- Defines goodCase, Layout, layoutOf, Cleared, IsLayout, LightPages. Proves light-pages. Assumes nothing.
+use Prim.Native.Nat.{ℕ, _≤_, _<_}
+use native.Mathlib.Omega.{arith}
 use mathlib.Core.Path.{_≡_}
 use mathlib.Core.Bool.{Bool, not, _&&_, _||_}
 use mathlib.Core.List.{List, []}
 use lib.ListN.{getD, replicate}
 use lib.Dec.{eqb}
 use Rattle.model.specs.Basics.{pick}
-use Rattle.model.specs.Table.{slots, nodeCount}
+use Rattle.model.specs.Table.{maxLimit, slots, nodeCount, limitOf}
 use Rattle.model.specs.Plan.{parentAt, pageOf, pageWeight, pageCount, badMark}
 use Rattle.model.specs.Runs.{pageRun}
 use Rattle.model.specs.declared.Place.the-variants.{Nowhere}
+use Rattle.theory.specs.Ranges.{Upto}
 use Rattle.theory.specs.Slots.{Row}
+use Rattle.theory.specs.JudgeAnswers.{pageCount-le}
+use Rattle.theory.specs.PlanFeasible.{Judged, within-limit}
 
 -- what goodMark says of node v, by v's mark, the sibling before it, and that one's mark
 unfoldable pub goodCase : ℕ → ℕ → ℕ → ℕ → Bool
@@ -52,3 +56,28 @@ pub record IsLayout (t m : List ℕ) (r : Layout) : Type 0 where
   pub lasts-are : badMark t m ≡ Nowhere → Row (pageCount t m) (λ p. pageRun t m p .last) (r .lasts)
   pub weights-are : (p : ℕ) → p < slots → getD (r .weights) p 0 ≡ pageWeight t m p
   pub pages-are : r .pages ≡ pageCount t m
+
+-- as many pages as there are slots for, none over the limit
+pub record LightPages (weights : List ℕ) (pages limit : ℕ) : Type 0 where
+  pub few : pages < slots
+  pub low : 1 ≤ limit
+  pub high : limit ≤ maxLimit
+  pub within : Upto pages (λ p. getD weights p 0 ≤ limit)
+
+-- as a feasible plan's are
+pub light-pages : {t m : List ℕ} {l : Layout} → Judged t m → IsLayout t m l
+    → LightPages (l .weights) (l .pages) (limitOf t)
+light-pages {t} {m} {l} j is =
+    record {
+      few = omega (arith, is .pages-are, pageCount-le t m, j .tree .sound .count-high);
+      low = j .tree .sound .limit-low;
+      high = j .tree .sound .limit-high;
+      within =
+          λ p low high.
+          let upto : p ≤ pageCount t m = omega (arith, is .pages-are) in
+          omega (
+            arith,
+            is .weights-are p (omega (arith, is .pages-are, pageCount-le t m, j .tree .sound .count-high)),
+            within-limit j p low upto,
+          );
+    }

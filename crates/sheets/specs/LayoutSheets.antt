@@ -1,5 +1,5 @@
--- The sheets of the layout that the judge found of a plan. Proves printable, layout-sheets. Assumes nothing.
-use Prim.Native.Nat.{ℕ, _≤_}
+-- The sheets of the layout that the judge found of a plan. Proves layout-sheets. Assumes nothing.
+use Prim.Native.Nat.{ℕ}
 use native.Mathlib.Omega.{arith}
 use mathlib.Core.Path.{_≡_, _∙_, ap}
 use mathlib.Core.List.{List}
@@ -9,27 +9,10 @@ use Rattle.model.specs.Sheets.{pageAt, sheetsBy, sheetsOf}
 use Rattle.theory.specs.JudgeAnswers.{pageCount-le}
 use Rattle.theory.specs.PlanFeasible.{Judged}
 use Rattle.theory.specs.SheetLines.{sheets-same}
-use Rattle.theory.specs.PromiseSheets.{within-limit}
 use Rattle.judge.specs.Rows.{Layout, IsLayout}
-use Rattle.sheets.specs.Lines.{pageIn, Printable}
+use Rattle.sheets.specs.Lines.{pageIn}
 
 module _ {t m : List ℕ} (j : Judged t m) {l : Layout} (is : IsLayout t m l) where
-  pub printable : Printable (l .weights) (l .pages) (limitOf t)
-  printable =
-      record {
-        few = omega (arith, is .pages-are, pageCount-le t m, j .tree .sound .count-high);
-        low = j .tree .sound .limit-low;
-        high = j .tree .sound .limit-high;
-        within =
-            λ p low high.
-            let upto : p ≤ pageCount t m = omega (arith, is .pages-are) in
-            omega (
-              arith,
-              is .weights-are p (omega (arith, is .pages-are, pageCount-le t m, j .tree .sound .count-high)),
-              within-limit j p low upto,
-            );
-      }
-
   -- the layout of a plan gives the plan's sheets
   pub layout-sheets : sheetsBy (l .pages) (limitOf t) (pageIn (l .firsts) (l .lasts) (l .weights)) ≡ sheetsOf t m
   unfolding sheetsOf

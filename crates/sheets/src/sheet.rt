@@ -12,7 +12,8 @@ ghost use lib.ListN.{length};
 ghost use Rattle.model.specs.Table.{slots};
 ghost use Rattle.model.specs.Sheets.{sheetLines, sheetBytes, sheetCount, lineAt, sheetAt, sheetsBy};
 ghost use Rattle.theory.specs.Appended.{Appended};
-ghost use Rattle.sheets.specs.Lines.{pageIn, Printable};
+ghost use Rattle.judge.specs.Rows.{LightPages};
+ghost use Rattle.sheets.specs.Lines.{pageIn};
 
 const SHEET_LINES: u16 = 60;
 
@@ -43,7 +44,7 @@ fn line_at<'a>(
     sheet: u16,
     l: u16,
 ) -> [u8; LINE]
-    requires { ⌜ Printable (now weights) pages limit × (1 ≤ sheet) × (sheet ≤ sheetCount pages) × (1 ≤ l)
+    requires { ⌜ LightPages (now weights) pages limit × (1 ≤ sheet) × (sheet ≤ sheetCount pages) × (1 ≤ l)
         × (l ≤ sheetLines) ⌝ }
     ensures { λ r. ⌜ r
         ≡ lineAt pages limit (pageIn (now (firsts .entry)) (now (lasts .entry)) (now (weights .entry))) sheet l ⌝ }
@@ -74,7 +75,7 @@ fn put_sheet<'a>(
     out: &mut [u8],
     at: usize,
 ) -> usize
-    requires { ⌜ Printable (now weights) pages limit × (1 ≤ sheet) × (sheet ≤ sheetCount pages)
+    requires { ⌜ LightPages (now weights) pages limit × (1 ≤ sheet) × (sheet ≤ sheetCount pages)
         × (at + sheetBytes ≤ length (now out)) ⌝ }
     ensures { λ r. ⌜ Appended (now (out .entry)) at
         (sheetAt pages limit (pageIn (now (firsts .entry)) (now (lasts .entry)) (now (weights .entry))) sheet)
@@ -99,7 +100,7 @@ pub fn put_sheets<'a>(
     limit: u16,
     out: &mut [u8],
 )
-    requires { ⌜ Printable (now weights) pages limit × (length (now out) ≡ sheetBytes * sheetCount pages) ⌝ }
+    requires { ⌜ LightPages (now weights) pages limit × (length (now out) ≡ sheetBytes * sheetCount pages) ⌝ }
     ensures { λ r. ⌜ now (out .exit)
         ≡ sheetsBy pages limit (pageIn (now (firsts .entry)) (now (lasts .entry)) (now (weights .entry))) ⌝ }
 {

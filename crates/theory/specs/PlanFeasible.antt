@@ -1,6 +1,6 @@
 -- Feasible plans by number and by shape: the judge finds nothing just where node 1 has mark 1, the marks of the tree
 -- are allowed and every page by shape is within the limit; the verdict is then page count and root weight.
--- Defines Judged, feasibleWith, ShapePlan. Proves with-judged, feasible-judged, film-judged, feasible-filed,
+-- Defines Judged, feasibleWith, ShapePlan. Proves within-limit, with-judged, feasible-judged, film-judged, feasible-filed,
 -- feasible-film, judged-feasible, judged-verdict, judged-zero, feasible-judge; filed-feasible, label-stops, film-filed;
 -- heavy-bridge, judged-bridge; shape-judged (from FeasibleShape). Assumes nothing.
 use Prim.Native.Nat.{ℕ, zero, suc, _-_, _≤_}
@@ -66,6 +66,12 @@ pub record Judged (t m : List ℕ) : Type 0 where
   pub long : length m ≡ nodeCount t
   pub marked : badMark t m ≡ Nowhere
   pub light : heavyPage t m ≡ Nowhere
+
+pub within-limit : {t m : List ℕ} → Judged t m → Upto (pageCount t m) (λ p. pageWeight t m p ≤ limitOf t)
+unfolding heavyPage
+within-limit {t} {m} j p low high =
+    ltb-false (limitOf t) (pageWeight t m p)
+    (firstTo-nowhere (pageCount t m) (λ q. ltb (limitOf t) (pageWeight t m q)) (j .light) p low high)
 
 pub marks-judged : (t m : List ℕ) → AcceptedFacts t → passes (markChecks t m) ≡ true → Judged t m
 unfolding Pass markChecks badMarks markRefused pageRefused

@@ -8,21 +8,20 @@ use mathlib.Core.Bool.{true, _&&_}
 use mathlib.Core.Path.{_≡_, refl, sym, _∙_, ap}
 use mathlib.Core.List.{List}
 use lib.ListN.{length}
-use lib.Dec.{eqb, ltb}
-use borrow.Author.Tests.{ltb-false}
+use lib.Dec.{eqb}
 use Rattle.model.specs.Basics.{pick, every}
 use Rattle.model.specs.Table.{maxNodes, nodeCount, limitOf}
-use Rattle.model.specs.Plan.{begins, hasMark, inRun, pageOf, pageCount, pageWeight, heavyPage, verdictOf}
+use Rattle.model.specs.Plan.{begins, hasMark, inRun, pageOf, pageCount, verdictOf}
 use Rattle.model.specs.Runs.{pageRun}
 use Rattle.model.specs.Sheets.{sheetBytes, sheetCount, pageAt, perCent, sheetsOf}
 use Rattle.model.specs.Refusals.{badOutput, sheetChecks, printChecks, passes, answerOf, refused, firstOf, readTree}
 use Rattle.model.specs.Refusals.{feasiblePlan, Written, printSheets}
 use Rattle.model.specs.Demand.{PageTold, PrintPromise}
 use Rattle.model.specs.declared.Answer.{Answer}
-use Rattle.theory.specs.Ranges.{firstTo-nowhere, lastTo-le}
+use Rattle.theory.specs.Ranges.{lastTo-le}
 use Rattle.theory.specs.Checks.{Never}
 use Rattle.theory.specs.JudgeAnswers.{with-labels, pageCount-le}
-use Rattle.theory.specs.PlanFeasible.{Judged, feasible-judged, judged-verdict}
+use Rattle.theory.specs.PlanFeasible.{Judged, within-limit, feasible-judged, judged-verdict}
 use Rattle.theory.specs.PagesByNumber.{lastOnPage, first-found, last-found}
 use Rattle.theory.specs.Outputs.{outputFrom, short-output, long-output, with-entry, with-done, with-wrote}
 use Rattle.theory.specs.Outputs.{with-kept}
@@ -41,12 +40,6 @@ module _ {t m : List ℕ} (j : Judged t m) where
   pages-most = omega (arith, pageCount-le t m, j .tree .sound .count-high)
 
   module _ (p : ℕ) (low : 1 ≤ p) (high : p ≤ pageCount t m) where
-    pub within-limit : pageWeight t m p ≤ limitOf t
-    unfolding heavyPage
-    within-limit =
-        ltb-false (limitOf t) (pageWeight t m p)
-        (firstTo-nowhere (pageCount t m) (λ q. ltb (limitOf t) (pageWeight t m q)) (j .light) p low high)
-
     run-most : (pageRun t m p .first ≤ nodeCount t) × (pageRun t m p .last ≤ nodeCount t)
     unfolding lastOnPage
     run-most =
@@ -70,8 +63,8 @@ module _ {t m : List ℕ} (j : Judged t m) where
           number = omega (arith, pages-most);
           first = omega (arith, run-most .0, count);
           last = omega (arith, run-most .1, count);
-          weight = omega (arith, within-limit, j .tree .sound .limit-high);
-          share = omega (arith, share-most _ _ within-limit);
+          weight = omega (arith, within-limit j p low high, j .tree .sound .limit-high);
+          share = omega (arith, share-most _ _ (within-limit j p low high));
         }
 
   pub sheets-fit : (s : ℕ) → s ≤ sheetCount (pageCount t m) → (pageCount t m < 10 ^ 6) × (s < 10 ^ 6)

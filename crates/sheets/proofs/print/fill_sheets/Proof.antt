@@ -3,8 +3,9 @@ use mathlib.Core.List.{[]}
 use mathlib.Core.Path.{sym, _∙_, ap, subst}
 use lib.ListN.{getD}
 use Rattle.model.specs.Sheets.{sheetsBy}
-use Rattle.sheets.specs.Lines.{pageIn, Printable}
-use Rattle.sheets.specs.LayoutSheets.{printable, layout-sheets}
+use Rattle.judge.specs.Rows.{LightPages, light-pages}
+use Rattle.sheets.specs.Lines.{pageIn}
+use Rattle.sheets.specs.LayoutSheets.{layout-sheets}
 use borrow.Author.Needs.{needs}
 use Rattle.sheets.proofs.print.fill_sheets.Statement.{statement}
 use Rattle.sheets.proofs.print.fill_sheets.Tie as tie
@@ -13,8 +14,8 @@ put-sheets-requires : tie.Need-put-sheets-requires
 put-sheets-requires c κs =
     let l = c .before .before .before in
     let s = l .before .before .before .before in (
-      subst (λ k. Printable (s .args .weights .now) (s .args .pages) k) (sym (l .limit-of .ensures))
-          (printable (s .pre .0) (s .pre .1)),
+      subst (λ k. LightPages (s .args .weights .now) (s .args .pages) k) (sym (l .limit-of .ensures))
+          (light-pages (s .pre .0) (s .pre .1)),
       s .pre .2,
     )
 

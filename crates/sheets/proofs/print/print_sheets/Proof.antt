@@ -13,8 +13,7 @@ use Rattle.theory.specs.TableFacts.{AcceptedFacts}
 use Rattle.theory.specs.PlanFeasible.{Judged}
 use Rattle.theory.specs.Outputs.{written, promised, judged-from, output-refused, output-stopped, output-done}
 use Rattle.theory.specs.PromiseSheets.{sheet-short, sheet-long, print-entry, print-promise}
-use Rattle.judge.specs.Rows.{Layout, layoutOf, IsLayout}
-use Rattle.sheets.specs.LayoutSheets.{printable}
+use Rattle.judge.specs.Rows.{Layout, layoutOf, IsLayout, light-pages}
 use borrow.Author.Needs.{needs}
 use Rattle.sheets.proofs.print.print_sheets.Statement.{statement}
 use Rattle.sheets.proofs.print.print_sheets.Tie as tie
@@ -75,7 +74,7 @@ returns c =
     (read j .read-tree .ensures .0))
 
 sheet-bytes-requires : tie.Need-sheet-bytes-requires
-sheet-bytes-requires c κs = printable (judged c) (layout c) .few
+sheet-bytes-requires c κs = light-pages (judged c) (layout c) .few
 
 returns-2 : tie.Need-returns-2
 returns-2 c =
