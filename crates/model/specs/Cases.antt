@@ -1,14 +1,15 @@
 -- Document 01, 'Trees on both sides' and the examples of 'What is refused', computed from the definitions: one result
 -- for the starred cases and one for the refusals; one for the quick planners, one for trees with unfiled lots, one for
 -- trees with notes that weigh nothing, one for the limits of nodes, one for edition 2, one for film that is converted,
--- and two for leader sheets.
+-- two for leader sheets, and two for prices.
 -- Assumes nothing.
 use mathlib.Core.Path.{_≡_, refl}
 use Prim.Native.Nat.{ℕ, _-_}
 use mathlib.Core.Bool.{Bool, true, false, not, _&&_}
 use mathlib.Core.List.{List, [], _∷_, _++_}
 use lib.ListN.{replicate}
-use lib.Dec.{eqb}
+use lib.IntN.{ℤ, pos, negsuc}
+use lib.Dec.{eqb, ltb}
 use Rattle.model.specs.Basics as Basics
 use Rattle.model.specs.Table as Table
 use Rattle.model.specs.Plan as Plan
@@ -17,6 +18,7 @@ use Rattle.model.specs.Steps as Steps
 use Rattle.model.specs.Archive as Archive
 use Rattle.model.specs.Decimal as Decimal
 use Rattle.model.specs.Sheets as Sheets
+use Rattle.model.specs.Prices as Prices
 use Rattle.model.specs.Refusals as Refusals
 use Rattle.model.specs.Basics.{listTo, every, sameList}
 use Rattle.model.specs.Table.{bytesOf, nodeCount, limitOf}
@@ -25,15 +27,17 @@ use Rattle.model.specs.Steps.{Child, stopsAt}
 use Rattle.model.specs.Archive.{firstEdition, secondEdition, archiveOf}
 use Rattle.model.specs.Decimal.{bytes}
 use Rattle.model.specs.Sheets.{sheetCount, lineWith, perCent, lineAt, numberIn}
+use Rattle.model.specs.Prices.{fillOf, priceAt}
 use Rattle.model.specs.Refusals.{refusedForWeight, readTree, judgePlan, planBest, planLevel, planSingle}
 use Rattle.model.specs.Refusals.{planPair, writeArchive, writeFilm, Written, readArchive, scratchWords}
 use Rattle.model.specs.Refusals.{Planned, planRightmost, planDepthFirst, printSheets}
-use Rattle.model.specs.Refusals.{manyNodes, firstOf, accepted, convertArchive}
+use Rattle.model.specs.Refusals.{manyNodes, firstOf, accepted, convertArchive, pricePlan, Saved, saveBest}
 use Rattle.model.specs.declared.Beside.{Beside}
 use Rattle.model.specs.declared.Beside.the-variants.{Given, Nothing}
 use Rattle.model.specs.declared.Verdict.the-variants.{Feasible, Failed}
 use Rattle.model.specs.declared.Answer.{Answer}
 use Rattle.model.specs.declared.Edition.{Edition}
+use Rattle.model.specs.declared.Price.{Price}
 
 -- ---- The trees, as tables; labels are node numbers
 
@@ -87,6 +91,7 @@ unfolding Basics.pick Basics.when Basics.atPlace Basics.sumTo Basics.countTo Bas
     Archive.firstIn Archive.nextIn Archive.tableIn Archive.beginsIn Archive.continuesIn Archive.markIn Archive.marksIn
     Decimal.decimalTo Sheets.field Sheets.lineWith Sheets.firstLine Sheets.lastLine Sheets.lineForPage Sheets.lineAt
     Sheets.sheetAt Sheets.sheetsBy Sheets.sheetsOf Sheets.valueFrom Sheets.numberIn
+    Prices.totalCents Prices.savingOf
     Refusals.shortTable Refusals.badCount Refusals.badLimit Refusals.badLength Refusals.badWalk
     Refusals.heavyNode Refusals.badMarks Refusals.shortScratch Refusals.markRefused Refusals.pageRefused
     Refusals.badOutput Refusals.noArchive Refusals.noLabel Refusals.manyNodes Refusals.headChecks Refusals.nodeChecks
@@ -98,6 +103,7 @@ unfolding Basics.pick Basics.when Basics.atPlace Basics.sumTo Basics.countTo Bas
     Refusals.feasiblePlan Refusals.feasibleFilm Refusals.firstOf Refusals.readTree Refusals.judgePlan
     Refusals.planned Refusals.writeChecked Refusals.writeArchive Refusals.writeFilm Refusals.isArchive
     Refusals.readChecks Refusals.readArchive Refusals.convertChecks Refusals.convertArchive Refusals.printSheets
+    Refusals.pricePlan Refusals.saveBest
 computed b = b
 
 abbrev saysFeasible : Beside → ℕ → ℕ → Bool
@@ -444,6 +450,84 @@ printing =
 pub printing-hold : every computed printing ≡ true
 unfolding computed printing
 printing-hold = refl
+
+-- ---- The film maker's price
+
+-- root 2, children 1 1, K 3: the best plan has both children in a run; the single planner cuts the first of them, for a
+-- full root page, and its plan has as many pages and costs less
+abbrev treeN : List ℕ
+treeN = bytesOf (3 ∷ 3 ∷ 2 ∷ 1 ∷ 2 ∷ 0 ∷ 1 ∷ 2 ∷ 0 ∷ 3 ∷ 1 ∷ 3 ∷ 0 ∷ 0 ∷ [])
+
+abbrev bestN : List ℕ
+bestN = 1 ∷ 1 ∷ 2 ∷ []
+
+-- A full root in the limit 7, with six children of 1, of which four have a child of 6. Best lays its children in a run,
+-- and five of its six pages weigh 6; single has a page more, four full ones among them, and costs less.
+abbrev treeM : List ℕ
+treeM =
+    bytesOf (11 ∷ 7 ∷ 7 ∷ 1 ∷ 2 ∷ 0 ∷ 1 ∷ 2 ∷ 0 ∷ 3 ∷ 1 ∷ 3 ∷ 4 ∷ 5 ∷ 6 ∷ 4 ∷ 0 ∷ 0 ∷ 1 ∷ 5 ∷ 6 ∷ 7 ∷ 6 ∷ 6 ∷ 0 ∷ 0
+    ∷ 1 ∷ 7 ∷ 8 ∷ 9 ∷ 6 ∷ 8 ∷ 0 ∷ 0 ∷ 1 ∷ 9 ∷ 10 ∷ 11 ∷ 6 ∷ 10 ∷ 0 ∷ 0 ∷ 1 ∷ 11 ∷ 0 ∷ 0 ∷ [])
+
+abbrev bestM : List ℕ
+bestM = 1 ∷ 1 ∷ 2 ∷ 1 ∷ 2 ∷ 1 ∷ 2 ∷ 1 ∷ 2 ∷ 1 ∷ 2 ∷ []
+
+-- the price is number n at place p, with these cents
+abbrev costs : Price → ℕ → ℕ → ℕ → Bool
+costs r n p cents = answers (r .answer) n p && eqb (r .cents) cents
+
+-- totals with the root page; fills rounded down, and full only at K; the judge's refusals; best is not cheapest
+pub priced : List Bool
+priced =
+    costs (pricePlan (treeE 5 1) bestE) 0 0 578
+    ∷ costs (pricePlan (treeE 5 1) (1 ∷ 1 ∷ 1 ∷ 0 ∷ 0 ∷ 1 ∷ [])) 0 0 925
+    ∷ sameList (fillOf 0 5 ∷ fillOf 1 1024 ∷ fillOf 68 1024 ∷ fillOf 69 1024 ∷ fillOf 1023 1024 ∷ fillOf 1024 1024 ∷ [])
+    (0 ∷ 0 ∷ 0 ∷ 1 ∷ 14 ∷ 15 ∷ [])
+    ∷ sameList (priceAt 0 ∷ priceAt 7 ∷ priceAt 8 ∷ priceAt 14 ∷ priceAt 15 ∷ []) (410 ∷ 340 ∷ 324 ∷ 196 ∷ 90 ∷ [])
+    ∷ costs (pricePlan (treeE 4 1) bestE) 7 1 0
+    ∷ costs (pricePlan (treeE 5 1) (replicate 5 0)) 8 6 0
+    ∷ costs (pricePlan (treeE 5 1) (1 ∷ 2 ∷ 0 ∷ 0 ∷ 0 ∷ 0 ∷ [])) 10 2 0
+    ∷ costs (pricePlan (treeE 5 1) (1 ∷ 0 ∷ 0 ∷ 0 ∷ 0 ∷ 0 ∷ [])) 11 1 0
+    ∷ ltb (pricePlan treeN (1 ∷ 1 ∷ 0 ∷ []) .cents) (pricePlan treeN bestN .cents)
+    ∷ []
+
+pub priced-hold : every computed priced ≡ true
+unfolding computed priced
+priced-hold = refl
+
+abbrev sameInt : ℤ → ℤ → Bool
+sameInt (pos a) (pos b) = eqb a b
+sameInt (pos a) (negsuc b) = false
+sameInt (negsuc a) (pos b) = false
+sameInt (negsuc a) (negsuc b) = eqb a b
+
+-- the saving accepts, with bytes of no meaning lent, leaves the marks m and cleared scratch, and gives z
+pub saves : List ℕ → List ℕ → ℤ → Bool
+saves t m z =
+    let words : ℕ = scratchWords (nodeCount t) (limitOf t) in
+    let out : Saved = saveBest t (replicate (nodeCount t) 9) (replicate words 7) in
+    answers (out .best .answer) 0 0 && sameList (out .best .marks) m
+    && sameList (out .best .scratch) (replicate words 0) && sameInt (out .saving) z
+
+-- above, below and at zero, with the marks of best; less for a plan with a page more; a planner's refusals, with the
+-- marks and no saving
+pub saved : List Bool
+saved =
+    let r = saveBest (treeE 5 1) (replicate 6 9) (replicate 191 7) in
+    saves (treeE 5 1) bestE (pos 347)
+    ∷ saves treeN bestN (negsuc 115)
+    ∷ saves treeA (1 ∷ []) (pos 0)
+    ∷ saves treeM bestM (negsuc 63)
+    ∷ plans planBest treeM bestM 6 7
+    ∷ plans planSingle treeM (1 ∷ 1 ∷ 1 ∷ 0 ∷ 1 ∷ 0 ∷ 1 ∷ 0 ∷ 1 ∷ 0 ∷ 1 ∷ []) 7 7
+    ∷ keeps (r .best .answer) (r .best .marks) (replicate 6 9) 9 192
+    ∷ sameInt (r .saving) (pos 0)
+    ∷ answers (saveBest (treeE 4 1) [] [] .best .answer) 7 1
+    ∷ answers (saveBest (treeE 5 1) [] [] .best .answer) 8 6
+    ∷ []
+
+pub saved-hold : every computed saved ≡ true
+unfolding computed saved saves plans
+saved-hold = refl
 
 -- ---- Sequences of sibling runs of E: its best plan's in any order, and those that do not hold it, or too heavy
 

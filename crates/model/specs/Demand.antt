@@ -1,11 +1,12 @@
 -- The demands in the words of their document, as the entries promise them beside their equations. Demand 3 speaks of
 -- sibling runs told from the tree alone: what the lowest plan there is means, of a planner's answer and marks and of
 -- an archive's bytes, and when a tree is refused for weight.
-use Prim.Native.Nat.{ℕ, _*_, _≤_, _<_}
+use Prim.Native.Nat.{ℕ, _+_, _*_, _≤_, _<_}
 use mathlib.Core.Path.{_≡_}
 use mathlib.Core.Bool.{true}
 use mathlib.Core.List.{List, [], _∷_}
 use mathlib.Core.Logic.{_↔_}
+use lib.IntN.{ℤ, pos, negℤ, _-ℤ_}
 use lib.ListN.{length}
 use Rattle.model.specs.Basics.{listTo}
 use Rattle.model.specs.Table.{Bytes, maxNodes, nodeCount, limitOf, labelAt}
@@ -13,10 +14,14 @@ use Rattle.model.specs.Plan.{pageCount, pageWeight}
 use Rattle.model.specs.Runs.{Run, holds, withinLimit, runCount, rootWeight, runsOf, pageRun}
 use Rattle.model.specs.Archive.{nodesIn, pagesIn, pageFieldIn, tableIn, marksIn, archiveBytes}
 use Rattle.model.specs.Sheets.{sheetLines, sheetBytes, sheetCount, perCent, numberIn, sheetNumber, lineNumber}
+use Rattle.model.specs.Prices.{fullFill, fillOf, totalCents}
 use Rattle.model.specs.Refusals.{scratchWords, acceptedTree, feasiblePlan, feasibleFilm, soundForm, answerOf}
 use Rattle.model.specs.Refusals.{refused, planBest, Written, writeArchive, writeFilm, readArchive, convertArchive}
+use Rattle.model.specs.Refusals.{planSingle, pricePlan}
 use Rattle.model.specs.declared.Answer.{Answer}
 use Rattle.model.specs.declared.Edition.{Edition}
+use Rattle.model.specs.declared.Price.{Price}
+use Rattle.model.specs.declared.Saving.{Saving}
 use Rattle.model.specs.declared.Verdict.the-variants.{Feasible}
 
 -- ---- The lowest there is
@@ -211,3 +216,35 @@ pub record PrintPromise (t m out : List ℕ) (r : Answer) (a : List ℕ) : Type 
       → (numberIn a s 1 7 6 ≡ pageCount t m) × (numberIn a s sheetLines 1 6 ≡ s)
   pub kept : (r .number ≡ 0 → ⊥) → a ≡ out
   pub weight : WeightPromise t r
+
+-- ---- The film maker's price
+
+-- What the price says, r, of the table t and the marks m. Every feasible plan has its price, with the judge's verdict:
+-- the sum over its pages, from 90 to 410 cents each. A page's fill has an entry among the prices, and the last exactly
+-- where the page weighs K. On refusal there are no cents, and 7 is exact.
+pub record PricePromise (t m : List ℕ) (r : Price) : Type 0 where
+  pub accepts : feasiblePlan t m ≡ true
+      → (r .answer ≡ answerOf (Feasible (pageCount t m) (pageWeight t m 1))) × (r .cents ≡ totalCents t m)
+  pub range : r .answer .number ≡ 0 → (90 * pageCount t m ≤ r .cents) × (r .cents ≤ 410 * pageCount t m)
+  pub fills : r .answer .number ≡ 0 → (p : ℕ) → 1 ≤ p → p ≤ pageCount t m
+      → (fillOf (pageWeight t m p) (limitOf t) ≤ fullFill)
+      × ((fillOf (pageWeight t m p) (limitOf t) ≡ fullFill) ↔ (pageWeight t m p ≡ limitOf t))
+  pub refuses : (r .answer .number ≡ 0 → ⊥) → r .cents ≡ 0
+  pub weight : WeightPromise t (r .answer)
+
+-- z is a less b, over the integers: exact above, at and below zero
+pub record Difference (a b : ℕ) (z : ℤ) : Type 0 where
+  pub exact : z ≡ pos a -ℤ pos b
+  pub above : (n : ℕ) → a ≡ b + n → z ≡ pos n
+  pub below : (n : ℕ) → b ≡ a + n → z ≡ negℤ (pos n)
+
+-- What the saving says, r, and the marks and the scratch that it leaves, where it was lent the table t, the marks m and
+-- the scratch s. It promises all that the best planner does. Where it accepts, it gives the price of the marks that the
+-- single planner leaves for this table, whatever else that one is lent, less the price of the marks that it leaves
+-- itself; nothing is said of which is higher. On refusal there is no saving.
+pub record SavingPromise (t m s : List ℕ) (r : Saving) (marks scratch : List ℕ) : Type 0 where
+  pub plan : PlanPromise t m s (r .answer) marks scratch
+  pub best : BestPromise t m s (r .answer) marks
+  pub saving : r .answer .number ≡ 0 → (lent words : List ℕ) → planSingle t lent words .answer .number ≡ 0
+      → Difference (pricePlan t (planSingle t lent words .marks) .cents) (pricePlan t marks .cents) (r .saving)
+  pub refuses : (r .answer .number ≡ 0 → ⊥) → r .saving ≡ pos 0

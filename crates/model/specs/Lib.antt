@@ -7,6 +7,7 @@ pub mod Steps
 pub mod Archive
 pub mod Decimal
 pub mod Sheets
+pub mod Prices
 pub mod Refusals
 pub mod Demand
 pub mod Cases

@@ -4,6 +4,7 @@
 use Prim.Native.Nat.{ℕ, _+_, _*_}
 use mathlib.Core.Bool.{Bool, true, false, not, _&&_, _||_}
 use mathlib.Core.List.{List, [], _∷_, _++_}
+use lib.IntN.{ℤ, pos}
 use lib.ListN.{length, replicate}
 use lib.Dec.{eqb, ltb, leb}
 use Rattle.model.specs.Basics.{pick, when, atPlace, firstTo, sameList}
@@ -13,6 +14,7 @@ use Rattle.model.specs.Plan.{badMark, heavyPage, pageCount, verdictOf}
 use Rattle.model.specs.Steps.{bestMarks, levelMarks, singleMarks, pairMarks, rightmostMarks, depthFirstMarks}
 use Rattle.model.specs.Archive.{archiveOf, archiveBytes, nodesIn, tableIn, marksIn}
 use Rattle.model.specs.Sheets.{sheetBytes, sheetCount, sheetsOf}
+use Rattle.model.specs.Prices.{totalCents, savingOf}
 use Rattle.model.specs.declared.Place.{Place}
 use Rattle.model.specs.declared.Cause.the-variants.{BadMark, HeavyPage}
 use Rattle.model.specs.declared.Verdict.{Verdict}
@@ -20,6 +22,7 @@ use Rattle.model.specs.declared.Verdict.the-variants.{Feasible, Failed}
 use Rattle.model.specs.declared.Beside.the-variants.{Given, Nothing}
 use Rattle.model.specs.declared.Answer.{Answer}
 use Rattle.model.specs.declared.Edition.{Edition}
+use Rattle.model.specs.declared.Price.{Price}
 
 -- ---- Answers
 
@@ -308,3 +311,16 @@ convertArchive e f a out =
 -- the printer of leader sheets
 unfoldable pub printSheets : List ℕ → List ℕ → List ℕ → Written
 printSheets t m out = writeChecked (printChecks t m out) (verdictOf t m) (sheetsOf t m) out
+
+-- the price of a plan: the judge's answer, and the total of a plan that it accepts
+unfoldable pub pricePlan : List ℕ → List ℕ → Price
+pricePlan t m = record { answer = judgePlan t m; cents = pick (feasiblePlan t m) (totalCents t m) 0 }
+
+-- the saving: all that the best planner gives and leaves, and the saving where nothing is refused
+pub record Saved : Type 0 where
+  pub best : Planned
+  pub saving : ℤ
+
+unfoldable pub saveBest : List ℕ → List ℕ → List ℕ → Saved
+saveBest t m s =
+    record { best = planBest t m s; saving = pick (passes (planChecks t m s)) (savingOf t) (pos 0) }

@@ -32,6 +32,19 @@ pub struct Answer {
     pub beside: Beside,
 }
 
+// What a plan costs: the judge's answer, and the plan's total in cents, 0 on refusal.
+pub struct Price {
+    pub answer: Answer,
+    pub cents: u32,
+}
+
+// What the best plan saves against the single-cut plan: the best planner's answer, and single total less best total in
+// cents, which can be below zero, 0 on refusal.
+pub struct Saving {
+    pub answer: Answer,
+    pub saving: i32,
+}
+
 // How an edition of the archive is laid out: how many words its head and each page record have, how many nodes it takes
 // at most, and whether its film is filed, with no label 0.
 pub struct Edition {
