@@ -52,6 +52,8 @@ pub mod ArchiveAnswers
 -- Leader sheets: their lines, and reading them by columns
 pub mod SheetLines
 pub mod SheetsRead
+-- Prices: fills, and totals
+pub mod PricePages
 -- Gains taken off: all planners; single and pair
 pub mod Reduce
 pub mod ReduceCount
@@ -77,3 +79,4 @@ pub mod ArchiveLowest
 pub mod PromiseArchive
 pub mod PromiseConvert
 pub mod PromiseSheets
+pub mod PromisePrice

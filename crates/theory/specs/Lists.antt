@@ -1,8 +1,9 @@
 -- Tests and counts over lists, and over the list of what is made of each of 1 to n that passes a test: which elements
 -- it has, and what is counted in it; and what stands in a list of numbers after a store. Defines Mem, From. Proves
--- every-all, all-every, countOf-one, chosen-from, chosen-mem, countOf-chosen; getD-set, zeros. Assumes nothing.
+-- every-all, all-every, every-at, countOf-one, chosen-from, chosen-mem, countOf-chosen; getD-set, zeros. Assumes nothing.
 use Prim.Native.Nat.{ℕ, zero, suc, _+_, _≤_, _<_}
 use native.Mathlib.Omega.{arith}
+use native.Mathlib.Nat.{le-of-suc-le-suc, not-suc-le-zero}
 use mathlib.Core.Bool.{Bool, true, false, _&&_, true≢false}
 use mathlib.Core.Path.{_≡_, refl, sym, _∙_, ap}
 use mathlib.Core.Logic.{_⊎_, inl, inr, ⊎-elim}
@@ -34,6 +35,12 @@ module _ {ℓ} {X : Type ℓ} (p : X → Bool) where
   unfolding every
   all-every [] h = refl
   all-every (y ∷ ys) h = rw (h y (List·Memᴰ·head refl)) (all-every ys (λ x m. h x (List·Memᴰ·tail m)))
+
+  pub every-at : (xs : List X) (d : X) (i : ℕ) → every p xs ≡ true → i < length xs → p (getD xs i d) ≡ true
+  unfolding every
+  every-at [] d i e h = absurd (not-suc-le-zero h)
+  every-at (y ∷ ys) d zero e h = both-true (p y) (every p ys) e .0
+  every-at (y ∷ ys) d (suc i) e h = every-at ys d i (both-true (p y) (every p ys) e .1) (le-of-suc-le-suc h)
 
   -- ---- Counts over a list
 

@@ -2,14 +2,15 @@
 -- feasible plan (plan-promise, best-plan), the best planner's plan is the lowest there is (best-promise), and so not
 -- above any feasible plan (best-not-above), a quick planner's among them (quick-promise).
 -- Proves lent-passes, passes-lent (right buffers are checks that pass), planned-done, planned-refused (what a planner
--- leaves), plan-passes (a planner that answers 0 was lent an accepted tree and right buffers). Assumes nothing.
+-- leaves), plan-passes, plan-fails (a planner answers 0 where it was lent an accepted tree and right buffers, and else
+-- not), planned-again (one planner after the other). Assumes nothing.
 use Prim.Native.Nat.{ℕ, _≤_}
 use mathlib.Core.Path.{_≡_, sym, ap, _∙_}
 use mathlib.Core.Bool.{true, false, not}
 use mathlib.Core.List.{List}
 use mathlib.Core.Logic.{_↔_, ⊎-elim}
 use native.Mathlib.Omega.{arith}
-use lib.ListN.{length, replicate}
+use lib.ListN.{length, replicate, length-replicate}
 use borrow.Author.Tests.{eqb-true, eq-eqb, ltb-false, le-ltb, not-false}
 use Rattle.model.specs.Table.{Chain, nodeCount, limitOf, treeOf}
 use Rattle.model.specs.Plan.{pageCount, pageWeight}
@@ -24,7 +25,7 @@ use Rattle.model.specs.declared.Answer.{Answer}
 use Rattle.model.specs.declared.Beside.the-variants.{Given}
 use Rattle.model.specs.declared.Verdict.the-variants.{Feasible}
 use Rattle.theory.specs.Ranges.{pick-true, pick-false, when-false, when-nowhere}
-use Rattle.theory.specs.Bools.{bool-cases}
+use Rattle.theory.specs.Bools.{bool-cases, never-true}
 use Rattle.theory.specs.Checks.{Pass, pass-all, passes-both, both-pass, firstOf-all, accepted-pass, plan-never}
 use Rattle.theory.specs.Checks.{lent-plain}
 use Rattle.theory.specs.TableFacts.{AcceptedFacts, accepted-facts}
@@ -95,12 +96,17 @@ module _ (steps : ℕ → Chain → List ℕ) (t m s : List ℕ) where
     made-judged : passes (planChecks t m s) ≡ true → Judged t made
     made-judged e = good (accepted-facts t (plan-parts t m s e .0))
 
-    made-feasible : passes (planChecks t m s) ≡ true → feasiblePlan t made ≡ true
+    pub made-feasible : passes (planChecks t m s) ≡ true → feasiblePlan t made ≡ true
     made-feasible e = judged-feasible (plan-parts t m s e .0) (made-judged e)
 
     done-answer : passes (planChecks t m s) ≡ true
         → planned steps t m s .answer ≡ answerOf (Feasible (pageCount t made) (pageWeight t made 1))
     done-answer e = ap (λ (p : Planned). p .answer) (planned-done e) ∙ feasible-judge t made (made-feasible e)
+
+    -- one that does not was not
+    pub plan-fails : (planned steps t m s .answer .number ≡ 0 → ⊥) → passes (planChecks t m s) ≡ false
+    plan-fails h =
+        never-true (passes (planChecks t m s)) (λ e. h (ap (λ (a : Answer). a .number) (done-answer e)))
 
     -- 7 is the tree reader's
     seven-same : (planned steps t m s .answer .number ≡ 7) ↔ (readTree t .number ≡ 7)
@@ -156,6 +162,29 @@ module _ (steps : ℕ → Chain → List ℕ) (t m s : List ℕ) where
           ap (λ (p : Planned). p .scratch)
               (planned-refused e),
         )
+
+-- ---- One planner after the other
+
+module _ (steps : ℕ → Chain → List ℕ) (t m s : List ℕ) (good : AcceptedFacts t → Judged t (steps (limitOf t) (treeOf t)))
+    (e : passes (planChecks t m s) ≡ true) where
+  -- a planner leaves what another is to be lent
+  left-lent : PlanLent t (steps (limitOf t) (treeOf t)) (replicate (length s) 0)
+  left-lent =
+      let lent = passes-lent t m s e in
+      record {
+        tree = lent .tree;
+        marks = made-judged steps t m s good e .long;
+        scratch = omega (arith, lent .scratch, length-replicate {A = ℕ} (length s) 0);
+      }
+
+  -- which goes on as if it had been lent the same
+  pub planned-again : (next : ℕ → Chain → List ℕ)
+      → planned next t (planned steps t m s .marks) (planned steps t m s .scratch) ≡ planned next t m s
+  planned-again next =
+      ap (λ (p : Planned). planned next t (p .marks) (p .scratch)) (planned-done steps t m s e)
+      ∙ (rw (length-replicate {A = ℕ} (length s) 0) at
+      (planned-done next t (steps (limitOf t) (treeOf t)) (replicate (length s) 0) (lent-passes t _ _ left-lent)))
+      ∙ sym (planned-done next t m s e)
 
 -- ---- The best planner
 

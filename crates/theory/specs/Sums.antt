@@ -1,4 +1,4 @@
--- Laws of sums of 1 to n beyond those of Ranges: a sum with one term, one term of a sum, a bound of all terms, the
+-- Laws of sums of 1 to n beyond those of Ranges: a sum with one term, one term of a sum, bounds of all terms, the
 -- terms of a choice. Assumes nothing.
 use Prim.Native.Nat.{ℕ, zero, suc, _+_, _*_, _≤_}
 use native.Mathlib.Omega.{arith}
@@ -58,4 +58,15 @@ sumTo-most (suc n) k f h =
       sumTo-suc n f,
       sumTo-most n k f (upto-less (λ v. f v ≤ k) n h),
       upto-last (λ v. f v ≤ k) n h,
+    )
+
+-- all terms are k at least
+pub sumTo-least : (n k : ℕ) (f : ℕ → ℕ) → Upto n (λ v. k ≤ f v) → n * k ≤ sumTo n f
+sumTo-least zero k f h = omega (arith, sumTo-zero f)
+sumTo-least (suc n) k f h =
+    omega (
+      arith,
+      sumTo-suc n f,
+      sumTo-least n k f (upto-less (λ v. k ≤ f v) n h),
+      upto-last (λ v. k ≤ f v) n h,
     )
