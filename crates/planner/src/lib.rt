@@ -19,7 +19,7 @@ ghost use Rattle.model.specs.Demand.{PlanPromise, BestPromise, QuickPromise};
 ghost use Rattle.planner.specs.Outcome.{outcome, stepsOf, PlanReady};
 
 // Whose steps make the plan.
-enum Planner {
+pub enum Planner {
     Best,
     Level,
     Single,
@@ -45,8 +45,8 @@ fn lay_steps(planner: Planner, table: &[u8], marks: &mut [u8], scratch: &mut [u3
 }
 
 // What every entry does: it refuses, or lays the plan, clears the scratch and goes on with the judge. Whatever the
-// planner, its plan is not below best's, as the quick ones promise.
-fn make_plan(planner: Planner, table: &[u8], marks: &mut [u8], scratch: &mut [u32]) -> Answer
+// planner, its plan is not below best's, as the quick ones promise. For whoever names the planner.
+pub fn make_plan(planner: Planner, table: &[u8], marks: &mut [u8], scratch: &mut [u32]) -> Answer
     ensures { λ r. ⌜ outcome r (now (marks .exit)) (now (scratch .exit))
         ≡ planned (stepsOf planner) (now (table .entry)) (now (marks .entry)) (now (scratch .entry)) ⌝ }
     ensures { λ r. ⌜ PlanPromise (now (table .entry)) (now (marks .entry)) (now (scratch .entry))

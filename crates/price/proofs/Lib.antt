@@ -1,0 +1,2 @@
+pub mod LayoutTotal
+pub mod SavedPlans

@@ -1,0 +1,2 @@
+-- What the contract of the saving cites.
+pub mod Saved
