@@ -1,5 +1,5 @@
 /* Plans case E, writes its archive, lists the pages off the archive's bytes, reads it back,
- * converts it to edition 2 and back, and prints the first lines of its leader sheet.
+ * converts it to edition 2 and back, prints the first lines of its leader sheet, and prices it.
  *
  *   gcc -std=c11 -Wall -Wextra -Werror -Iinclude examples/case_e.c -o case_e LIB/libembed.a
  *
@@ -35,11 +35,11 @@ static unsigned word(const uint8_t *archive, size_t index)
     return archive[2 * index] * 256u + archive[2 * index + 1];
 }
 
-static bool accepted(const char *step, balduqen_answer answer)
+static bool accepted(const char *step, uint32_t number, uint32_t place)
 {
-    if (answer.number != BALDUQEN_ACCEPTED)
-        printf("%s: refused %u at %u\n", step, (unsigned)answer.number, (unsigned)answer.place);
-    return answer.number == BALDUQEN_ACCEPTED;
+    if (number != BALDUQEN_ACCEPTED)
+        printf("%s: refused %u at %u\n", step, (unsigned)number, (unsigned)place);
+    return number == BALDUQEN_ACCEPTED;
 }
 
 static bool same_verdict(const char *step, balduqen_answer planned, unsigned pages, unsigned root)
@@ -76,7 +76,7 @@ static bool read_back(const uint8_t *archive, size_t length, const uint8_t *mark
     uint8_t marks_back[NODES] = {0};
     balduqen_answer read =
         balduqen_read_archive(archive, length, table_back, TABLE, marks_back, NODES);
-    if (!accepted("read", read))
+    if (!accepted("read", read.number, read.place))
         return false;
     bool same_table = same_bytes("table read", table, table_back, TABLE);
     bool same_marks = same_bytes("marks read", marks, marks_back, NODES);
@@ -91,7 +91,7 @@ static bool convert(const uint8_t *archive, size_t length, balduqen_answer plann
     uint8_t first[MOST_ARCHIVE] = {0};
     size_t second_length = BALDUQEN_ARCHIVE2_LENGTH(planned.pages, NODES);
     balduqen_answer there = balduqen_convert_to_2(archive, length, second, second_length);
-    if (!accepted("convert", there) ||
+    if (!accepted("convert", there.number, there.place) ||
         !same_verdict("convert", planned, there.pages, there.root))
         return false;
     printf("edition 2 begins with %u, nodes of each page:", word(second, 0));
@@ -99,7 +99,7 @@ static bool convert(const uint8_t *archive, size_t length, balduqen_answer plann
         printf(" %u", word(second, 4 + 5 * (page - 1) + 4));
     printf("\n");
     balduqen_answer back = balduqen_convert_to_1(second, second_length, first, length);
-    return accepted("convert back", back) &&
+    return accepted("convert back", back.number, back.place) &&
            same_bytes("archive converted", archive, first, length);
 }
 
@@ -109,11 +109,26 @@ static bool print_sheet(const uint8_t *marks, balduqen_answer planned)
     uint8_t sheets[MOST_SHEETS] = {0};
     size_t length = BALDUQEN_SHEETS_LENGTH(planned.pages);
     balduqen_answer printed = balduqen_print_sheets(table, TABLE, marks, NODES, sheets, length);
-    if (!accepted("print", printed) ||
+    if (!accepted("print", printed.number, printed.place) ||
         !same_verdict("print", planned, printed.pages, printed.root))
         return false;
     fwrite(sheets, LINE, 1 + planned.pages, stdout);
     return true;
+}
+
+/* What the plan costs, and what it saves against the plan that cuts single branches. The saving
+ * leaves the best plan in the marks, which is this one again. */
+static bool price(const uint8_t *marks)
+{
+    uint8_t best[NODES] = {0};
+    uint32_t scratch[SCRATCH] = {0};
+    balduqen_price_answer priced = balduqen_price(table, TABLE, marks, NODES);
+    balduqen_saving_answer saved = balduqen_saving(table, TABLE, best, NODES, scratch, SCRATCH);
+    if (!accepted("price", priced.number, priced.place) ||
+        !accepted("saving", saved.number, saved.place))
+        return false;
+    printf("price %u saving %d\n", (unsigned)priced.cents, (int)saved.saving);
+    return memcmp(marks, best, NODES) == 0;
 }
 
 static bool run(void)
@@ -121,20 +136,20 @@ static bool run(void)
     uint8_t marks[NODES] = {0};
     uint32_t scratch[SCRATCH] = {0};
     balduqen_answer planned = balduqen_plan_best(table, TABLE, marks, NODES, scratch, SCRATCH);
-    if (!accepted("plan", planned))
+    if (!accepted("plan", planned.number, planned.place))
         return false;
 
     uint8_t archive[MOST_ARCHIVE] = {0};
     size_t length = BALDUQEN_ARCHIVE_LENGTH(planned.pages, NODES);
     balduqen_answer written = balduqen_write_archive(table, TABLE, marks, NODES, archive, length);
-    if (!accepted("write", written) ||
+    if (!accepted("write", written.number, written.place) ||
         !same_verdict("write", planned, written.pages, written.root) ||
         !same_verdict("archive", planned, word(archive, 2), word(archive, 5)))
         return false;
 
     list_pages(archive);
     return read_back(archive, length, marks, planned) && convert(archive, length, planned) &&
-           print_sheet(marks, planned);
+           print_sheet(marks, planned) && price(marks);
 }
 
 int main(void)

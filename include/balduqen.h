@@ -1,6 +1,6 @@
 /* libembed.a: reads tree tables, plans how a tree is laid on pages, judges plans, writes and reads
- * the archive in two editions, converts film of one to the other, and prints plans as leader
- * sheets.
+ * the archive in two editions, converts film of one to the other, prints plans as leader sheets,
+ * and prices plans.
  *
  * What a caller must see to. A buffer is lent as a pointer and a length. The pointer is valid for
  * that many elements, aligned for them, and not null, also where the length is 0. A buffer that a
@@ -53,6 +53,15 @@
  *
  * Numbers are decimal, without zeros in front, and end in the last of their columns. All else is
  * blanks (byte 32), and so are the lines after the last page. examples/case_e.sheet is one.
+ *
+ * The price of a plan is the film maker's for all its pages. A page costs by its fill: 15 * weight
+ * / K, rounded down, which is 15 only where the page weighs K. For the fills 0 to 15, in cents:
+ *
+ *   410 405 398 390 380 368 355 340 324 306 287 266 244 221 196 90
+ *
+ * Fewest pages is not lowest price, and no planner seeks the lowest. With a root of weight 2, two
+ * children of weight 1 and K 3, balduqen_plan_best lays 2 on each of its two pages, which cost 574;
+ * balduqen_plan_single has as many pages, which weigh 3 and 1 and cost 458.
  */
 #ifndef BALDUQEN_H
 #define BALDUQEN_H
@@ -74,7 +83,8 @@ extern "C" {
 
 /* The bytes of stack that a call uses at most, on x86-64. As measured: balduqen_convert_to_1 and
  * balduqen_read_archive2 95 KiB, balduqen_convert_to_2 and balduqen_read_archive 66, the planners
- * 55, the archive's writers 41, balduqen_print_sheets 29, the judge 29, balduqen_read_tree 5. */
+ * and balduqen_saving 55, the archive's writers 41, balduqen_print_sheets, balduqen_price and the
+ * judge 29, balduqen_read_tree 5. */
 #define BALDUQEN_STACK 98304
 
 /* Buffer lengths: bytes of a table, 32-bit words of a planner's scratch, bytes of an archive of the
@@ -135,6 +145,18 @@ enum {
 typedef struct {
     uint32_t number, place, pages, root;
 } balduqen_answer;
+
+/* What a plan costs. Number and place are as in balduqen_answer; cents is 0 unless number is 0. */
+typedef struct {
+    uint32_t number, place, cents;
+} balduqen_price_answer;
+
+/* What a plan costs less than another, in cents: below 0 where it costs more, and 0 unless number
+ * is 0. */
+typedef struct {
+    uint32_t number, place;
+    int32_t saving;
+} balduqen_saving_answer;
 
 /* Whether the table holds a tree that can be planned. Refuses 1 to 4, 6, 7 and 14; 7 means that no
  * plan at all holds the tree. */
@@ -234,6 +256,18 @@ balduqen_answer balduqen_convert_to_1(const uint8_t *archive, size_t archive_len
 balduqen_answer balduqen_print_sheets(const uint8_t *table, size_t table_length,
                                       const uint8_t *marks, size_t marks_length,
                                       uint8_t *sheets, size_t sheets_length);
+
+/* The price of a plan: of any plan that the judge accepts, whoever made it. Refuses 1 to 4, 6 to 8,
+ * 10, 11 and 14, where the judge does. */
+balduqen_price_answer balduqen_price(const uint8_t *table, size_t table_length,
+                                     const uint8_t *marks, size_t marks_length);
+
+/* The price of balduqen_plan_single's plan less that of balduqen_plan_best's. The buffers are those
+ * of a planner, and are left as balduqen_plan_best leaves them: its plan in the marks, and every
+ * scratch word 0. Refuses 1 to 4, 6 to 9 and 14. */
+balduqen_saving_answer balduqen_saving(const uint8_t *table, size_t table_length,
+                                       uint8_t *marks, size_t marks_length,
+                                       uint32_t *scratch, size_t scratch_length);
 
 #ifdef __cplusplus
 }

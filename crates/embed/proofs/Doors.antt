@@ -11,14 +11,14 @@ use Rattle.embed.specs.Left.{FiguresOf, filled, filledBy, refilled, refi
 
 module _ {Promise : Answer → Type 0} {f : Figures} (r : Answer) (same : f ≡ figuresOf r) (promise : Promise r) where
   pub fills : {o : List ℕ} {w : Written} → record { answer = r; output = o } ≡ w
-      → (filled f o ≡ filledBy w) × FiguresOf Promise f
+      → (filled f o ≡ filledBy w) × FiguresOf figuresOf Promise f
   fills {o} is = (
     ap (λ (g : Figures). filled g o) same ∙ ap filledBy is,
     record { answer = r; figures = same; promise = promise },
   )
 
   pub refills : {t m : List ℕ} {x : Restored} → record { answer = r; table = t; marks = m } ≡ x
-      → (refilled f t m ≡ refilledBy x) × FiguresOf Promise f
+      → (refilled f t m ≡ refilledBy x) × FiguresOf figuresOf Promise f
   refills {t} {m} is = (
     ap (λ (g : Figures). refilled g t m) same ∙ ap refilledBy is,
     record { answer = r; figures = same; promise = promise },

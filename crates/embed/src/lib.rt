@@ -1,4 +1,5 @@
-// Doors for C and Rust: each entry of the library under a plain name, with its answer as four numbers.
+// Doors for C and Rust: each entry of the library under a plain name, with its answer as four numbers, or as three with
+// an amount.
 use model::Answer;
 use model::Beside;
 use model::Verdict;
@@ -6,10 +7,11 @@ ghost use mathlib.Core.Path.{_≡_};
 ghost use Rattle.model.specs.Archive.{firstEdition, secondEdition};
 ghost use Rattle.model.specs.Refusals.{readTree, judgePlan, planBest, planLevel, planSingle, planPair, writeArchive};
 ghost use Rattle.model.specs.Refusals.{planRightmost, planDepthFirst, readArchive, convertArchive, printSheets};
-ghost use Rattle.embed.specs.Figures.{figuresBy, figuresOf};
+ghost use Rattle.model.specs.Refusals.{pricePlan, saveBest};
+ghost use Rattle.embed.specs.Figures.{figuresBy, figuresOf, priceAnswer};
 ghost use Rattle.embed.specs.Left.{WeightFigures, left, leftBy, PlanFigures, BestFigures, QuickFigures};
 ghost use Rattle.embed.specs.Left.{filled, filledBy, WriteFigures, PrintFigures, refilled, refilledBy};
-ghost use Rattle.embed.specs.Left.{ReadFigures, ConvertFigures};
+ghost use Rattle.embed.specs.Left.{ReadFigures, ConvertFigures, PriceFigures, SavingFigures, savedBy};
 
 // A number and a place, and the verdict's page count and root weight, both 0 unless the number is 0.
 #[repr(C)]
@@ -18,6 +20,22 @@ pub struct Figures {
     pub place: u32,
     pub pages: u32,
     pub root: u32,
+}
+
+// A number and a place, and the cents of a plan, 0 unless the number is 0.
+#[repr(C)]
+pub struct PriceAnswer {
+    pub number: u32,
+    pub place: u32,
+    pub cents: u32,
+}
+
+// A number and a place, and the saving in cents, of either sign, 0 unless the number is 0.
+#[repr(C)]
+pub struct SavingAnswer {
+    pub number: u32,
+    pub place: u32,
+    pub saving: i32,
 }
 
 // Number and place with the figures of a verdict.
@@ -229,4 +247,38 @@ pub extern "C" fn balduqen_print_sheets(table: &[u8], marks: &[u8], out: &mut [u
         r (now (out .exit)) ⌝ }
 {
     flatten(sheets::print_sheets(table, marks, out))
+}
+
+#[no_mangle]
+pub extern "C" fn balduqen_price(table: &[u8], marks: &[u8]) -> PriceAnswer
+    ensures { λ r. ⌜ r ≡ priceAnswer (pricePlan (now (table .entry)) (now (marks .entry))) ⌝ }
+    ensures { λ r. ⌜ PriceFigures (now (table .entry)) (now (marks .entry)) r ⌝ }
+{
+    let priced = price::price(table, marks);
+    let answer = priced.answer;
+    PriceAnswer {
+        number: answer.number,
+        place: answer.place,
+        cents: priced.cents,
+    }
+}
+
+#[no_mangle]
+pub extern "C" fn balduqen_saving(
+    table: &[u8],
+    marks: &mut [u8],
+    scratch: &mut [u32],
+) -> SavingAnswer
+    ensures { λ r. ⌜ left r (now (marks .exit)) (now (scratch .exit))
+        ≡ savedBy (saveBest (now (table .entry)) (now (marks .entry)) (now (scratch .entry))) ⌝ }
+    ensures { λ r. ⌜ SavingFigures (now (table .entry)) (now (marks .entry)) (now (scratch .entry))
+        r (now (marks .exit)) (now (scratch .exit)) ⌝ }
+{
+    let saved = price::saving(table, marks, scratch);
+    let best = saved.answer;
+    SavingAnswer {
+        number: best.number,
+        place: best.place,
+        saving: saved.saving,
+    }
 }
