@@ -1,6 +1,6 @@
 //! Cases A to G of document 01, its examples of refusals, and what document 02 adds: one for refusal
 //! 14, the plans of request Two, those of trees with weights of 0, trees that are too long for the
-//! archive's first edition, and archives of edition 2.
+//! archive's first edition, archives of edition 2, and prices.
 
 use crate::ffi;
 use crate::gen::Table;
@@ -485,6 +485,145 @@ pub fn made() -> Vec<Made> {
         1,
     );
     add("page of a note", alone, &[DepthFirst], &[1, 1, 1, 1], 4, 1);
+    list
+}
+
+/// The marks of a plan, and what each of its pages costs in cents, in the order of their numbers.
+pub type PricedPlan = (&'static [u8], &'static [u32]);
+
+/// The best plan of a tree and the single-cut plan, and the saving of the one against the other.
+pub struct Priced {
+    pub name: &'static str,
+    pub table: Table,
+    pub best: PricedPlan,
+    pub single: PricedPlan,
+    pub saving: i32,
+}
+
+/// Root 2, children 1 1, K 3: best leaves both pages two thirds full, and single fills one of them.
+pub fn dear_best() -> Table {
+    Table::new(3, &[0, 1, 1], &[2, 1, 1])
+}
+
+/// A chain of eight nodes under limit 37. Four pages are the fewest, in one way only: they weigh
+/// 27, 27, 27 and 32. Of five pages three can be full, and they cost less.
+pub fn even_chain() -> Table {
+    let parents = [0, 1, 2, 3, 4, 5, 6, 7];
+    Table::new(37, &parents, &[1, 26, 11, 16, 21, 6, 31, 1])
+}
+
+/// A full root under limit 7 and its children, as in case E: four of the six have a child. Best
+/// lays the six in a run and cuts their children off, so that five pages weigh 6 each. Single has a
+/// page more, and four more that are full.
+pub fn even_run() -> Table {
+    let parents = [0, 1, 1, 3, 1, 5, 1, 7, 1, 9, 1];
+    Table::new(7, &parents, &[7, 1, 1, 6, 1, 6, 1, 6, 1, 6, 1])
+}
+
+/// What request Seven tells of case E, and prices that follow by hand from its list: savings below,
+/// at and above zero.
+pub fn priced() -> Vec<Priced> {
+    let mut list = vec![];
+    let mut add = |name, table, best: PricedPlan, single: PricedPlan, saving| {
+        list.push(Priced {
+            name,
+            table,
+            best,
+            single,
+            saving,
+        });
+    };
+    // 578 and 925.
+    add(
+        "E",
+        case_e(),
+        (&MARKS_OF_E, &[90, 244, 244]),
+        (&[1, 1, 1, 0, 0, 1], &[90, 355, 90, 390]),
+        347,
+    );
+    // One page.
+    let mut add_same = |name, table, plan: PricedPlan| add(name, table, plan, plan, 0);
+    add_same("A", case_a(), (&[1], &[90]));
+    add_same("a note alone", Table::new(1, &[0], &[0]), (&[1], &[410]));
+    add_same("C", case_c(), (&[1, 0, 0, 0], &[90]));
+    // Two pages, the same by both planners.
+    add_same("F", case_f(), (&[1, 1, 0], &[90, 266]));
+    add_same("G", case_g(), (&[1, 1, 0, 0, 0], &[90, 90]));
+    // As many pages: best has the lighter root page, and single has a full one.
+    add(
+        "dear best",
+        dear_best(),
+        (&[1, 1, 2], &[287, 287]),
+        (&[1, 1, 0], &[90, 368]),
+        -116,
+    );
+    add(
+        "D",
+        case_d(),
+        (&[1, 1, 2, 2], &[340, 266]),
+        (&[1, 1, 0, 0], &[90, 390]),
+        -126,
+    );
+    // Single has a page more, and costs less all the same.
+    add(
+        "even run",
+        even_run(),
+        (
+            &[1, 1, 2, 1, 2, 1, 2, 1, 2, 1, 2],
+            &[90, 244, 244, 244, 244, 244],
+        ),
+        (
+            &[1, 1, 1, 0, 1, 0, 1, 0, 1, 0, 1],
+            &[90, 398, 90, 90, 90, 90, 398],
+        ),
+        -64,
+    );
+    // Two plans at one price.
+    add(
+        "equal prices",
+        Table::new(2, &[0, 1, 1], &[1, 1, 1]),
+        (&[1, 1, 2], &[340, 90]),
+        (&[1, 1, 0], &[90, 340]),
+        0,
+    );
+    // As many pages, and here best has the full one.
+    add(
+        "lighter rest",
+        Table::new(3, &[0, 1, 1], &[1, 2, 1]),
+        (&[1, 1, 2], &[368, 90]),
+        (&[1, 1, 0], &[287, 287]),
+        116,
+    );
+    // Single has a page more.
+    add(
+        "equal runs",
+        Table::new(5, &[0, 1, 1, 1], &[5, 2, 2, 2]),
+        (&[1, 1, 2, 1], &[90, 244, 355]),
+        (&[1, 1, 1, 1], &[90, 355, 355, 355]),
+        466,
+    );
+    add(
+        "larger gain",
+        Table::new(10, &[0, 1, 2, 1, 4, 1], &[10, 1, 1, 1, 8, 2]),
+        (&[1, 1, 0, 2, 1, 2], &[90, 340, 244]),
+        (&[1, 1, 0, 1, 0, 1], &[90, 390, 221, 390]),
+        417,
+    );
+    add(
+        "note between",
+        note_between(),
+        (&[1, 1, 2, 2], &[90, 90]),
+        (&[1, 1, 0, 1], &[90, 340, 340]),
+        590,
+    );
+    // Two more.
+    add(
+        "notes at the ends",
+        notes_at_the_ends(),
+        (&[1, 1, 0, 2, 2, 2, 0], &[90, 90]),
+        (&[1, 1, 0, 0, 1, 1, 0], &[90, 368, 368, 368]),
+        1014,
+    );
     list
 }
 

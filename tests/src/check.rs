@@ -15,8 +15,12 @@ pub const RETIRED: u32 = 5;
 
 impl Seen {
     pub fn add(&mut self, answer: Answer) {
-        assert_ne!(answer.number, RETIRED);
-        *self.0.entry(answer.number).or_default() += 1;
+        self.add_number(answer.number);
+    }
+
+    pub fn add_number(&mut self, number: u32) {
+        assert_ne!(number, RETIRED);
+        *self.0.entry(number).or_default() += 1;
     }
 
     /// Each of these numbers came at least so many times, and no other came.

@@ -2,7 +2,7 @@
 
 use crate::cases::Kind;
 use crate::ffi;
-use crate::model::{self, Answer, Edition, Planner};
+use crate::model::{self, Answer, Edition, Planner, Price, Saving};
 
 /// An entry that judges a plan and fills a buffer: table, marks, output.
 pub type Writer = fn(&[u8], &[u8], &mut [u8]) -> Answer;
@@ -24,6 +24,10 @@ pub struct Entries {
     /// By edition.
     film: [Film; 2],
     pub print_sheets: Writer,
+    /// Table, marks.
+    pub price: fn(&[u8], &[u8]) -> Price,
+    /// Table, marks, scratch.
+    pub saving: fn(&[u8], &mut [u8], &mut [u32]) -> Saving,
 }
 
 impl Entries {
@@ -49,6 +53,8 @@ pub static MODEL: Entries = Entries {
         },
     ],
     print_sheets: model::print_sheets,
+    price: model::price,
+    saving: model::saving,
 };
 
 pub static LIBRARY: Entries = Entries {
@@ -68,4 +74,6 @@ pub static LIBRARY: Entries = Entries {
         },
     ],
     print_sheets: ffi::print_sheets,
+    price: ffi::price,
+    saving: ffi::saving,
 };

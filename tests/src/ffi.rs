@@ -2,7 +2,7 @@
 //! an empty Rust slice is a valid pointer to nothing. Each call hands over slices that live through
 //! it, which is what makes the unsafe blocks sound.
 
-use crate::model::Answer;
+use crate::model::{Answer, Price, Saving};
 
 pub fn read_tree(table: &[u8]) -> Answer {
     extern "C" {
@@ -11,21 +11,30 @@ pub fn read_tree(table: &[u8]) -> Answer {
     unsafe { balduqen_read_tree(table.as_ptr(), table.len()) }
 }
 
-pub fn judge(table: &[u8], marks: &[u8]) -> Answer {
-    extern "C" {
-        fn balduqen_judge(
-            table: *const u8,
-            table_length: usize,
-            marks: *const u8,
-            marks_length: usize,
-        ) -> Answer;
-    }
-    unsafe { balduqen_judge(table.as_ptr(), table.len(), marks.as_ptr(), marks.len()) }
+/// An entry that is lent a table and a plan, and fills nothing.
+macro_rules! judge {
+    ($name:ident, $entry:ident, $answer:ty) => {
+        pub fn $name(table: &[u8], marks: &[u8]) -> $answer {
+            extern "C" {
+                fn $entry(
+                    table: *const u8,
+                    table_length: usize,
+                    marks: *const u8,
+                    marks_length: usize,
+                ) -> $answer;
+            }
+            unsafe { $entry(table.as_ptr(), table.len(), marks.as_ptr(), marks.len()) }
+        }
+    };
 }
 
+judge!(judge, balduqen_judge, Answer);
+judge!(price, balduqen_price, Price);
+
+/// An entry with the buffers of a planner.
 macro_rules! planner {
-    ($name:ident, $entry:ident) => {
-        pub fn $name(table: &[u8], marks: &mut [u8], scratch: &mut [u32]) -> Answer {
+    ($name:ident, $entry:ident, $answer:ty) => {
+        pub fn $name(table: &[u8], marks: &mut [u8], scratch: &mut [u32]) -> $answer {
             extern "C" {
                 fn $entry(
                     table: *const u8,
@@ -34,7 +43,7 @@ macro_rules! planner {
                     marks_length: usize,
                     scratch: *mut u32,
                     scratch_length: usize,
-                ) -> Answer;
+                ) -> $answer;
             }
             let (table, table_length) = (table.as_ptr(), table.len());
             let (marks, marks_length) = (marks.as_mut_ptr(), marks.len());
@@ -53,12 +62,13 @@ macro_rules! planner {
     };
 }
 
-planner!(plan_single, balduqen_plan_single);
-planner!(plan_pair, balduqen_plan_pair);
-planner!(plan_level, balduqen_plan_level);
-planner!(plan_best, balduqen_plan_best);
-planner!(plan_rightmost, balduqen_plan_rightmost);
-planner!(plan_depth_first, balduqen_plan_depth_first);
+planner!(plan_single, balduqen_plan_single, Answer);
+planner!(plan_pair, balduqen_plan_pair, Answer);
+planner!(plan_level, balduqen_plan_level, Answer);
+planner!(plan_best, balduqen_plan_best, Answer);
+planner!(plan_rightmost, balduqen_plan_rightmost, Answer);
+planner!(plan_depth_first, balduqen_plan_depth_first, Answer);
+planner!(saving, balduqen_saving, Saving);
 
 /// An entry that judges a plan and fills a buffer.
 macro_rules! writer {

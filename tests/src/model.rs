@@ -1,4 +1,4 @@
-//! A model of document 01 with requests One to Six of document 02: every entry with its answers
+//! A model of document 01 with requests One to Seven of document 02: every entry with its answers
 //! and the buffers it leaves behind.
 //!
 //! It follows the documents' words closely and is not meant to be fast. The entries have the same
@@ -9,6 +9,7 @@ mod best;
 mod greedy;
 mod plan;
 mod planners;
+mod price;
 mod quick;
 mod sheets;
 mod tree;
@@ -21,6 +22,7 @@ pub use plan::{judge, pages, verdict, Page};
 pub use planners::{
     plan_best, plan_depth_first, plan_level, plan_pair, plan_rightmost, plan_single, scratch_length,
 };
+pub use price::{price, saving, Price, Saving};
 pub use sheets::{print_sheets, sheets_bytes, sheets_length};
 pub use tree::{read, read_as_before, read_sound, read_tree, word, Tree, MAX_LIMIT, MAX_NODES};
 

@@ -2,27 +2,30 @@
 //! up to 2,048 nodes, and those of the archive's first edition up to 1,024, that a tree of sound form
 //! is refused with 7 exactly where no set of sibling runs holds it within the limit, that a label 0
 //! is refused with 14 by all but the archive's readers, of which the first edition's opens film with
-//! it as before and the second's finds none, that a weight of 0 is taken by all, at any node, and
-//! that film of either edition is converted as it is.
+//! it as before and the second's finds none, that a weight of 0 is taken by all, at any node, that
+//! film of either edition is converted as it is, and that a plan costs what the film maker's price
+//! list says of its pages.
 
 use balduqen_tests::cases::{
-    archive_of_note_between, case_e, film_of_e, long_case_e, made, note_between,
-    once_refused_tables, Kind, KINDS, MARKS_OF_E,
+    archive_of_note_between, case_e, dear_best, even_chain, even_run, film_of_e, long_case_e, made,
+    note_between, once_refused_tables, priced, Kind, KINDS, MARKS_OF_E,
 };
 use balduqen_tests::check::{first_unfiled, show, with_copy, Lent, Seen, RETIRED};
 use balduqen_tests::entries::{Entries, Writer, LIBRARY, MODEL};
 use balduqen_tests::exhaustive::{
-    best_of_run_sets, for_each_table_and_best, page_sizes, page_weights, Score,
+    best_of_run_sets, for_each_plan, for_each_table_and_best, page_sizes, page_weights, Score,
 };
 use balduqen_tests::film::set_word;
 use balduqen_tests::gen::*;
 use balduqen_tests::kept::{by_hand, kept, kept_filed};
 use balduqen_tests::model::{
-    read, read_sound, scratch_length, sheets_length, word, Answer, Edition, ARCHIVE_NODES,
-    EDITIONS, FIRST, MAX_LIMIT, MAX_NODES, SECOND,
+    read, read_sound, scratch_length, sheets_length, word, Answer, Edition, Price, Saving,
+    ARCHIVE_NODES, EDITIONS, FIRST, MAX_LIMIT, MAX_NODES, SECOND,
 };
+use balduqen_tests::price_list::{cents_of_page, cents_of_pages, cheapest_by_pages, PRICE_LIST};
 use balduqen_tests::rule_sheet::rebuild;
 use balduqen_tests::sheet_reader::read_sheets;
+use std::collections::{BTreeMap, BTreeSet};
 use std::io::Write;
 use std::process::{Command, Stdio};
 
@@ -37,6 +40,8 @@ struct Asked {
     /// By edition.
     write: [Answer; 2],
     print_sheets: Answer,
+    price: Price,
+    saving: Saving,
 }
 
 /// The lengths of the buffers that the entries fill, marks apart: words of a scratch, bytes of an
@@ -83,22 +88,26 @@ impl Asked {
                 fill(entries.film(edition).write, table, plan, length)
             }),
             print_sheets: fill(entries.print_sheets, table, plan, lengths.sheets),
+            price: price(entries, table, plan),
+            saving: saving(entries, table, marks, lengths.scratch),
         }
     }
 
+    /// Of prices and savings, number and place.
     fn all(&self) -> Vec<Answer> {
         let [first, second] = self.write;
         let of_plan = [self.judge, first, second, self.print_sheets];
-        [&[self.read_tree][..], &of_plan, &self.planners].concat()
+        let of_cents = [self.price.answer(), self.saving.answer()];
+        [&[self.read_tree][..], &of_plan, &self.planners, &of_cents].concat()
     }
 
     fn expect_refused(&self, table: &[u8], number: u32, place: usize) {
         let refusal = Answer::refused(number, place);
-        assert_eq!(self.all(), [refusal; 5 + KINDS.len()], "{}", show(table));
+        assert_eq!(self.all(), [refusal; 7 + KINDS.len()], "{}", show(table));
     }
 
-    /// The verdicts of the planners are not looked at. The archive's first edition has no more than
-    /// 1,024 nodes.
+    /// The verdicts of the planners and the saving are not looked at. The archive's first edition
+    /// has no more than 1,024 nodes.
     fn expect_accepted(&self, table: &[u8]) {
         let count = word(table, 0);
         let of_ones = Answer::accepted(count, word(table, 2) as u32);
@@ -110,8 +119,10 @@ impl Asked {
         assert_eq!(self.judge, of_ones, "{}", show(table));
         assert_eq!(self.write, [written, of_ones], "{}", show(table));
         assert_eq!(self.print_sheets, of_ones, "{}", show(table));
+        assert_eq!(self.price, price_of_ones(table), "{}", show(table));
         let planned = self.planners.iter().all(Answer::is_accepted);
         assert!(planned, "{:?}: {}", self.planners, show(table));
+        assert_eq!(self.saving.answer(), Answer::ACCEPTED, "{}", show(table));
     }
 }
 
@@ -127,6 +138,36 @@ fn make_plan(entries: &Entries, kind: Kind, table: &[u8], marks: usize, scratch:
     assert!(marks.content().iter().all(|&mark| (mark == 7) == kept));
     assert!(scratch.content().iter().all(|&word| (word == 7) == kept));
     answer
+}
+
+/// What a plan with a page for each node of a good table costs by the price list.
+fn price_of_ones(table: &[u8]) -> Price {
+    let weights = table[4..].chunks(8).map(|record| word(record, 0) as u32);
+    let weights: Vec<u32> = weights.collect();
+    Price::accepted(cents_of_pages(&weights, word(table, 1) as u32))
+}
+
+/// What a plan costs; nothing, where it is refused.
+fn price(entries: &Entries, table: &[u8], plan: &[u8]) -> Price {
+    let price = with_copy(table, |table| {
+        with_copy(plan, |plan| (entries.price)(table, plan))
+    });
+    assert_eq!(price.cents == 0, price.number != 0, "{price:?}");
+    price
+}
+
+/// What the best plan saves, with the buffers of a planner.
+fn saving(entries: &Entries, table: &[u8], marks: usize, scratch: usize) -> Saving {
+    let mut marks = Lent::new(&vec![7; marks], 0xa5);
+    let mut scratch = Lent::new(&vec![7; scratch], 0xa5a5_a5a5);
+    let saving = with_copy(table, |table| {
+        (entries.saving)(table, marks.slice(), scratch.slice())
+    });
+    let kept = saving.number != 0;
+    assert!(marks.content().iter().all(|&mark| (mark == 7) == kept));
+    assert!(scratch.content().iter().all(|&word| (word == 7) == kept));
+    assert!(!kept || saving.saving == 0, "{saving:?}");
+    saving
 }
 
 /// What a writer of the archive or the printer of sheets answers.
@@ -297,7 +338,7 @@ fn long_trees_in_all_lengths(entries: &Entries) {
             let asked = Asked::with(entries, &table, &vec![1; length], &right);
             assert_eq!(asked.read_tree, Answer::ACCEPTED);
             let refusal = Answer::refused(8, count);
-            assert_eq!(asked.all()[1..], [refusal; 4 + KINDS.len()]);
+            assert_eq!(asked.all()[1..], [refusal; 6 + KINDS.len()]);
         }
         for scratch in other_lengths(right.scratch) {
             let refusal = Answer::refused(9, right.scratch);
@@ -307,6 +348,12 @@ fn long_trees_in_all_lengths(entries: &Entries) {
                 assert_eq!(answer == refusal, is_short, "{kind:?} {answer:?}");
                 assert_eq!(answer.is_accepted(), !is_short, "{kind:?} {answer:?}");
             }
+            let saving = saving(entries, &table, count, scratch).answer();
+            let expected = match scratch < right.scratch {
+                true => refusal,
+                false => Answer::ACCEPTED,
+            };
+            assert_eq!(saving, expected);
         }
         for edition in EDITIONS {
             let right = right.archives[edition.number - 1];
@@ -475,8 +522,8 @@ fn fifteen_in_its_order(entries: &Entries) {
     }
 }
 
-/// Every planner takes exactly the 8,413,184 words that the most nodes ask for under the highest
-/// limit, and no fewer.
+/// Every planner, and the saving, takes exactly the 8,413,184 words that the most nodes ask for
+/// under the highest limit, and no fewer.
 fn longest_scratch(entries: &Entries) {
     let parents = random_parents(&mut Random::new(1109), Form::Deep, 2048);
     let weights: Vec<u16> = (0..2048).map(|node| 1024 - node % 700).collect();
@@ -489,6 +536,10 @@ fn longest_scratch(entries: &Entries) {
             assert_eq!(answer, Answer::refused(9, 8_413_184), "{kind:?}");
         }
     }
+    let answer = saving(entries, &table, 2048, 8_413_184).answer();
+    assert_eq!(answer, Answer::ACCEPTED);
+    let refusal = saving(entries, &table, 2048, 8_413_183);
+    assert_eq!(refusal, Saving::refused(9, 8_413_184));
 }
 
 /// The heaviest pages that marks can ask for. Sums of 16 bits would find 0 or 1,024 for some.
@@ -767,10 +818,14 @@ fn five_is_never_given(entries: &Entries) {
 }
 
 /// A tree and a plan: the judge, the writer and the printer give this verdict, the page records and
-/// the sheets have these weights, and the reader and the rule sheet get table and marks back.
+/// the sheets have these weights, the price is that of these weights, and the reader and the rule
+/// sheet get table and marks back.
 fn on_film(entries: &Entries, table: &[u8], marks: &[u8], weights: &[usize]) {
     on_archive(entries, table, marks, weights);
     on_sheets(entries, table, marks, weights);
+    let weights: Vec<u32> = weights.iter().map(|&weight| weight as u32).collect();
+    let cents = cents_of_pages(&weights, word(table, 1) as u32);
+    assert_eq!(price(entries, table, marks), Price::accepted(cents));
 }
 
 /// In both editions, and from the one to the other; with more than 1,024 nodes in the second.
@@ -828,7 +883,8 @@ fn on_sheets(entries: &Entries, table: &[u8], marks: &[u8], weights: &[usize]) {
     assert!(per_cents.eq(weights.iter().map(|weight| 100 * weight / limit)));
 }
 
-/// The judge, the writer and the printer find a page over the limit, and nothing is written.
+/// The judge, the writer, the printer and the price find a page over the limit, and nothing is
+/// written.
 fn heavy_on_film(entries: &Entries, table: &[u8], marks: &[u8], page: usize) {
     let refusal = Answer::refused(11, page);
     assert_eq!((entries.judge)(table, marks), refusal, "{}", show(table));
@@ -839,6 +895,7 @@ fn heavy_on_film(entries: &Entries, table: &[u8], marks: &[u8], page: usize) {
     }
     let answer = fill(entries.print_sheets, table, marks, sheets_length(2));
     assert_eq!(answer, refusal, "{}", show(table));
+    assert_eq!(price(entries, table, marks), Price::refused(11, page));
 }
 
 /// The film of a run with a note in it, word by word.
@@ -987,7 +1044,7 @@ fn plans_on_film(entries: &Entries) {
             (weights.len(), weights[0]),
             (made.pages, made.root as usize)
         );
-        on_archive(entries, &made.table.bytes(), &made.marks, &weights);
+        on_film(entries, &made.table.bytes(), &made.marks, &weights);
     }
 }
 
@@ -1023,6 +1080,185 @@ fn best_plans_on_film(entries: &Entries) {
     for_each_table_and_best(6..=6, &[0, 1, 2], &[2, 3], &mut check);
 }
 
+/// The plans and prices that are told by hand: case E's are 578, 925 and 347.
+fn prices_by_hand(entries: &Entries) {
+    for priced in priced() {
+        let table = priced.table.bytes();
+        let [best, single] = [priced.best, priced.single].map(|(marks, cents)| {
+            let total: u32 = cents.iter().sum();
+            let price = price(entries, &table, marks);
+            assert_eq!(price, Price::accepted(total), "{}", priced.name);
+            total as i32
+        });
+        assert_eq!(single - best, priced.saving, "{}", priced.name);
+        let (count, limit) = (word(&table, 0), word(&table, 1));
+        let mut marks = vec![7; count];
+        let mut scratch = vec![7; scratch_length(count, limit) + 3];
+        let saving = (entries.saving)(&table, &mut marks, &mut scratch);
+        assert_eq!(saving, Saving::accepted(priced.saving), "{}", priced.name);
+        assert_eq!(marks, priced.best.0, "{}", priced.name);
+        assert!(scratch.iter().all(|&word| word == 0), "{}", priced.name);
+    }
+    let table = case_e().bytes();
+    let single = [1, 1, 1, 0, 0, 1];
+    assert_eq!(price(entries, &table, &MARKS_OF_E), Price::accepted(578));
+    assert_eq!(price(entries, &table, &single), Price::accepted(925));
+    assert_eq!(saving(entries, &table, 6, 192), Saving::accepted(347));
+}
+
+/// Each weight under each limit, by itself on a page: every line of the price list is reached, and
+/// the last by a weight that is the limit, and by no other.
+fn cents_of_every_fill(entries: &Entries) {
+    let mut met = BTreeSet::new();
+    for limit in 1..=1024 {
+        for weight in 0..=limit {
+            let table = Table::new(limit, &[0], &[weight]).bytes();
+            let price = (entries.price)(&table, &[1]);
+            let cents = cents_of_page(weight.into(), limit.into());
+            assert_eq!(price, Price::accepted(cents), "{weight} of {limit}");
+            assert_eq!(price.cents == 90, weight == limit, "{weight} of {limit}");
+            met.insert(price.cents);
+        }
+    }
+    // The list falls from line to line.
+    let cents = PRICE_LIST.map(|(_, cents)| cents);
+    assert!(met.into_iter().rev().eq(cents));
+}
+
+/// As many pages as nodes, all of one weight: up to the most that a plan can cost.
+fn totals_of_many_pages(entries: &Entries) {
+    let random = &mut Random::new(1112);
+    for (form, count) in forms_with(&[1, 2, 3, 160, 1024, 1025, 2047, 2048]) {
+        let parents = random_parents(random, form, count);
+        for (limit, weight, cents) in [
+            (1, 0, 410),
+            (1, 1, 90),
+            (2, 1, 340),
+            (1024, 0, 410),
+            (1024, 68, 410),
+            (1024, 69, 405),
+            (1024, 1023, 196),
+            (1024, 1024, 90),
+        ] {
+            let table = Table::new(limit, &parents, &vec![weight; count]).bytes();
+            let expected = Price::accepted(count as u32 * cents);
+            assert_eq!(price(entries, &table, &vec![1; count]), expected);
+        }
+    }
+    let parents = [&[0][..], &[1; 2047]].concat();
+    for (weight, total) in [(0, 839_680), (7, 184_320)] {
+        let table = Table::new(7, &parents, &[weight; 2048]).bytes();
+        let price = price(entries, &table, &[1; 2048]);
+        assert_eq!(price, Price::accepted(total));
+    }
+}
+
+/// One page that is full among pages that weigh nothing, and the other way round: at each place in
+/// turn, the root page and the last one among them.
+fn every_page_counts(entries: &Entries) {
+    let random = &mut Random::new(1113);
+    for form in FORMS {
+        let parents = random_parents(random, form, 60);
+        for place in 0..60 {
+            for (one, others, total) in [(9, 0, 59 * 410 + 90), (0, 9, 59 * 90 + 410)] {
+                let mut weights = [others; 60];
+                weights[place] = one;
+                let table = Table::new(9, &parents, &weights).bytes();
+                let price = price(entries, &table, &[1; 60]);
+                assert_eq!(price, Price::accepted(total), "{form:?} {place}");
+            }
+        }
+    }
+}
+
+/// Plans of one page, of any number of nodes: by the weight of all of them.
+fn totals_of_one_page(entries: &Entries) {
+    let random = &mut Random::new(1114);
+    for (form, count) in forms_with(&[1, 2, 15, 300, 1024, 2048]) {
+        let parents = random_parents(random, form, count);
+        let mut one_page = vec![0; count];
+        one_page[0] = 1;
+        for weight in [0, 1, 68, 69, 136, 137, 512, 955, 956, 1023, 1024] {
+            // The weight is spread over some of the nodes.
+            let mut weights = vec![0; count];
+            let mut left = weight;
+            while left > 0 {
+                let part = random.between(1, left.into()) as u16;
+                weights[random.between(0, count - 1)] += part;
+                left -= part;
+            }
+            let table = Table::new(1024, &parents, &weights).bytes();
+            let expected = Price::accepted(cents_of_page(weight.into(), 1024));
+            assert_eq!(price(entries, &table, &one_page), expected);
+        }
+    }
+}
+
+/// Below a full root, 682 of the trees whose best plan costs 116 cents more than the single-cut
+/// plan, and 2,047 nodes that single cuts one by one where best has two runs: more on either side
+/// of zero than 16 bits hold.
+fn savings_of_many_pages(entries: &Entries) {
+    let (mut parents, mut weights) = (vec![0], vec![3]);
+    for _ in 0..682 {
+        let top = parents.len() + 1;
+        parents.extend([1, top, top]);
+        weights.extend([2, 1, 1]);
+    }
+    let table = Table::new(3, &parents, &weights).bytes();
+    let dear = saving(entries, &table, 2047, scratch_length(2047, 3));
+    assert_eq!(dear, Saving::accepted(-79_112));
+
+    let parents = [&[0][..], &[1; 2047]].concat();
+    let weights = [&[1024][..], &[1; 2047]].concat();
+    let table = Table::new(1024, &parents, &weights).bytes();
+    let saved = saving(entries, &table, 2048, scratch_length(2048, 1024));
+    // 90 and 2,047 times 410, less 90, 90 and 196.
+    assert_eq!(saved, Saving::accepted(838_984));
+}
+
+/// For each number of pages, the least that a plan costs: all plans are priced.
+fn cheapest(entries: &Entries, table: &[u8]) -> BTreeMap<usize, u32> {
+    let tree = read(table).expect("an accepted table");
+    let mut cheapest = BTreeMap::new();
+    for_each_plan(&tree, |marks| {
+        let price = price(entries, table, marks);
+        if price.number == 0 {
+            let pages = marks.iter().filter(|&&mark| mark == 1).count();
+            let least = cheapest.entry(pages).or_insert(price.cents);
+            *least = price.cents.min(*least);
+        }
+    });
+    assert_eq!(cheapest, cheapest_by_pages(&tree), "{}", show(table));
+    cheapest
+}
+
+/// What the best plan of a tree costs, and its page count.
+fn best_price(entries: &Entries, table: &[u8]) -> (usize, u32) {
+    let (count, limit) = (word(table, 0), word(table, 1));
+    let mut marks = vec![7; count];
+    let mut scratch = vec![7; scratch_length(count, limit)];
+    let answer = (entries.planner)(Kind::Best)(table, &mut marks, &mut scratch);
+    (answer.pages as usize, price(entries, table, &marks).cents)
+}
+
+/// Fewest pages is not lowest price: another plan with the fewest pages costs less, or one with
+/// more pages costs less than each of these.
+fn best_is_not_cheapest(entries: &Entries) {
+    let table = dear_best().bytes();
+    assert_eq!(best_price(entries, &table), (2, 574));
+    let expected = BTreeMap::from([(2, 458), (3, 1023)]);
+    assert_eq!(cheapest(entries, &table), expected);
+    for (table, pages, fewest, more) in [(even_chain(), 4, 1105, 1090), (even_run(), 6, 1310, 1246)]
+    {
+        let table = table.bytes();
+        assert_eq!(best_price(entries, &table), (pages, fewest));
+        let cheapest = cheapest(entries, &table);
+        assert_eq!(cheapest.first_key_value(), Some((&pages, &fewest)));
+        assert_eq!(cheapest[&(pages + 1)], more);
+        assert_eq!(cheapest.values().min(), Some(&more));
+    }
+}
+
 /// The header has a name for each number and a line for each but 0, in rising order; 5 is retired
 /// and has neither.
 #[test]
@@ -1044,16 +1280,25 @@ fn numbers_of_the_header() {
     assert!(HEADER.contains(&format!("Number {RETIRED} is retired and never given")));
 }
 
-/// The header declares the fifteen doors, each once.
+/// The header has the price list, as the request gives it.
+#[test]
+fn prices_of_the_header() {
+    let mut lines = HEADER.lines().map(|line| line.trim_start_matches(" *"));
+    lines.find(|line| line.ends_with("For the fills 0 to 15, in cents:"));
+    let list = lines.find(|line| !line.is_empty()).expect("a price list");
+    let cents: Vec<&str> = list.split_whitespace().collect();
+    assert_eq!(cents, PRICE_LIST.map(|(_, cents)| cents.to_string()));
+}
+
+/// The header declares the seventeen doors, each once.
 #[test]
 fn functions_of_the_header() {
     let declared: Vec<&str> = HEADER
         .lines()
         .filter_map(|line| {
-            line.strip_prefix("balduqen_answer balduqen_")?
-                .split_once('(')
+            let (_, named) = line.split_once("answer balduqen_")?;
+            Some(named.split_once('(')?.0)
         })
-        .map(|(name, _)| name)
         .collect();
     let doors = [
         "read_tree",
@@ -1071,6 +1316,8 @@ fn functions_of_the_header() {
         "convert_to_2",
         "convert_to_1",
         "print_sheets",
+        "price",
+        "saving",
     ];
     assert_eq!(declared, doors);
 }
@@ -1136,10 +1383,14 @@ fn lengths_of_the_header() {
 fn declarations_of_the_header() {
     let (read, filled, scratch) = ("const uint8_t *", "uint8_t *", "uint32_t *");
     let mut again = String::new();
-    let mut declare = |name: &str, buffers: &[&str]| {
+    let mut declare_as = |answer: &str, name: &str, buffers: &[&str]| {
         let list = buffers.join(", size_t, ");
-        again += &format!("balduqen_answer balduqen_{name}({list}, size_t);\n");
+        again += &format!("{answer} balduqen_{name}({list}, size_t);\n");
     };
+    declare_as("balduqen_price_answer", "price", &[read, read]);
+    let buffers = [read, filled, scratch];
+    declare_as("balduqen_saving_answer", "saving", &buffers);
+    let mut declare = |name: &str, buffers: &[&str]| declare_as("balduqen_answer", name, buffers);
     declare("read_tree", &[read]);
     declare("judge", &[read, read]);
     for kind in [
@@ -1150,7 +1401,7 @@ fn declarations_of_the_header() {
         "rightmost",
         "depth_first",
     ] {
-        declare(&format!("plan_{kind}"), &[read, filled, scratch]);
+        declare(&format!("plan_{kind}"), &buffers);
     }
     for edition in ["", "2"] {
         declare(&format!("write_archive{edition}"), &[read, read, filled]);
@@ -1160,6 +1411,23 @@ fn declarations_of_the_header() {
     declare("convert_to_1", &[read, filled]);
     declare("print_sheets", &[read, read, filled]);
     again += "_Static_assert(sizeof(balduqen_answer) == 16, \"four words\");\n";
+    for (kind, field, word) in [
+        ("price", "cents", "uint32_t"),
+        ("saving", "saving", "int32_t"),
+    ] {
+        let answer = format!("balduqen_{kind}_answer");
+        again += &format!("_Static_assert(sizeof({answer}) == 12, \"three words\");\n");
+        for (offset, name, word) in [
+            (0, "number", "uint32_t"),
+            (4, "place", "uint32_t"),
+            (8, field, word),
+        ] {
+            again += &format!(
+                "_Static_assert(offsetof({answer}, {name}) == {offset} && \
+                 _Generic((({answer} *)0)->{name}, {word}: 1, default: 0), \"{name}\");\n"
+            );
+        }
+    }
     compile(&again);
 }
 
@@ -1187,6 +1455,8 @@ macro_rules! tests_of_entries {
             notes_only kept_film_is_written_again long_trees_in_all_lengths
             long_film_in_all_lengths fifteen_in_its_order longest_scratch heaviest_pages
             conversions_in_all_lengths film_by_hand plans_on_film best_plans_on_film
+            prices_by_hand cents_of_every_fill totals_of_many_pages every_page_counts
+            totals_of_one_page savings_of_many_pages best_is_not_cheapest
         );
     };
 }

@@ -11,8 +11,8 @@ use balduqen_tests::gen::*;
 use balduqen_tests::guarded::{Guarded, Side, SIDES};
 use balduqen_tests::kept::{kept, kept_filed};
 use balduqen_tests::model::{
-    self, read, scratch_length, sheets_length, word, Answer, Edition, ARCHIVE_NODES, EDITIONS,
-    FIRST, MAX_NODES,
+    self, read, scratch_length, sheets_length, word, Answer, Edition, Saving, ARCHIVE_NODES,
+    EDITIONS, FIRST, MAX_NODES,
 };
 use balduqen_tests::tests_of_editions;
 use std::env;
@@ -40,6 +40,16 @@ fn judge(table: &[u8], marks: &[u8]) -> Answer {
     expected
 }
 
+fn price(table: &[u8], marks: &[u8]) {
+    let expected = model::price(table, marks);
+    for side in SIDES {
+        let table = Guarded::read_only(table, side);
+        let marks = Guarded::read_only(marks, side);
+        let price = ffi::price(table.content(), marks.content());
+        assert_eq!(price, expected, "{}", show(table.content()));
+    }
+}
+
 /// The buffers hold these on entry, here and below.
 fn plan(kind: Kind, table: &[u8], marks: &[u8], scratch: &[u32]) -> Answer {
     let (mut model_marks, mut model_scratch) = (marks.to_vec(), scratch.to_vec());
@@ -55,10 +65,26 @@ fn plan(kind: Kind, table: &[u8], marks: &[u8], scratch: &[u32]) -> Answer {
     expected
 }
 
+fn saving(table: &[u8], marks: &[u8], scratch: &[u32]) -> Saving {
+    let (mut model_marks, mut model_scratch) = (marks.to_vec(), scratch.to_vec());
+    let expected = model::saving(table, &mut model_marks, &mut model_scratch);
+    for side in SIDES {
+        let table = Guarded::read_only(table, side);
+        let mut marks = Guarded::new(marks, side);
+        let mut scratch = Guarded::new(scratch, side);
+        let saving = ffi::saving(table.content(), marks.slice(), scratch.slice());
+        assert_eq!(saving, expected, "{}", show(table.content()));
+        assert!(marks.content() == model_marks && scratch.content() == model_scratch);
+    }
+    expected
+}
+
+/// Hands these to each planner, and to the saving, which takes the same buffers.
 fn plan_of_each_kind(table: &[u8], marks: &[u8], scratch: &[u32]) {
     for kind in KINDS {
         plan(kind, table, marks, scratch);
     }
+    saving(table, marks, scratch);
 }
 
 fn write_archive(edition: Edition, table: &[u8], marks: &[u8], archive: &[u8]) -> Answer {
@@ -123,6 +149,7 @@ fn convert(edition: Edition, archive: &[u8], out: &[u8]) -> Answer {
 /// many nodes and that limit. Gives the tree reader's answer.
 fn hand_to_all(table: &[u8], marks: &[u8], limit: usize) -> Answer {
     let verdict = judge(table, marks);
+    price(table, marks);
     plan_of_each_kind(table, marks, &vec![7; scratch_length(marks.len(), limit)]);
     let pages = verdict.pages as usize;
     for edition in EDITIONS {
@@ -153,6 +180,7 @@ fn hand_in_all_lengths(table: &[u8], marks: &[u8], limit: usize) -> Answer {
         let mut marks = marks.to_vec();
         marks.resize(length, 1);
         judge(table, &marks);
+        price(table, &marks);
         plan_of_each_kind(table, &marks, &scratch);
         for edition in EDITIONS {
             let archive = vec![7; edition.length(length, length)];
@@ -326,6 +354,9 @@ fn longest_scratch() {
         let refusal = plan(kind, &table, &ones(MAX_NODES), &scratch[1..]);
         assert_eq!(refusal, Answer::refused(9, 8_413_184));
     }
+    assert_eq!(saving(&table, &ones(MAX_NODES), &scratch).number, 0);
+    let refusal = saving(&table, &ones(MAX_NODES), &scratch[1..]);
+    assert_eq!(refusal, Saving::refused(9, 8_413_184));
 }
 
 /// Long tables that are cut short or longer than they should be.

@@ -6,6 +6,8 @@ mod convert;
 mod judge;
 #[path = "library/planners.rs"]
 mod planners;
+#[path = "library/price.rs"]
+mod price;
 #[path = "library/read_archive.rs"]
 mod read_archive;
 #[path = "library/read_tree.rs"]

@@ -9,6 +9,8 @@ mod cases;
 mod planners;
 #[path = "model/plans.rs"]
 mod plans;
+#[path = "model/price.rs"]
+mod price;
 #[path = "model/quick.rs"]
 mod quick;
 #[path = "model/sheets.rs"]

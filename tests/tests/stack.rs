@@ -54,7 +54,7 @@ fn accepted_within_stack(what: &str, call: impl FnMut() -> Answer) -> Answer {
     answer
 }
 
-/// Plans a tree with so many nodes, judges and prints it. Gives the marks and the verdict.
+/// Plans a tree with so many nodes, judges, prints and prices it. Gives the marks and the verdict.
 fn all_but_the_archive(table: &[u8], count: usize, limit: usize) -> (Vec<u8>, Answer) {
     let mut marks = vec![0; count];
     let mut scratch = vec![0; scratch_length(count, limit)];
@@ -63,10 +63,13 @@ fn all_but_the_archive(table: &[u8], count: usize, limit: usize) -> (Vec<u8>, An
         let planner = (LIBRARY.planner)(kind);
         accepted_within_stack("plan", || planner(table, &mut marks, &mut scratch));
     }
+    let saving = LIBRARY.saving;
+    accepted_within_stack("save", || saving(table, &mut marks, &mut scratch).answer());
     let judged = accepted_within_stack("judge", || (LIBRARY.judge)(table, &marks));
     let mut sheets = vec![0; sheets_length(judged.pages as usize)];
     let print = LIBRARY.print_sheets;
     accepted_within_stack("print", || print(table, &marks, &mut sheets));
+    accepted_within_stack("price", || (LIBRARY.price)(table, &marks).answer());
     (marks, judged)
 }
 

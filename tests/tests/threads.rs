@@ -4,14 +4,23 @@
 use balduqen_tests::cases::KINDS;
 use balduqen_tests::entries::{Entries, LIBRARY, MODEL};
 use balduqen_tests::gen::{any_table, Random};
-use balduqen_tests::model::{scratch_length, sheets_length, word, Answer, EDITIONS};
+use balduqen_tests::model::{scratch_length, sheets_length, word, Answer, Price, Saving, EDITIONS};
 use std::thread;
 
-/// The answers of all entries in turn, and the marks, archives and sheets of each planner's plan.
-fn round(entries: &Entries, table: &[u8]) -> (Vec<Answer>, Vec<Vec<u8>>) {
+/// What all entries do with a table, in turn.
+#[derive(Debug, PartialEq)]
+struct Round {
+    answers: Vec<Answer>,
+    /// The marks, archives and sheets of each planner's plan.
+    buffers: Vec<Vec<u8>>,
+    prices: Vec<Price>,
+    saving: Saving,
+}
+
+fn round(entries: &Entries, table: &[u8]) -> Round {
     let (count, limit) = (word(table, 0), word(table, 1));
     let mut answers = vec![(entries.read_tree)(table)];
-    let mut buffers = vec![];
+    let (mut buffers, mut prices) = (vec![], vec![]);
     for kind in KINDS {
         let mut marks = vec![7; count];
         let mut scratch = vec![7; scratch_length(count, limit)];
@@ -35,9 +44,19 @@ fn round(entries: &Entries, table: &[u8]) -> (Vec<Answer>, Vec<Vec<u8>>) {
             (entries.judge)(table, &marks),
             (entries.print_sheets)(table, &marks, &mut sheets),
         ]);
+        prices.push((entries.price)(table, &marks));
         buffers.extend([marks, sheets]);
     }
-    (answers, buffers)
+    let mut marks = vec![7; count];
+    let mut scratch = vec![7; scratch_length(count, limit)];
+    let saving = (entries.saving)(table, &mut marks, &mut scratch);
+    buffers.push(marks);
+    Round {
+        answers,
+        buffers,
+        prices,
+        saving,
+    }
 }
 
 #[test]
@@ -48,9 +67,10 @@ fn each_on_its_own_buffers() {
                 let random = &mut Random::new(seed);
                 for _ in 0..150 {
                     let table = any_table(random, 60, 60).bytes();
-                    let answered = round(&LIBRARY, &table);
-                    assert!(answered.0.iter().all(Answer::is_accepted), "{answered:?}");
-                    assert_eq!(answered, round(&MODEL, &table));
+                    let round_of_library = round(&LIBRARY, &table);
+                    let mut answers = round_of_library.answers.iter();
+                    assert!(answers.all(Answer::is_accepted), "{round_of_library:?}");
+                    assert_eq!(round_of_library, round(&MODEL, &table));
                 }
             });
         }

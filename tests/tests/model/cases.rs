@@ -29,12 +29,14 @@ fn tables_refused_by_every_entry() {
         let refusal = Answer::refused(number, place);
         assert_eq!(read_tree(&table), refusal);
         assert_eq!(judge(&table, &[]), refusal);
+        assert_eq!(price(&table, &[]), Price::refused(number, place));
+        let (mut marks, mut scratch) = ([7; 2], [7; 2]);
         for kind in KINDS {
-            let mut marks = [7; 2];
-            let mut scratch = [7; 2];
             assert_eq!(kind.model()(&table, &mut marks, &mut scratch), refusal);
-            assert_eq!((marks, scratch), ([7; 2], [7; 2]));
         }
+        let saving = saving(&table, &mut marks, &mut scratch);
+        assert_eq!(saving, Saving::refused(number, place));
+        assert_eq!((marks, scratch), ([7; 2], [7; 2]));
         for fill in [write_archive, print_sheets] {
             let mut filled = [7; 2];
             assert_eq!(fill(&table, &[], &mut filled), refusal);
@@ -44,11 +46,12 @@ fn tables_refused_by_every_entry() {
 }
 
 #[test]
-fn marks_refused_by_judge_writer_and_printer() {
+fn marks_refused_by_all_that_take_a_plan() {
     let table = case_e().bytes();
     for (marks, number, place) in refused_marks() {
         let refusal = Answer::refused(number, place);
         assert_eq!(judge(&table, &marks), refusal);
+        assert_eq!(price(&table, &marks), Price::refused(number, place));
         for fill in [write_archive, print_sheets] {
             let mut filled = [7; 2];
             assert_eq!(fill(&table, &marks, &mut filled), refusal);
