@@ -1,13 +1,15 @@
-//! The planners, the leader sheets and the film of the proved library behind its C interface.
+//! The planners, the leader sheets, the film and the prices of the proved library behind its C
+//! interface.
 
 use crate::archive::Film;
 use crate::planner::{Answer, Kind, Planner};
+use crate::price::{Price, Pricer, Saver, Saving};
 use crate::sheets::Printer;
 
 /// A slice goes as a pointer and then a length. Each call hands over slices that live through it,
 /// which is what makes the unsafe block sound.
 macro_rules! planner {
-    ($entry:ident) => {{
+    ($entry:ident, $answer:ty) => {{
         extern "C" {
             fn $entry(
                 table: *const u8,
@@ -16,9 +18,9 @@ macro_rules! planner {
                 marks_length: usize,
                 scratch: *mut u32,
                 scratch_length: usize,
-            ) -> Answer;
+            ) -> $answer;
         }
-        fn call(table: &[u8], marks: &mut [u8], scratch: &mut [u32]) -> Answer {
+        fn call(table: &[u8], marks: &mut [u8], scratch: &mut [u32]) -> $answer {
             unsafe {
                 $entry(
                     table.as_ptr(),
@@ -37,12 +39,12 @@ macro_rules! planner {
 /// The library's planner.
 pub fn planner(kind: Kind) -> Planner {
     match kind {
-        Kind::Rightmost => planner!(balduqen_plan_rightmost),
-        Kind::DepthFirst => planner!(balduqen_plan_depth_first),
-        Kind::Single => planner!(balduqen_plan_single),
-        Kind::Pair => planner!(balduqen_plan_pair),
-        Kind::Level => planner!(balduqen_plan_level),
-        Kind::Best => planner!(balduqen_plan_best),
+        Kind::Rightmost => planner!(balduqen_plan_rightmost, Answer),
+        Kind::DepthFirst => planner!(balduqen_plan_depth_first, Answer),
+        Kind::Single => planner!(balduqen_plan_single, Answer),
+        Kind::Pair => planner!(balduqen_plan_pair, Answer),
+        Kind::Level => planner!(balduqen_plan_level, Answer),
+        Kind::Best => planner!(balduqen_plan_best, Answer),
     }
 }
 
@@ -119,6 +121,29 @@ macro_rules! converter {
         call
     }};
 }
+
+macro_rules! pricer {
+    ($entry:ident) => {{
+        extern "C" {
+            fn $entry(
+                table: *const u8,
+                table_length: usize,
+                marks: *const u8,
+                marks_length: usize,
+            ) -> Price;
+        }
+        fn call(table: &[u8], marks: &[u8]) -> Price {
+            unsafe { $entry(table.as_ptr(), table.len(), marks.as_ptr(), marks.len()) }
+        }
+        call
+    }};
+}
+
+/// The library's price of a plan.
+pub const PRICE: Pricer = pricer!(balduqen_price);
+
+/// The library's saving.
+pub const SAVING: Saver = planner!(balduqen_saving, Saving);
 
 /// The library's sheets.
 pub const PRINT_SHEETS: Printer = writer!(balduqen_print_sheets);

@@ -1,6 +1,6 @@
 //! The planners of the proved library beside the same steps in plain Rust and beside the report's
-//! DHW, and its leader sheets and archives beside plain Rust: on the same trees, in the same run, as
-//! ratios. Nothing passes or fails by its time.
+//! DHW, and its leader sheets, archives and prices beside plain Rust: on the same trees, in one
+//! run, as ratios. Nothing passes or fails by its time.
 //!
 //! `rt staticlib embed` writes the library; `cargo run --release` in this folder then prints the table.
 
@@ -13,6 +13,7 @@ mod load;
 mod measure;
 mod plain;
 mod planner;
+mod price;
 mod quick;
 mod sheets;
 mod show;
@@ -20,7 +21,7 @@ mod tree;
 
 use load::{Load, DOUBLES, MOST_NODES, NODES};
 use planner::{Kind, COLUMNS, GREEDY, KINDS, QUICK};
-use show::{FilmRow, GrowthRow, Row, SheetRow};
+use show::{FilmRow, GrowthRow, PriceRow, Row, SheetRow};
 
 fn main() {
     let [loads, long_loads] = [NODES, MOST_NODES].map(load::loads);
@@ -80,6 +81,11 @@ fn main() {
     show::print_worst_of_film(&film_rows_of(&loads));
     show::print_head_of_most();
     show::print_worst_of_film(&film_rows_of(&long_loads));
+
+    show::print_head_of_prices();
+    show::print_worst_of_prices(&price_rows_of(&loads));
+    show::print_head_of_most();
+    show::print_worst_of_prices(&price_rows_of(&long_loads));
 }
 
 /// The times of these planners.
@@ -112,6 +118,19 @@ fn film_rows_of(loads: &[Load]) -> Vec<[FilmRow<'_>; 2]> {
             let times = measure::film_times(load, &plan);
             FilmRow { load, plan, times }
         })
+    };
+    loads.iter().map(of_load).collect()
+}
+
+/// The times of the prices of two plans, and of the saving.
+fn price_rows_of(loads: &[Load]) -> Vec<PriceRow<'_>> {
+    let of_load = |load| PriceRow {
+        load,
+        prices: measure::plans(load).map(|plan| {
+            let times = measure::price_times(load, &plan);
+            (plan, times)
+        }),
+        saving: measure::saving_times(load),
     };
     loads.iter().map(of_load).collect()
 }

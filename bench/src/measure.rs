@@ -1,11 +1,12 @@
-//! Runs all forms of a planner on a tree, and both forms of the leader sheets and of the film of a
-//! plan: first they must agree, then they are timed.
+//! Runs all forms of a planner on a tree, both forms of the leader sheets, of the film and of the
+//! price of a plan, and both of the saving: first they must agree, then they are timed.
 
 use crate::archive::{archive_bytes, most_nodes, Film, PLAIN};
 use crate::clock::time;
 use crate::dhw::{self, Entries};
 use crate::load::{Load, DOUBLES, NODES};
 use crate::planner::{scratch_words, Answer, Kind, Planner};
+use crate::price::{self, Pricer, Saver};
 use crate::sheets::{self, sheets_bytes, Printer};
 use crate::{library, plain};
 use std::hint::black_box;
@@ -177,7 +178,7 @@ impl Samples {
 /// The library's sheets, and those in plain Rust.
 const PRINTERS: [Printer; 2] = [library::PRINT_SHEETS, sheets::print];
 
-/// A plan whose sheets are printed.
+/// A plan that is printed, written on film and priced.
 pub struct Plan {
     pub name: &'static str,
     pub marks: Vec<u8>,
@@ -315,4 +316,36 @@ fn check_film(load: &Load, plan: &Plan, answer: Answer, lent: &Lent, step: Step)
     };
     let place = format!("{}: film of {}", load.name(), plan.name);
     assert!(answer.number == 0 && is_left, "{place}: {answer:?}");
+}
+
+/// The library's price of a plan, and that in plain Rust.
+const PRICERS: [Pricer; 2] = [library::PRICE, price::price];
+
+/// The library's saving, and that in plain Rust.
+const SAVERS: [Saver; 2] = [library::SAVING, price::saving];
+
+/// The times of both forms of a plan's price, which must be the same.
+pub fn price_times(load: &Load, plan: &Plan) -> [Option<Duration>; 2] {
+    let [library, plain] = PRICERS.map(|price| price(&load.table, &plan.marks));
+    let place = format!("{}: price of {}", load.name(), plan.name);
+    assert_eq!(plain.number, 0, "{place}: the plan is refused");
+    assert_eq!(library, plain, "{place}: the prices differ");
+    let run = |price: Pricer| price(&load.table, &plan.marks);
+    in_turns(PRICERS, |_| true, run)
+}
+
+/// The times of both forms of the saving, which must leave the same.
+pub fn saving_times(load: &Load) -> [Option<Duration>; 2] {
+    let [library, plain] = SAVERS.map(|saving| {
+        let mut lent = Buffers::soiled(load);
+        let saved = saving(&load.table, &mut lent.marks, &mut lent.scratch);
+        (saved, lent.marks, lent.scratch)
+    });
+    let place = format!("{}: saving", load.name());
+    assert_eq!(plain.0.number, 0, "{place}: the tree is refused");
+    assert!(library == plain, "{place}: the forms differ");
+    let mut lent = Buffers::soiled(load);
+    lent.scratch.fill(0);
+    let run = |saving: Saver| saving(&load.table, &mut lent.marks, &mut lent.scratch);
+    in_turns(SAVERS, |_| true, run)
 }

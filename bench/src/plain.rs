@@ -22,23 +22,29 @@ fn plan(
     scratch: &mut [u32],
     lay: impl Fn(&Tree, &mut [u8], &mut [u32]),
 ) -> Answer {
-    let tree = match Tree::read(table) {
+    let tree = match read(table, marks, scratch) {
         Ok(tree) => tree,
         Err(refusal) => return refusal,
     };
-    if marks.len() != tree.count() {
-        return Answer::refused(8, tree.count());
-    }
-    let asked = scratch_words(tree.count(), tree.limit);
-    if scratch.len() < asked {
-        return Answer::refused(9, asked);
-    }
     lay(&tree, marks, scratch);
     scratch.fill(0);
     tree.judge(marks)
 }
 
-fn single(tree: &Tree, marks: &mut [u8], _scratch: &mut [u32]) {
+/// The tree of a table, if it can be planned with these buffers, or the refusal.
+pub fn read(table: &[u8], marks: &[u8], scratch: &[u32]) -> Result<Tree, Answer> {
+    let tree = Tree::read(table)?;
+    if marks.len() != tree.count() {
+        return Err(Answer::refused(8, tree.count()));
+    }
+    let asked = scratch_words(tree.count(), tree.limit);
+    if scratch.len() < asked {
+        return Err(Answer::refused(9, asked));
+    }
+    Ok(tree)
+}
+
+pub fn single(tree: &Tree, marks: &mut [u8], _scratch: &mut [u32]) {
     marks.fill(0);
     let mut remainder = vec![0; tree.count() + 1];
     for node in (1..=tree.count()).rev() {

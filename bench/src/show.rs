@@ -1,5 +1,5 @@
 //! The table of times and ratios, the worst ratios, the quick planners' times by size, the growth of
-//! level and best, the table of the leader sheets, and the worst ratios of film.
+//! level and best, the table of the leader sheets, and the worst ratios of film and of prices.
 
 use crate::load::{Load, DOUBLES, MOST_NODES, SIZES};
 use crate::measure::{FilmTimes, Form, Growth, Plan, Step, Times, STEPS};
@@ -332,14 +332,49 @@ pub fn print_worst_of_film(rows: &[[FilmRow; 2]]) {
     println!();
     for (step, name) in STEPS.map(Step::name).into_iter().enumerate() {
         for index in 0..2 {
-            let of_plan = || rows.iter().map(|rows| &rows[index]);
-            let times = of_plan().filter_map(|row| row.times[step][0]);
-            let longest = times.max().unwrap_or_default();
-            let figures = of_plan().filter_map(|row| Some((quotient(row.times[step])?, row.load)));
-            let micros = 1e6 * longest.as_secs_f64();
+            let of_plan = rows.iter().map(|rows| &rows[index]);
+            let times = of_plan.map(|row| (row.times[step], row.load)).collect();
             let plan = rows[0][index].plan.name;
-            let name = format!("lib/Rust   {name:<8} {plan:<11} ({micros:>6.1})");
-            print_ends(&name, figures.collect(), true);
+            print_worst_times(&format!("{name:<8} {plan:<11}"), times);
         }
     }
+}
+
+/// The worst ratio of the times of lib and Rust, with the longest time of lib.
+fn print_worst_times(what: &str, times: Vec<([Option<Duration>; 2], &Load)>) {
+    let longest = times.iter().filter_map(|(times, _)| times[0]).max();
+    let micros = 1e6 * longest.unwrap_or_default().as_secs_f64();
+    let figures = times.into_iter();
+    let figures = figures.filter_map(|(times, load)| Some((quotient(times)?, load)));
+    let name = format!("lib/Rust   {what} ({micros:>8.1})");
+    print_ends(&name, figures.collect(), true);
+}
+
+const NOTES_OF_PRICES: &str = "\
+The price of the same plans, and the saving of best's plan against single's. Both forms read and
+check the table, and judge each plan whose pages they price; for the saving they make both plans and
+clear the scratch. In brackets the longest time of lib in microseconds.
+";
+
+pub fn print_head_of_prices() {
+    print!("\n{NOTES_OF_PRICES}");
+}
+
+pub struct PriceRow<'a> {
+    pub load: &'a Load,
+    /// Of the library and of plain Rust, for each plan.
+    pub prices: [(Plan, [Option<Duration>; 2]); 2],
+    pub saving: [Option<Duration>; 2],
+}
+
+/// The worst ratio of the price of each plan, and of the saving.
+pub fn print_worst_of_prices(rows: &[PriceRow]) {
+    println!();
+    for index in 0..2 {
+        let times = rows.iter().map(|row| (row.prices[index].1, row.load));
+        let plan = rows[0].prices[index].0.name;
+        print_worst_times(&format!("{:<8} {plan:<11}", "price"), times.collect());
+    }
+    let times = rows.iter().map(|row| (row.saving, row.load)).collect();
+    print_worst_times(&format!("{:<20}", "saving"), times);
 }
