@@ -153,7 +153,7 @@ mod prices {
             });
         };
         for_each_table(1..=4, &[0, 1, 2, 3], &[2, 3, 4], &mut price_all);
-        for_each_table(5..=5, &[0, 1, 2], &[2, 5], &mut price_all);
+        for_each_table(5..=5, &[0, 2], &[3], &mut price_all);
         seen.expect(&[0, 7, 10, 11], 1000);
     }
 
