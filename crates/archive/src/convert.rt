@@ -1,7 +1,7 @@
 // From film of one edition to film of the other: the tree and the plan that the one tells, written in the other.
 use crate::judged::judge_film;
 use film::decode::decode;
-use film::fields::nodes_in;
+use film::nodes_in;
 use model::Answer;
 use model::Edition;
 use table::table_bytes;

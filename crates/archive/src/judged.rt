@@ -1,6 +1,6 @@
 // Whether film of an edition is one. The writer that such film is held against writes the tree and the plan that were
 // decoded of it, and the film is one where that gives the very same bytes.
-use film::fields::nodes_in;
+use film::nodes_in;
 use model::Answer;
 use model::Edition;
 use table::check_tree;

@@ -1,7 +1,7 @@
 // The archive's reader: what the film tells, copied out.
 use crate::judged::judge_film;
 use film::decode::decode;
-use film::fields::nodes_in;
+use film::nodes_in;
 use model::Answer;
 use model::Edition;
 use table::refuse;
