@@ -2,7 +2,7 @@
 //! tree is read and checked, its plan judged, and every byte written. What is read is written again
 //! and compared. No tree here has a label 0.
 
-use crate::planner::Answer;
+use crate::planner::{accepted, Answer};
 use crate::tree::{word, Page, Tree};
 
 /// The entries of one edition.
@@ -135,7 +135,7 @@ impl Content<'_> {
             put(self.tree.parent[node]);
             put(next);
         }
-        Answer::accepted(&self.pages)
+        accepted(&self.pages)
     }
 }
 

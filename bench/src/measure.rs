@@ -5,10 +5,11 @@ use crate::archive::{archive_bytes, most_nodes, Film, PLAIN};
 use crate::clock::time;
 use crate::dhw::{self, Entries};
 use crate::load::{Load, DOUBLES, NODES};
-use crate::planner::{scratch_words, Answer, Kind, Planner};
+use crate::planner::{Answer, Kind, Planner};
 use crate::price::{self, Pricer, Saver};
 use crate::sheets::{self, sheets_bytes, Printer};
 use crate::{library, plain};
+use balduqen::scratch_length;
 use std::hint::black_box;
 use std::time::Duration;
 
@@ -71,7 +72,7 @@ impl Buffers {
     fn soiled(load: &Load) -> Buffers {
         Buffers {
             marks: vec![0xa5; load.nodes],
-            scratch: vec![0xa5a5_a5a5; scratch_words(load.nodes, load.limit)],
+            scratch: vec![0xa5a5_a5a5; scratch_length(load.nodes, load.limit)],
         }
     }
 

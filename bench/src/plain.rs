@@ -1,9 +1,10 @@
 //! The six planners in plain Rust, each with all that the library's entry does: the tree is read
 //! and checked, the plan is made and judged, and the whole scratch is cleared.
 
-use crate::planner::{scratch_words, Answer, Kind, Planner};
+use crate::planner::{Answer, Kind, Planner};
 use crate::tree::Tree;
 use crate::{columns, quick};
+use balduqen::scratch_length;
 
 pub fn planner(kind: Kind) -> Planner {
     match kind {
@@ -37,7 +38,7 @@ pub fn read(table: &[u8], marks: &[u8], scratch: &[u32]) -> Result<Tree, Answer>
     if marks.len() != tree.count() {
         return Err(Answer::refused(8, tree.count()));
     }
-    let asked = scratch_words(tree.count(), tree.limit);
+    let asked = scratch_length(tree.count(), tree.limit);
     if scratch.len() < asked {
         return Err(Answer::refused(9, asked));
     }

@@ -1,34 +1,11 @@
 //! The form of a planner, which the library and the plain ones share.
 
 use crate::tree::Page;
+pub use balduqen::doors::Answer;
 
-/// The four words that the library gives back: number and place, page count and root weight.
-#[repr(C)]
-#[derive(Clone, Copy, Debug, Default, PartialEq, Eq)]
-pub struct Answer {
-    pub number: u32,
-    pub place: u32,
-    pub pages: u32,
-    pub root: u32,
-}
-
-impl Answer {
-    /// Acceptance of a plan with these pages.
-    pub fn accepted(pages: &[Page]) -> Answer {
-        Answer {
-            pages: pages.len() as u32,
-            root: pages[0].weight,
-            ..Answer::default()
-        }
-    }
-
-    pub fn refused(number: u32, place: usize) -> Answer {
-        Answer {
-            number,
-            place: place as u32,
-            ..Answer::default()
-        }
-    }
+/// Acceptance of a plan with these pages.
+pub fn accepted(pages: &[Page]) -> Answer {
+    Answer::accepted(pages.len(), pages[0].weight)
 }
 
 /// Table, marks, scratch.
@@ -73,9 +50,4 @@ impl Kind {
             Kind::Best => "best",
         }
     }
-}
-
-/// The scratch words that a planner asks for.
-pub fn scratch_words(nodes: usize, limit: usize) -> usize {
-    4 * nodes * (limit + 3)
 }

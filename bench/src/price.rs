@@ -5,29 +5,12 @@
 use crate::planner::Answer;
 use crate::tree::Tree;
 use crate::{columns, plain};
+use balduqen::doors::{Price, Saving};
 
 /// What a page costs in cents, by its fill.
 const CENTS: [u32; 16] = [
     410, 405, 398, 390, 380, 368, 355, 340, 324, 306, 287, 266, 244, 221, 196, 90,
 ];
-
-/// The three words that the library gives back: number and place, and cents.
-#[repr(C)]
-#[derive(Clone, Copy, Debug, PartialEq, Eq)]
-pub struct Price {
-    pub number: u32,
-    pub place: u32,
-    pub cents: u32,
-}
-
-/// The same of a saving.
-#[repr(C)]
-#[derive(Clone, Copy, Debug, PartialEq, Eq)]
-pub struct Saving {
-    pub number: u32,
-    pub place: u32,
-    pub saving: i32,
-}
 
 /// Table, marks.
 pub type Pricer = fn(&[u8], &[u8]) -> Price;

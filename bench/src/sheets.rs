@@ -1,7 +1,7 @@
 //! The leader sheets of a plan in plain Rust, with all that the library's entry does: the tree is
 //! read and checked, the plan is judged, and every byte of the sheets is written.
 
-use crate::planner::Answer;
+use crate::planner::{accepted, Answer};
 use crate::tree::{Page, Tree};
 
 const LINE: usize = 81;
@@ -44,7 +44,7 @@ pub fn print(table: &[u8], marks: &[u8], sheets: &mut [u8]) -> Answer {
             line[LINE - 1] = b'\n';
         }
     }
-    Answer::accepted(&pages)
+    accepted(&pages)
 }
 
 fn put_page(line: &mut [u8], number: usize, page: &Page, limit: usize) {

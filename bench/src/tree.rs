@@ -1,7 +1,7 @@
 //! A tree read from its table, and the pages and the figures of a plan.
 
 use crate::load::MOST_NODES;
-use crate::planner::Answer;
+use crate::planner::{accepted, Answer};
 use std::iter::{once, successors};
 
 const MOST_LIMIT: usize = 1024;
@@ -96,7 +96,7 @@ impl Tree {
     /// The judge's answer for marks that are allowed and within the limit; panics at others, since
     /// no planner makes them.
     pub fn judge(&self, marks: &[u8]) -> Answer {
-        Answer::accepted(&self.pages(marks))
+        accepted(&self.pages(marks))
     }
 
     /// The pages of such marks, by number.

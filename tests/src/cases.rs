@@ -2,12 +2,12 @@
 //! 14, the plans of request Two, those of trees with weights of 0, trees that are too long for the
 //! archive's first edition, archives of edition 2, and prices.
 
-use crate::ffi;
 use crate::gen::Table;
 use crate::model::{
     plan_best, plan_depth_first, plan_level, plan_pair, plan_rightmost, plan_single, word, Answer,
     Edition, Planner,
 };
+use balduqen::doors;
 
 #[derive(Clone, Copy, Debug, PartialEq, Eq)]
 pub enum Kind {
@@ -45,12 +45,12 @@ impl Kind {
 
     pub fn library(self) -> Planner {
         match self {
-            Kind::Best => ffi::plan_best,
-            Kind::Level => ffi::plan_level,
-            Kind::Single => ffi::plan_single,
-            Kind::Pair => ffi::plan_pair,
-            Kind::Rightmost => ffi::plan_rightmost,
-            Kind::DepthFirst => ffi::plan_depth_first,
+            Kind::Best => doors::plan_best,
+            Kind::Level => doors::plan_level,
+            Kind::Single => doors::plan_single,
+            Kind::Pair => doors::plan_pair,
+            Kind::Rightmost => doors::plan_rightmost,
+            Kind::DepthFirst => doors::plan_depth_first,
         }
     }
 }

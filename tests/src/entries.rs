@@ -1,8 +1,8 @@
 //! The entries of the model and of the library, so that a test can ask the same of both.
 
 use crate::cases::Kind;
-use crate::ffi;
 use crate::model::{self, Answer, Edition, Planner, Price, Saving};
+use balduqen::doors;
 
 /// An entry that judges a plan and fills a buffer: table, marks, output.
 pub type Writer = fn(&[u8], &[u8], &mut [u8]) -> Answer;
@@ -58,22 +58,22 @@ pub static MODEL: Entries = Entries {
 };
 
 pub static LIBRARY: Entries = Entries {
-    read_tree: ffi::read_tree,
-    judge: ffi::judge,
+    read_tree: doors::read_tree,
+    judge: doors::judge,
     planner: Kind::library,
     film: [
         Film {
-            write: ffi::write_archive,
-            read: ffi::read_archive,
-            convert: ffi::convert_to_2,
+            write: doors::write_archive,
+            read: doors::read_archive,
+            convert: doors::convert_to_2,
         },
         Film {
-            write: ffi::write_archive2,
-            read: ffi::read_archive2,
-            convert: ffi::convert_to_1,
+            write: doors::write_archive2,
+            read: doors::read_archive2,
+            convert: doors::convert_to_1,
         },
     ],
-    print_sheets: ffi::print_sheets,
-    price: ffi::price,
-    saving: ffi::saving,
+    print_sheets: doors::print_sheets,
+    price: doors::price,
+    saving: doors::saving,
 };

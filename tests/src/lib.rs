@@ -1,14 +1,13 @@
 //! What the outside tests share: a model of documents 01 and 02 written from them alone, exhaustive
 //! search over plans and over sets of sibling runs, generators of trees, tables and film, document
 //! 01's own cases, film kept from before, readers by the printed rule sheet and of leader sheets,
-//! the film maker's price list, helpers for checks, guarded buffers, the calls into the proved
-//! library, and the entries of both sides.
+//! the film maker's price list, helpers for checks, guarded buffers, and the entries of both
+//! sides.
 
 pub mod cases;
 pub mod check;
 pub mod entries;
 pub mod exhaustive;
-pub mod ffi;
 pub mod film;
 pub mod gen;
 pub mod guarded;

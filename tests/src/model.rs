@@ -14,6 +14,9 @@ mod quick;
 mod sheets;
 mod tree;
 
+/// The words of an answer, which model and library share; all that they say is the model's own.
+pub use balduqen::doors::{Answer, Price, Saving};
+
 pub use archive::{
     archive_bytes, archive_length, convert_to_1, convert_to_2, read_archive, read_archive2,
     write_archive, write_archive2, Edition, ARCHIVE_NODES, EDITIONS, FIRST, SECOND,
@@ -22,51 +25,9 @@ pub use plan::{judge, pages, verdict, Page};
 pub use planners::{
     plan_best, plan_depth_first, plan_level, plan_pair, plan_rightmost, plan_single, scratch_length,
 };
-pub use price::{price, saving, Price, Saving};
+pub use price::{price, saving};
 pub use sheets::{print_sheets, sheets_bytes, sheets_length};
 pub use tree::{read, read_as_before, read_sound, read_tree, word, Tree, MAX_LIMIT, MAX_NODES};
-
-/// A number and a place, and the verdict beside them where a plan is given or made and accepted.
-/// The same four words, in the same order, are what the library gives back.
-#[repr(C)]
-#[derive(Clone, Copy, Debug, Default, PartialEq, Eq)]
-pub struct Answer {
-    pub number: u32,
-    pub place: u32,
-    pub pages: u32,
-    pub root: u32,
-}
-
-impl Answer {
-    /// Acceptance where there is no plan.
-    pub const ACCEPTED: Answer = Answer {
-        number: 0,
-        place: 0,
-        pages: 0,
-        root: 0,
-    };
-
-    /// Acceptance of a plan with this page count and root weight.
-    pub fn accepted(pages: usize, root: u32) -> Answer {
-        Answer {
-            pages: pages as u32,
-            root,
-            ..Answer::ACCEPTED
-        }
-    }
-
-    pub fn refused(number: u32, place: usize) -> Answer {
-        Answer {
-            number,
-            place: place as u32,
-            ..Answer::ACCEPTED
-        }
-    }
-
-    pub fn is_accepted(&self) -> bool {
-        self.number == 0
-    }
-}
 
 /// A planner, of the model or of the library: table, marks, scratch.
 pub type Planner = fn(&[u8], &mut [u8], &mut [u32]) -> Answer;

@@ -2,10 +2,10 @@
 //! model. What is lent to be read stands in memory that cannot be written. A touch outside what was
 //! lent ends the process, which counts as a failure.
 
+use balduqen::doors;
 use balduqen_tests::cases::*;
 use balduqen_tests::check::{show, Seen};
 use balduqen_tests::entries::LIBRARY;
-use balduqen_tests::ffi;
 use balduqen_tests::film::{kept_in, most_nodes, set_word};
 use balduqen_tests::gen::*;
 use balduqen_tests::guarded::{Guarded, Side, SIDES};
@@ -23,7 +23,7 @@ fn read_tree(table: &[u8]) -> Answer {
     let expected = model::read_tree(table);
     for side in SIDES {
         let table = Guarded::read_only(table, side);
-        let answer = ffi::read_tree(table.content());
+        let answer = doors::read_tree(table.content());
         assert_eq!(answer, expected, "{}", show(table.content()));
     }
     expected
@@ -34,7 +34,7 @@ fn judge(table: &[u8], marks: &[u8]) -> Answer {
     for side in SIDES {
         let table = Guarded::read_only(table, side);
         let marks = Guarded::read_only(marks, side);
-        let answer = ffi::judge(table.content(), marks.content());
+        let answer = doors::judge(table.content(), marks.content());
         assert_eq!(answer, expected, "{}", show(table.content()));
     }
     expected
@@ -45,7 +45,7 @@ fn price(table: &[u8], marks: &[u8]) {
     for side in SIDES {
         let table = Guarded::read_only(table, side);
         let marks = Guarded::read_only(marks, side);
-        let price = ffi::price(table.content(), marks.content());
+        let price = doors::price(table.content(), marks.content());
         assert_eq!(price, expected, "{}", show(table.content()));
     }
 }
@@ -72,7 +72,7 @@ fn saving(table: &[u8], marks: &[u8], scratch: &[u32]) -> Saving {
         let table = Guarded::read_only(table, side);
         let mut marks = Guarded::new(marks, side);
         let mut scratch = Guarded::new(scratch, side);
-        let saving = ffi::saving(table.content(), marks.slice(), scratch.slice());
+        let saving = doors::saving(table.content(), marks.slice(), scratch.slice());
         assert_eq!(saving, expected, "{}", show(table.content()));
         assert!(marks.content() == model_marks && scratch.content() == model_scratch);
     }
@@ -109,7 +109,7 @@ fn print_sheets(table: &[u8], marks: &[u8], sheets: &[u8]) -> Answer {
         let table = Guarded::read_only(table, side);
         let marks = Guarded::read_only(marks, side);
         let mut sheets = Guarded::new(sheets, side);
-        let answer = ffi::print_sheets(table.content(), marks.content(), sheets.slice());
+        let answer = doors::print_sheets(table.content(), marks.content(), sheets.slice());
         assert_eq!(answer, expected, "{}", show(table.content()));
         assert!(sheets.content() == model_sheets);
     }

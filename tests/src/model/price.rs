@@ -1,85 +1,12 @@
 //! The film maker's price of a plan (request Seven), with the judge's refusals, and the saving of
 //! the best plan against the single-cut plan, with a planner's buffers and refusals.
 
-use super::{greedy, judge, pages, plan_best, read, Answer, Tree};
+use super::{greedy, judge, pages, plan_best, read, Answer, Price, Saving, Tree};
 
 /// What a page costs, by its fill.
 const CENTS: [u32; 16] = [
     410, 405, 398, 390, 380, 368, 355, 340, 324, 306, 287, 266, 244, 221, 196, 90,
 ];
-
-/// A number and a place as an `Answer` has them, and a plan's total in cents, or 0 where it is
-/// refused. The same three words, in the same order, are what the library gives back.
-#[repr(C)]
-#[derive(Clone, Copy, Debug, PartialEq, Eq)]
-pub struct Price {
-    pub number: u32,
-    pub place: u32,
-    pub cents: u32,
-}
-
-/// The same with a saving, which can be below zero.
-#[repr(C)]
-#[derive(Clone, Copy, Debug, PartialEq, Eq)]
-pub struct Saving {
-    pub number: u32,
-    pub place: u32,
-    pub saving: i32,
-}
-
-impl Price {
-    pub fn accepted(cents: u32) -> Price {
-        Price {
-            number: 0,
-            place: 0,
-            cents,
-        }
-    }
-
-    pub fn refused(number: u32, place: usize) -> Price {
-        Price {
-            number,
-            place: place as u32,
-            cents: 0,
-        }
-    }
-
-    /// Number and place.
-    pub fn answer(&self) -> Answer {
-        Answer {
-            number: self.number,
-            place: self.place,
-            ..Answer::ACCEPTED
-        }
-    }
-}
-
-impl Saving {
-    pub fn accepted(saving: i32) -> Saving {
-        Saving {
-            number: 0,
-            place: 0,
-            saving,
-        }
-    }
-
-    pub fn refused(number: u32, place: usize) -> Saving {
-        Saving {
-            number,
-            place: place as u32,
-            saving: 0,
-        }
-    }
-
-    /// Number and place.
-    pub fn answer(&self) -> Answer {
-        Answer {
-            number: self.number,
-            place: self.place,
-            ..Answer::ACCEPTED
-        }
-    }
-}
 
 /// The total of a feasible plan: what all its pages cost, the root page among them.
 fn total(tree: &Tree, marks: &[u8]) -> u32 {

@@ -1,8 +1,8 @@
 //! The judge of the library.
 
+use balduqen::doors;
 use balduqen_tests::cases::*;
 use balduqen_tests::check::{show, with_copy, Seen};
-use balduqen_tests::ffi;
 use balduqen_tests::gen::*;
 use balduqen_tests::model::{self, read, verdict, word, Answer};
 
@@ -13,7 +13,7 @@ fn judge(table: &[u8], marks: &[u8]) -> Answer {
 
 fn check(table: &[u8], marks: &[u8], expected: Answer) -> Answer {
     let answer = with_copy(table, |table| {
-        with_copy(marks, |marks| ffi::judge(table, marks))
+        with_copy(marks, |marks| doors::judge(table, marks))
     });
     assert_eq!(answer, expected, "{}; {}", show(table), show(marks));
     answer

@@ -1,8 +1,8 @@
 //! The planners of the library.
 
+use balduqen::doors;
 use balduqen_tests::cases::*;
 use balduqen_tests::check::{show, with_copy, Lent, Seen};
-use balduqen_tests::ffi;
 use balduqen_tests::gen::*;
 use balduqen_tests::model::{scratch_length, word, Answer};
 
@@ -307,7 +307,7 @@ mod search {
         let told = Answer::accepted(pages, root);
         assert_eq!(answer, told, "{kind:?} {marks:?}: {}", show(table));
         // The library's judge is of the same mind.
-        let judged = ffi::judge(table, &marks);
+        let judged = doors::judge(table, &marks);
         assert_eq!(judged, told, "{kind:?} {marks:?}: {}", show(table));
         (pages, root)
     }
@@ -370,7 +370,7 @@ mod search {
         for_each_table_and_best(1..=6, &[0, 1, 2, 3], &[1, 2, 3], |table, best| {
             seen[usize::from(best.is_some())] += 1;
             let Some(best) = best else {
-                assert_eq!(ffi::read_tree(table).number, 7, "{}", show(table));
+                assert_eq!(doors::read_tree(table).number, 7, "{}", show(table));
                 return;
             };
             let tree = read(table).expect("an accepted table");

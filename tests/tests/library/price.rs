@@ -1,9 +1,9 @@
 //! The prices of the library, and its savings.
 
+use balduqen::doors;
 use balduqen_tests::cases::*;
 use balduqen_tests::check::{show, with_copy, Lent, Seen};
 use balduqen_tests::exhaustive::for_each_plan;
-use balduqen_tests::ffi;
 use balduqen_tests::gen::*;
 use balduqen_tests::model::{self, read, scratch_length, sheets_length, word, Price, Saving, Tree};
 use balduqen_tests::price_list::{cents_of_pages, cents_of_plan};
@@ -13,11 +13,11 @@ use balduqen_tests::sheet_reader::read_sheets;
 /// library's judge says.
 fn price(table: &[u8], marks: &[u8]) -> Price {
     let price = with_copy(table, |table| {
-        with_copy(marks, |marks| ffi::price(table, marks))
+        with_copy(marks, |marks| doors::price(table, marks))
     });
     let expected = model::price(table, marks);
     assert_eq!(price, expected, "{}; {}", show(table), show(marks));
-    let judged = ffi::judge(table, marks);
+    let judged = doors::judge(table, marks);
     let refusal = (judged.number, judged.place);
     assert_eq!((price.number, price.place), refusal, "{}", show(table));
     let cents = match judged.is_accepted() {
@@ -40,7 +40,7 @@ fn saving(table: &[u8], marks: &[u8], scratch: &[u32]) -> (Saving, Vec<u8>) {
     let (mut lent_marks, mut lent_scratch) =
         (Lent::new(marks, 0xa5), Lent::new(scratch, 0xa5a5_a5a5));
     let saving = with_copy(table, |table| {
-        ffi::saving(table, lent_marks.slice(), lent_scratch.slice())
+        doors::saving(table, lent_marks.slice(), lent_scratch.slice())
     });
     assert_eq!(saving, expected, "{}", show(table));
     let (new_marks, new_scratch) = (lent_marks.content(), lent_scratch.content());
@@ -49,13 +49,13 @@ fn saving(table: &[u8], marks: &[u8], scratch: &[u32]) -> (Saving, Vec<u8>) {
     assert!(same_scratch, "scratch after {saving:?}: {}", show(table));
 
     let (mut best_marks, mut best_scratch) = (marks.to_vec(), scratch.to_vec());
-    let best = ffi::plan_best(table, &mut best_marks, &mut best_scratch);
+    let best = doors::plan_best(table, &mut best_marks, &mut best_scratch);
     let refusal = (best.number, best.place);
     assert_eq!((saving.number, saving.place), refusal, "{}", show(table));
     assert!(new_marks == best_marks && new_scratch == best_scratch);
     if best.is_accepted() {
         let mut single = marks.to_vec();
-        ffi::plan_single(table, &mut single, &mut best_scratch);
+        doors::plan_single(table, &mut single, &mut best_scratch);
         let tree = tree_of(table);
         let [best, single] = [&best_marks, &single].map(|marks| cents_of_plan(&tree, marks) as i32);
         assert_eq!(saving.saving, single - best, "{}", show(table));
@@ -234,7 +234,7 @@ mod prices {
                     let mut scratch = vec![7; scratch_length(count, limit)];
                     let planned = kind.library()(&table, &mut marks, &mut scratch);
                     let mut sheets = vec![7; sheets_length(planned.pages as usize)];
-                    ffi::print_sheets(&table, &marks, &mut sheets);
+                    doors::print_sheets(&table, &marks, &mut sheets);
                     let told = read_sheets(&sheets).expect("sound sheets").pages;
                     let weights = told.iter().map(|page| page.weight as u32);
                     let cents = cents_of_pages(&weights.collect::<Vec<u32>>(), limit as u32);

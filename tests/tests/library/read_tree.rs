@@ -1,14 +1,14 @@
 //! The tree reader of the library.
 
+use balduqen::doors;
 use balduqen_tests::cases::*;
 use balduqen_tests::check::{show, with_copy, Seen};
-use balduqen_tests::ffi;
 use balduqen_tests::gen::*;
 use balduqen_tests::model::{self, Answer};
 
 /// The library's answer, checked against the model's.
 fn read_tree(table: &[u8]) -> Answer {
-    let answer = with_copy(table, ffi::read_tree);
+    let answer = with_copy(table, doors::read_tree);
     assert_eq!(answer, model::read_tree(table), "{}", show(table));
     answer
 }

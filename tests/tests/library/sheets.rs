@@ -1,9 +1,9 @@
 //! The leader sheets of the library.
 
+use balduqen::doors;
 use balduqen_tests::cases::*;
 use balduqen_tests::check::*;
 use balduqen_tests::exhaustive::for_each_plan;
-use balduqen_tests::ffi;
 use balduqen_tests::gen::*;
 use balduqen_tests::model::{self, judge, read, scratch_length, sheets_length, word, Answer};
 use balduqen_tests::sheet_reader::read_sheets;
@@ -15,7 +15,9 @@ fn print_sheets(table: &[u8], marks: &[u8], on_entry: &[u8]) -> (Answer, Vec<u8>
     let model_answer = model::print_sheets(table, marks, &mut model_sheets);
     let mut lent = Lent::new(on_entry, 0xa5);
     let answer = with_copy(table, |table| {
-        with_copy(marks, |marks| ffi::print_sheets(table, marks, lent.slice()))
+        with_copy(marks, |marks| {
+            doors::print_sheets(table, marks, lent.slice())
+        })
     });
     assert_eq!(answer, model_answer, "{}; {}", show(table), show(marks));
     let sheets = lent.content();

@@ -1,8 +1,134 @@
-//! The proved library behind its C interface. A slice goes as a pointer and then a length; that of
-//! an empty Rust slice is a valid pointer to nothing. Each call hands over slices that live through
-//! it, which is what makes the unsafe blocks sound.
+//! The doors of the proved library, each as `include/balduqen.h` has it: buffers of any length are
+//! lent, and the answer is a few words. This is their one declaration in Rust.
+//!
+//! A slice goes as a pointer and then a length; that of an empty Rust slice is a valid pointer to
+//! nothing. Each call hands over slices that live through it, and what is filled is borrowed by
+//! nobody else, which is what makes the unsafe blocks sound.
 
-use crate::model::{Answer, Price, Saving};
+use crate::refusal::Refusal;
+use crate::Verdict;
+
+/// A number and a place, and the verdict beside them where a plan is given or made and accepted.
+#[repr(C)]
+#[derive(Clone, Copy, Debug, Default, PartialEq, Eq)]
+pub struct Answer {
+    pub number: u32,
+    pub place: u32,
+    pub pages: u32,
+    pub root: u32,
+}
+
+/// A number and a place as an `Answer` has them, and a plan's total in cents, or 0 where it is
+/// refused.
+#[repr(C)]
+#[derive(Clone, Copy, Debug, Default, PartialEq, Eq)]
+pub struct Price {
+    pub number: u32,
+    pub place: u32,
+    pub cents: u32,
+}
+
+/// The same with a saving, which can be below zero.
+#[repr(C)]
+#[derive(Clone, Copy, Debug, Default, PartialEq, Eq)]
+pub struct Saving {
+    pub number: u32,
+    pub place: u32,
+    pub saving: i32,
+}
+
+impl Answer {
+    /// Acceptance where there is no plan.
+    pub const ACCEPTED: Answer = Answer {
+        number: 0,
+        place: 0,
+        pages: 0,
+        root: 0,
+    };
+
+    /// Acceptance of a plan with this page count and root weight.
+    pub fn accepted(pages: usize, root: u32) -> Answer {
+        Answer {
+            pages: pages as u32,
+            root,
+            ..Answer::ACCEPTED
+        }
+    }
+
+    pub fn refused(number: u32, place: usize) -> Answer {
+        Answer {
+            number,
+            place: place as u32,
+            ..Answer::ACCEPTED
+        }
+    }
+
+    pub fn is_accepted(&self) -> bool {
+        self.number == 0
+    }
+
+    pub fn result(self) -> Result<Verdict, Refusal> {
+        Refusal::none(self.number, self.place)?;
+        Ok(Verdict {
+            pages: self.pages as usize,
+            root: self.root,
+        })
+    }
+}
+
+impl Price {
+    pub fn accepted(cents: u32) -> Price {
+        Price {
+            cents,
+            ..Price::default()
+        }
+    }
+
+    pub fn refused(number: u32, place: usize) -> Price {
+        Price {
+            number,
+            place: place as u32,
+            cents: 0,
+        }
+    }
+
+    /// Number and place.
+    pub fn answer(&self) -> Answer {
+        Answer::refused(self.number, self.place as usize)
+    }
+
+    pub fn result(self) -> Result<u32, Refusal> {
+        Refusal::none(self.number, self.place)?;
+        Ok(self.cents)
+    }
+}
+
+impl Saving {
+    pub fn accepted(saving: i32) -> Saving {
+        Saving {
+            saving,
+            ..Saving::default()
+        }
+    }
+
+    pub fn refused(number: u32, place: usize) -> Saving {
+        Saving {
+            number,
+            place: place as u32,
+            saving: 0,
+        }
+    }
+
+    /// Number and place.
+    pub fn answer(&self) -> Answer {
+        Answer::refused(self.number, self.place as usize)
+    }
+
+    pub fn result(self) -> Result<i32, Refusal> {
+        Refusal::none(self.number, self.place)?;
+        Ok(self.saving)
+    }
+}
 
 pub fn read_tree(table: &[u8]) -> Answer {
     extern "C" {
@@ -96,6 +222,7 @@ writer!(write_archive, balduqen_write_archive);
 writer!(write_archive2, balduqen_write_archive2);
 writer!(print_sheets, balduqen_print_sheets);
 
+/// An entry that reads an archive into a table and marks.
 macro_rules! reader {
     ($name:ident, $entry:ident) => {
         pub fn $name(archive: &[u8], table: &mut [u8], marks: &mut [u8]) -> Answer {
@@ -129,6 +256,7 @@ macro_rules! reader {
 reader!(read_archive, balduqen_read_archive);
 reader!(read_archive2, balduqen_read_archive2);
 
+/// An entry that writes film of one edition as film of the other.
 macro_rules! converter {
     ($name:ident, $entry:ident) => {
         pub fn $name(archive: &[u8], out: &mut [u8]) -> Answer {

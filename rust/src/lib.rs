@@ -1,0 +1,41 @@
+//! The proved library for Rust: it plans how a tree is laid on pages of film, judges plans, writes
+//! and reads the film's archive, prints leader sheets and prices plans. Slices go in; what is made
+//! comes out, or a refusal with its cause and place.
+//!
+//! A table and marks are bytes as `include/balduqen.h` tells them. Nothing is asked of what they
+//! hold or how long they are. Where the buffers are to be the caller's own, `doors` has each
+//! function with lent buffers.
+
+pub mod doors;
+mod film;
+mod length;
+mod plan;
+mod refusal;
+
+pub use film::{convert, read_archive, write_archive, Edition, Film};
+pub use length::{
+    archive_length, scratch_length, sheets_length, table_length, ARCHIVE_NODES, MAX_LIMIT,
+    MAX_NODES, STACK,
+};
+pub use plan::{judge, plan, price, print_sheets, saving, Plan, Planner};
+pub use refusal::{Cause, Refusal};
+
+/// The page count of an accepted plan, and the weight of its root page.
+#[derive(Clone, Copy, Debug, PartialEq, Eq)]
+pub struct Verdict {
+    pub pages: usize,
+    pub root: u32,
+}
+
+/// Whether the table holds a tree that can be planned.
+pub fn read_tree(table: &[u8]) -> Result<(), Refusal> {
+    doors::read_tree(table).result().map(|_| ())
+}
+
+/// A word of a table or an archive by its index, or 0 where the bytes end before it.
+fn word(bytes: &[u8], index: usize) -> usize {
+    match bytes.get(2 * index..2 * index + 2) {
+        Some(word) => 256 * usize::from(word[0]) + usize::from(word[1]),
+        None => 0,
+    }
+}
