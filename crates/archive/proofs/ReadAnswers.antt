@@ -19,7 +19,7 @@ use Rattle.theory.specs.Outputs.{written}
 use Rattle.theory.specs.ArchiveBack.{read-write}
 use Rattle.theory.specs.ArchiveAnswers.{read-none, read-table, read-marks, read-done}
 use Rattle.theory.specs.PromiseConvert.{convert-none, convert-write}
-use Rattle.writer.specs.Size.{longestTable}
+use Rattle.records.specs.Size.{longestTable}
 use Rattle.archive.specs.Answers.{restored, Told}
 
 -- a part that is lent

@@ -25,7 +25,7 @@ use Rattle.theory.specs.ArchiveWords.{Described, length-archive, archive-nodes}
 use Rattle.theory.specs.ArchiveBack.{sameList-true, write-read}
 use Rattle.theory.specs.ArchiveAnswers.{writeWith, WriteDone, writer-done, writer-refused}
 use Rattle.theory.specs.PromiseArchive.{read-promise}
-use Rattle.writer.specs.Size.{longestArchive, InRoom, fits-longest}
+use Rattle.records.specs.Size.{longestArchive, InRoom, fits-longest}
 use Rattle.film.specs.Decoded.{Decoded, too-many}
 
 abbrev pub restored : Answer → List ℕ → List ℕ → Restored

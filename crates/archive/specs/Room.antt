@@ -4,7 +4,7 @@ use Prim.Native.Nat.{ℕ, _≤_}
 use native.Mathlib.Omega.{arith}
 use mathlib.Core.Path.{_≡_}
 use Rattle.model.specs.declared.Edition.{Edition}
-use Rattle.writer.specs.Size.{InRoom, longestArchive, longestTable}
+use Rattle.records.specs.Size.{InRoom, longestArchive, longestTable}
 
 pub record Room (e : Edition) (tree plan copy : ℕ) : Type 0 where
   pub edition : InRoom e

@@ -12,7 +12,7 @@ ghost use Prim.Native.Nat.{_≤_};
 ghost use lib.ListN.{length};
 ghost use Rattle.model.specs.Basics.{sameList};
 ghost use Rattle.model.specs.Archive.{nodesIn};
-ghost use Rattle.writer.specs.Size.{InRoom, longestArchive};
+ghost use Rattle.records.specs.Size.{InRoom, longestArchive};
 ghost use Rattle.archive.specs.Room.{Room};
 ghost use Rattle.film.specs.Decoded.{Decoded};
 ghost use Rattle.archive.specs.Answers.{CopyJudged, Told};

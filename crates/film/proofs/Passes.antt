@@ -15,8 +15,8 @@ use Rattle.model.specs.declared.Edition.{Edition}
 use Rattle.theory.specs.Bools.{and-true, and-false-left, and-false-right}
 use Rattle.theory.specs.Ranges.{pick-true, pick-false}
 use Rattle.theory.specs.Put.{putWord, length-putWord, Starts, starts-none, starts-word}
-use Rattle.writer.specs.Size.{filmSlots, InRoom}
-use Rattle.writer.specs.Links.{Linked}
+use Rattle.records.specs.Size.{filmSlots, InRoom}
+use Rattle.records.specs.Links.{Linked}
 use Rattle.film.specs.DecodeTable.{WrittenBy, written-by, by-nodes, Loaded, links-in, links-at}
 use Rattle.film.specs.DecodeTable.{treeUpto, length-treeUpto, tree-decoded}
 use Rattle.film.specs.DecodeMarks.{Lasts, MarksInput, MarksRow, marks-decoded}

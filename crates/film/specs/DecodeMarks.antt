@@ -28,7 +28,7 @@ use Rattle.theory.specs.PlanFeasible.{Judged}
 use Rattle.theory.specs.PagesByNumber.{Page, page-first}
 use Rattle.theory.specs.ArchiveWords.{Described}
 use Rattle.theory.specs.JudgeAnswers.{pageCount-le}
-use Rattle.writer.specs.Size.{archiveNodes, filmSlots}
+use Rattle.records.specs.Size.{archiveNodes, filmSlots}
 use Rattle.film.specs.DecodeTable.{WrittenBy, by-pages, by-begin, by-end, fitted, fitted-same, fitted-le}
 
 -- the last of the run that node u is in, or 0 where it is in none

@@ -25,8 +25,8 @@ use Rattle.theory.specs.PagesByNumber.{Page}
 use Rattle.theory.specs.Put.{length-recordsTo}
 use Rattle.theory.specs.ArchiveWords.{Described, archive-nodes, archive-pages, archive-parent}
 use Rattle.theory.specs.ArchiveBack.{read-write, archive-next, begin-back, end-back}
-use Rattle.writer.specs.Size.{archiveNodes, filmSlots, InRoom}
-use Rattle.writer.specs.Links.{nextWith, Linked, nextWith-cong}
+use Rattle.records.specs.Size.{archiveNodes, filmSlots, InRoom}
+use Rattle.records.specs.Links.{nextWith, Linked, nextWith-cong}
 
 -- an archive, and the tree and the plan that write it, within the room
 pub record WrittenBy (e : Edition) (a t m : List ℕ) : Type 0 where

@@ -6,7 +6,7 @@ ghost use mathlib.Core.Path.{_≡_};
 ghost use Prim.Native.Nat.{_+_, _-_, _*_, _<_};
 ghost use Rattle.model.specs.Table.{wordAt};
 ghost use Rattle.model.specs.Archive.{nodesIn, limitIn, pagesIn, pageFieldIn, nodeFieldIn, parentIn};
-ghost use Rattle.writer.specs.Size.{InRoom};
+ghost use Rattle.records.specs.Size.{InRoom};
 
 // N.
 pub fn nodes_in(e: Edition, archive: &[u8]) -> u16

@@ -1,8 +1,4 @@
 // The archive's writer, in an edition. Refusals 15 and 12. What the reader takes from it is public.
-mod counts;
-pub mod links;
-mod records;
-pub mod size;
 pub mod write;
 
 pub use write::write_archive;

@@ -1,14 +1,5 @@
 // The archive's writer. It judges the plan, and puts head, page records and node records of the layout that the judge
 // found.
-use crate::counts::count_nodes;
-use crate::links::link_next;
-use crate::records::put_head;
-use crate::records::put_nodes;
-use crate::records::put_pages;
-use crate::size::FILM_SLOTS;
-use crate::size::archive_bytes;
-use crate::size::first_edition;
-use crate::size::second_edition;
 use judge::FIRSTS;
 use judge::LASTS;
 use judge::PAGE;
@@ -17,6 +8,15 @@ use judge::ROWS;
 use judge::judge_pages;
 use model::Answer;
 use model::Edition;
+use records::counts::count_nodes;
+use records::links::link_next;
+use records::records::put_head;
+use records::records::put_nodes;
+use records::records::put_pages;
+use records::size::FILM_SLOTS;
+use records::size::archive_bytes;
+use records::size::first_edition;
+use records::size::second_edition;
 use table::SLOTS;
 use table::check_tree;
 use table::earlier;
@@ -38,7 +38,7 @@ ghost use Rattle.theory.specs.PlanFeasible.{Judged};
 ghost use Rattle.theory.specs.Outputs.{written};
 ghost use Rattle.theory.specs.ArchiveAnswers.{writeFrom};
 ghost use Rattle.judge.specs.Rows.{layoutOf, IsLayout};
-ghost use Rattle.writer.specs.Size.{InRoom};
+ghost use Rattle.records.specs.Size.{InRoom};
 
 // The whole archive of an accepted tree and a feasible plan, into an output of its length.
 fn fill_archive<'a>(

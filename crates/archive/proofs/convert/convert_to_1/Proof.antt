@@ -8,7 +8,7 @@ use Rattle.model.specs.declared.Edition.{Edition}
 use Rattle.theory.specs.ArchiveWords.{first-described, second-described}
 use Rattle.theory.specs.Outputs.{promised}
 use Rattle.theory.specs.PromiseConvert.{convert-promise}
-use Rattle.writer.specs.Size.{InRoom, first-room, second-room}
+use Rattle.records.specs.Size.{InRoom, first-room, second-room}
 use Rattle.archive.specs.Room.{Room, room-of}
 use borrow.Author.Needs.{needs}
 use Rattle.archive.proofs.convert.convert_to_1.Statement.{statement}

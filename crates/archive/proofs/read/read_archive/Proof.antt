@@ -6,7 +6,7 @@ use Rattle.model.specs.Refusals.{readArchive}
 use Rattle.model.specs.declared.Edition.{Edition}
 use Rattle.theory.specs.ArchiveWords.{first-described}
 use Rattle.theory.specs.ArchiveBack.{editions-apart}
-use Rattle.writer.specs.Size.{first-room}
+use Rattle.records.specs.Size.{first-room}
 use Rattle.archive.specs.Room.{Room, room-of}
 use Rattle.archive.specs.Answers.{read-both}
 use borrow.Author.Needs.{needs}

@@ -5,8 +5,8 @@ use Prim.Native.Nat.{_≤_}
 use native.Mathlib.Omega.{arith}
 use lib.ListN.{getD}
 use Rattle.model.specs.Archive.{parentIn}
-use Rattle.writer.specs.Size.{archiveNodes}
-use Rattle.writer.specs.Links.{nextWith-le}
+use Rattle.records.specs.Size.{archiveNodes}
+use Rattle.records.specs.Links.{nextWith-le}
 use Rattle.film.specs.Decoded.{too-many}
 use Rattle.film.specs.DecodeTable.{fitted-small}
 use Rattle.film.proofs.Passes.{decoded}

@@ -4,7 +4,7 @@ use Prim.Native.Nat.{_+_, _-_, _≤_, _<_}
 use native.Mathlib.Omega.{arith}
 use lib.ListN.{length, getD, length-set, replicate, getD-replicate}
 use lib.Dec.{eqb}
-use Rattle.writer.specs.Size.{filmSlots}
+use Rattle.records.specs.Size.{filmSlots}
 use Rattle.film.specs.DecodeMarks.{MarksPass, marks-start, marks-turn}
 use Rattle.film.proofs.Passes.{sibling-small}
 use borrow.Author.Needs.{needs}

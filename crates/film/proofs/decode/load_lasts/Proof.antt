@@ -3,7 +3,7 @@ use mathlib.Core.Path.{_≡_, refl, ap, _∙_}
 use Prim.Native.Nat.{_-_, _≤_, _<_}
 use native.Mathlib.Omega.{arith}
 use lib.ListN.{length, length-set, replicate, getD-replicate}
-use Rattle.writer.specs.Size.{filmSlots}
+use Rattle.records.specs.Size.{filmSlots}
 use Rattle.film.specs.DecodeTable.{fitted, fitted-small}
 use Rattle.film.specs.DecodeMarks.{LastsPass, last-start, lasts-turn, lasts-end}
 use borrow.Author.Needs.{needs}

@@ -3,7 +3,7 @@ use mathlib.Core.Path.{_≡_, refl, ap, _∙_}
 use Prim.Native.Nat.{_-_, _≤_}
 use native.Mathlib.Omega.{arith}
 use lib.ListN.{length, length-set}
-use Rattle.writer.specs.Size.{filmSlots}
+use Rattle.records.specs.Size.{filmSlots}
 use Rattle.film.specs.DecodeTable.{Loaded, fitted, loaded-turn}
 use borrow.Author.Needs.{needs}
 use Rattle.film.proofs.decode.load_parents.Statement.{statement}

@@ -4,7 +4,7 @@ use Prim.Native.Nat.{_+_, _-_, _*_, _≤_}
 use native.Mathlib.Omega.{arith}
 use Rattle.model.specs.Table.{wordAt}
 use Rattle.model.specs.Archive.{nodeFieldIn}
-use Rattle.writer.specs.Size.{mostPage, page-words}
+use Rattle.records.specs.Size.{mostPage, page-words}
 use borrow.Author.Needs.{needs}
 use Rattle.film.proofs.fields.node_field.Statement.{statement}
 use Rattle.film.proofs.fields.node_field.Tie as tie

@@ -6,10 +6,10 @@ use Rattle.model.specs.Table.{slots, nodeCount}
 use Rattle.theory.specs.JudgeAnswers.{pageCount-le}
 use Rattle.theory.specs.ArchiveBack.{judged-light}
 use Rattle.judge.specs.Rows.{Layout, layoutOf}
-use Rattle.writer.specs.Size.{filmSlots}
-use Rattle.writer.specs.Links.{Fit}
-use Rattle.writer.specs.Counts.{counted-pages}
-use Rattle.writer.specs.RecordsOf.{head-put, all-put, next-of-page, page-fits}
+use Rattle.records.specs.Size.{filmSlots}
+use Rattle.records.specs.Links.{Fit}
+use Rattle.records.specs.Counts.{counted-pages}
+use Rattle.records.specs.RecordsOf.{head-put, all-put, next-of-page, page-fits}
 use borrow.Author.Needs.{needs}
 use Rattle.writer.proofs.write.fill_archive.Statement.{statement}
 use Rattle.writer.proofs.write.fill_archive.Tie as tie

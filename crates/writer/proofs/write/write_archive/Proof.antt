@@ -7,7 +7,7 @@ use Rattle.model.specs.declared.Edition.{Edition}
 use Rattle.theory.specs.ArchiveWords.{first-described}
 use Rattle.theory.specs.Outputs.{promised}
 use Rattle.theory.specs.PromiseArchive.{write-promise}
-use Rattle.writer.specs.Size.{InRoom, first-room}
+use Rattle.records.specs.Size.{InRoom, first-room}
 use borrow.Author.Needs.{needs}
 use Rattle.writer.proofs.write.write_archive.Statement.{statement}
 use Rattle.writer.proofs.write.write_archive.Tie as tie
