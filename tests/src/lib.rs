@@ -1,6 +1,6 @@
 //! What the outside tests share: a model of documents 01 and 02 written from them alone, exhaustive
 //! search over plans and over sets of sibling runs, generators of trees, tables and film, document
-//! 01's own cases, film kept from before, readers by the printed rule sheet and of leader sheets,
+//! 01's own cases, film kept from before, a reader of leader sheets,
 //! the film maker's price list, helpers for checks, guarded buffers, and the entries of both
 //! sides.
 
@@ -14,6 +14,5 @@ pub mod guarded;
 pub mod kept;
 pub mod model;
 pub mod price_list;
-pub mod rule_sheet;
 pub mod sheet_reader;
 pub mod stack;

@@ -23,8 +23,8 @@ use balduqen_tests::model::{
     ARCHIVE_NODES, EDITIONS, FIRST, MAX_LIMIT, MAX_NODES, SECOND,
 };
 use balduqen_tests::price_list::{cents_of_page, cents_of_pages, cheapest_by_pages, PRICE_LIST};
-use balduqen_tests::rule_sheet::rebuild;
 use balduqen_tests::sheet_reader::read_sheets;
+use balduqen_tools::rule_sheet::rebuild;
 use std::collections::{BTreeMap, BTreeSet};
 use std::io::Write;
 use std::process::{Command, Stdio};

@@ -12,10 +12,10 @@ use balduqen_tests::model::{
     self, judge, plan_best, read, read_as_before, scratch_length, word, Answer, Edition, Tree,
     EDITIONS, FIRST, SECOND,
 };
-use balduqen_tests::rule_sheet::{
+use balduqen_tests::tests_of_editions;
+use balduqen_tools::rule_sheet::{
     self, list_nodes, rebuild, tell_edition, Failed, Page, Place, Rebuilt,
 };
-use balduqen_tests::tests_of_editions;
 use std::collections::BTreeSet;
 
 const SHEET: &str = include_str!("../../docs/RULE-SHEET.txt");

@@ -4,6 +4,8 @@ use crate::colour::dark;
 
 pub const INK: &str = "#222222";
 pub const FAINT: &str = "#8a8a8a";
+/// Labels, beside numbers and weights.
+pub const LABEL: &str = "#555555";
 pub const ALARM: &str = "#d01515";
 
 pub fn rect((x, y): (i32, i32), (width, height): (i32, i32), round: i32, style: &str) -> String {
@@ -28,4 +30,10 @@ pub fn tag((x, y): (i32, i32), page: usize, over: bool) -> String {
     let style = "fill=\"#ffffff\" font-size=\"11\" font-weight=\"bold\" text-anchor=\"middle\"";
     rect((x, y), (width, 16), 8, &format!("fill=\"{fill}\""))
         + &text((x + width / 2, y + 12), style, &number)
+}
+
+/// A number of things, as a text.
+pub fn counted(count: usize, name: &str) -> String {
+    let plural = if count == 1 { "" } else { "s" };
+    format!("{count} {name}{plural}")
 }

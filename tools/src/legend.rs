@@ -132,8 +132,9 @@ impl<'a> Legend<'a> {
 
     fn draw_key(&self) -> String {
         let (x, y) = self.key;
-        let mut out = node_box((x, y), SIGN, 1, false) + &figures((x + SIGN / 2, y), "n", "w");
-        out += &text((x + WORDS, y + 25), "", "node number, weight below it");
+        let mut out =
+            node_box((x, y), SIGN, 1, false) + &figures((x + SIGN / 2, y), "n", "w", "label");
+        out += &text((x + WORDS, y + 32), "", "node, its weight and its label");
         for ((sign, meaning), row) in self.signs().iter().zip(1..) {
             let y = y + BOX_HEIGHT + row * ROW - ROW / 3;
             out += &sign((x, y));

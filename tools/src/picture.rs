@@ -1,12 +1,12 @@
 //! The tree: a box a node in the colour of its page, lines to parents, and bars along runs.
 
 use crate::colour::{dark, light};
-use crate::element::{self, path, rect, text, ALARM, FAINT};
+use crate::element::{self, path, rect, text, ALARM, FAINT, LABEL};
+use crate::fold::{Kind, Shown};
 use crate::layout;
-use crate::plan::Plan;
 use crate::tree::Tree;
 
-pub const BOX_HEIGHT: i32 = 40;
+pub const BOX_HEIGHT: i32 = 54;
 const LEAST_BOX_WIDTH: i32 = 40;
 /// Between the boxes of a level: room for a page's tag and the bar of a run.
 const GAP: i32 = 22;
@@ -19,8 +19,7 @@ pub const KEPT: &str = "fill=\"none\" stroke-width=\"3.5\"";
 pub const CUT: &str = "fill=\"none\" stroke-width=\"1.3\" stroke-dasharray=\"5 4\"";
 
 pub struct Picture<'a> {
-    tree: &'a Tree,
-    plan: &'a Plan,
+    shown: &'a Shown,
     /// The upper left corner.
     corner: (i32, i32),
     across: Vec<i32>,
@@ -30,14 +29,13 @@ pub struct Picture<'a> {
 }
 
 impl<'a> Picture<'a> {
-    pub fn new(tree: &'a Tree, plan: &'a Plan, corner: (i32, i32)) -> Picture<'a> {
-        let box_width = box_width(tree);
-        let across = layout::across(tree, box_width + GAP);
+    pub fn new(shown: &'a Shown, corner: (i32, i32)) -> Picture<'a> {
+        let box_width = box_width(shown);
+        let across = layout::across(&shown.tree, box_width + GAP);
         Picture {
-            tree,
-            plan,
+            shown,
             corner,
-            levels: levels(tree, &across),
+            levels: levels(&shown.tree, &across),
             across,
             box_width,
         }
@@ -52,34 +50,36 @@ impl<'a> Picture<'a> {
     /// Kept edges over cut ones, and boxes over the ends of edges and bars.
     pub fn draw(&self) -> String {
         let (kept, cut): (Vec<usize>, Vec<usize>) =
-            (2..=self.tree.count()).partition(|&number| self.plan.mark(number) == 0);
-        let bars = cut.iter().filter(|&&number| self.plan.mark(number) == 2);
+            (2..=self.shown.tree.count()).partition(|&number| self.shown.plan.mark(number) == 0);
+        let bars = cut
+            .iter()
+            .filter(|&&number| self.shown.plan.mark(number) == 2);
         let edges = cut.iter().chain(&kept).map(|&number| self.edge(number));
         edges
             .chain(bars.map(|&number| self.bar(number)))
-            .chain(self.tree.numbers().map(|number| self.node(number)))
+            .chain(self.shown.tree.numbers().map(|number| self.node(number)))
             .collect()
     }
 
     /// The upper left corner of a node's box.
     fn place(&self, number: usize) -> (i32, i32) {
         let (x, y) = self.corner;
-        let level = self.levels[self.tree.node(number).depth];
+        let level = self.levels[self.shown.tree.node(number).depth];
         (x + self.across[number - 1], y + level)
     }
 
     /// From the parent's box down to the node's.
     fn edge(&self, number: usize) -> String {
         let half = self.box_width / 2;
-        let (x1, y1) = self.place(self.tree.node(number).parent);
+        let (x1, y1) = self.place(self.shown.tree.node(number).parent);
         let (x1, y1) = (x1 + half, y1 + BOX_HEIGHT);
         let (x2, y2) = self.place(number);
         let x2 = x2 + half;
         let bend = (y1 + y2) / 2;
         let curve = format!("M{x1} {y1}C{x1} {bend} {x2} {bend} {x2} {y2}");
-        match self.plan.mark(number) {
+        match self.shown.plan.mark(number) {
             0 => {
-                let colour = dark(self.plan.page_of(number));
+                let colour = dark(self.shown.plan.page_of(number));
                 path(&curve, &format!("{KEPT} stroke=\"{colour}\""))
             }
             _ => path(&curve, &format!("{CUT} stroke=\"{FAINT}\"")),
@@ -88,41 +88,61 @@ impl<'a> Picture<'a> {
 
     /// From the sibling before to the node, both of one run.
     fn bar(&self, number: usize) -> String {
-        let (x, y) = self.place(self.tree.node(number).before);
+        let (x, y) = self.place(self.shown.tree.node(number).before);
         let length = self.place(number).0 - x;
         let at = (x + self.box_width / 2, y + (BOX_HEIGHT - BAR) / 2);
-        bar(at, (length, BAR), self.plan.page_of(number))
+        bar(at, (length, BAR), self.shown.plan.page_of(number))
     }
 
     fn node(&self, number: usize) -> String {
-        let node = self.tree.node(number);
-        let page = self.plan.page_of(number);
+        let page = self.shown.plan.page_of(number);
         let (x, y) = self.place(number);
-        let over = self.plan.page(page).weight > self.tree.limit;
-        let (weight, label) = (node.weight, node.label);
-        let mut out = format!(
-            "<g><title>node {number}, weight {weight}, label {label}, page {page}</title>\n"
-        );
+        let over = self.shown.plan.page(page).weight > self.shown.tree.limit;
+        let mut out = format!("<g><title>{}</title>\n", title(self.shown, number));
         out += &node_box((x, y), self.box_width, page, over);
-        out += &figures(
-            (x + self.box_width / 2, y),
-            &number.to_string(),
-            &weight.to_string(),
-        );
-        if self.plan.page(page).first == number {
+        let [name, weight, label] = lines(self.shown, number);
+        out += &figures((x + self.box_width / 2, y), &name, &weight, &label);
+        if self.shown.plan.page(page).first == number {
             out += &element::tag((x - 10, y - 12), page, over);
         }
         out + "</g>\n"
     }
 }
 
-/// Wide enough for every number and weight.
-fn box_width(tree: &Tree) -> i32 {
-    let figures = tree
-        .numbers()
-        .map(|number| tree.node(number).weight.max(number as u32));
-    let digits = figures.max().unwrap_or(0).to_string().len() as i32;
-    LEAST_BOX_WIDTH.max(14 + 9 * digits)
+/// What stands in a box: number, weight, and label or what is folded.
+fn lines(shown: &Shown, number: usize) -> [String; 3] {
+    let node = shown.tree.node(number);
+    let last = match shown.fold(number).kind {
+        Kind::One => node.label.to_string(),
+        _ => shown.folded_as(number),
+    };
+    [shown.name(number), node.weight.to_string(), last]
+}
+
+/// What is told of a node where one points at it.
+pub fn title(shown: &Shown, number: usize) -> String {
+    let node = shown.tree.node(number);
+    let (name, weight, label) = (shown.name(number), node.weight, node.label);
+    let page = shown.plan.page_of(number);
+    match shown.fold(number).kind {
+        Kind::One => format!("node {name}, weight {weight}, label {label}, page {page}"),
+        _ => format!(
+            "nodes {name}, {}, weight {weight}, page {page}",
+            shown.folded_as(number)
+        ),
+    }
+}
+
+/// Wide enough for every number, weight and label.
+fn box_width(shown: &Shown) -> i32 {
+    let lines = shown.tree.numbers().map(|number| lines(shown, number));
+    let widths = lines.map(|[name, weight, label]| {
+        let letters = |text: &str| text.chars().count() as i32;
+        (9 * letters(&name))
+            .max(8 * letters(&weight))
+            .max(7 * letters(&label))
+    });
+    LEAST_BOX_WIDTH.max(14 + widths.max().unwrap_or(0))
 }
 
 /// The upper side of each level. Where children spread far the drop is longer, or their lines would
@@ -159,12 +179,12 @@ pub fn node_box(at: (i32, i32), width: i32, page: usize, over: bool) -> String {
     rect(at, (width, BOX_HEIGHT), 6, &style)
 }
 
-/// A node's number over its weight, from the middle of the box's upper side.
-pub fn figures((x, y): (i32, i32), number: &str, weight: &str) -> String {
+/// A node's number over its weight and its label, from the middle of the box's upper side.
+pub fn figures((x, y): (i32, i32), number: &str, weight: &str, label: &str) -> String {
     let middle = "text-anchor=\"middle\"";
-    text(
-        (x, y + 18),
-        &format!("{middle} font-weight=\"bold\" font-size=\"15\""),
-        number,
-    ) + &text((x, y + 34), &format!("{middle} font-size=\"12\""), weight)
+    let bold = format!("{middle} font-weight=\"bold\" font-size=\"15\"");
+    let small = format!("{middle} font-size=\"11\" font-style=\"italic\" fill=\"{LABEL}\"");
+    text((x, y + 17), &bold, number)
+        + &text((x, y + 33), &format!("{middle} font-size=\"12\""), weight)
+        + &text((x, y + 48), &small, label)
 }

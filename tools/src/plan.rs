@@ -1,7 +1,9 @@
-//! A plan and its pages. It comes as a mark a node, or as the page program writes it.
+//! A plan and its pages. It comes as a mark a node, in bytes or as a text, or as the page program
+//! writes it.
 
+use crate::input::is_text;
 use crate::text::read_number;
-use crate::tree::Tree;
+use crate::tree::{Tree, WORDS};
 
 /// A page: its run from first node to last sibling, and the weight of all its nodes.
 #[derive(Clone, Debug, PartialEq, Eq)]
@@ -20,7 +22,7 @@ pub struct Plan {
 }
 
 impl Plan {
-    /// The plan of these marks, each 0, 1 or 2, if they are allowed. A page may weigh over the limit.
+    /// The plan of these marks, if they are allowed. A page may weigh over the limit.
     pub fn new(tree: &Tree, marks: Vec<u8>) -> Result<Plan, String> {
         if marks.len() != tree.count() {
             let (given, wanted) = (marks.len(), tree.count());
@@ -54,6 +56,7 @@ impl Plan {
         let mark = self.mark(number);
         let before = tree.node(number).before;
         let reason = match mark {
+            3.. => "a mark is 0, 1 or 2",
             0 | 2 if number == 1 => "the root begins a run and has 1",
             2 if before == 0 => "there is no sibling before it",
             2 if self.mark(before) == 0 => "the sibling before it is in no run",
@@ -86,20 +89,30 @@ impl Plan {
     }
 }
 
-pub fn read(tree: &Tree, text: &str) -> Result<Plan, String> {
-    let text = text.trim_end();
-    match text.split_whitespace().next() {
-        None => Err("the plan is empty".to_string()),
-        Some("pages") => read_listing(tree, text),
-        Some("refused") => Err(format!("there is no plan: {text}")),
-        Some(_) => read_marks(tree, text),
+/// The marks that a file tells. That each is allowed is not looked at, but where the pages are
+/// listed: a listing that is no plan's tells none.
+pub fn read_marks(tree: &Tree, content: &[u8]) -> Result<Vec<u8>, String> {
+    if !is_text(content) {
+        return Ok(content.to_vec());
+    }
+    let text = String::from_utf8_lossy(content);
+    let mut words = text.split_whitespace();
+    match words.next() {
+        Some("pages") => read_listing(tree, text.trim_end()).map(|plan| plan.marks),
+        Some("refused") => Err(format!("there is no plan: {}", text.trim_end())),
+        _ => text.split_whitespace().map(read_mark).collect(),
     }
 }
 
-fn read_marks(tree: &Tree, text: &str) -> Result<Plan, String> {
-    let mark = |word| read_number("mark", word, 0..=2).map(|mark| mark as u8);
-    let marks: Result<Vec<u8>, String> = text.split_whitespace().map(mark).collect();
-    Plan::new(tree, marks?)
+fn read_mark(word: &str) -> Result<u8, String> {
+    let mark = read_number("mark", word, 0..=2)?;
+    u8::try_from(mark).map_err(|_| format!("mark {word} is not in 0 to 2"))
+}
+
+/// The marks as a text.
+pub fn write_marks(marks: &[u8]) -> String {
+    let marks: Vec<String> = marks.iter().map(u8::to_string).collect();
+    marks.join(" ") + "\n"
 }
 
 /// The runs give the marks, and the marks the plan. The listing must then be that plan's, since one
@@ -134,7 +147,7 @@ fn read_figures<const N: usize>(line: &str, names: [&str; N]) -> Result<[u32; N]
     }
     let mut figures = [0; N];
     for (index, name) in names.into_iter().enumerate() {
-        figures[index] = read_number(name, words[2 * index + 1], 0..=u32::MAX)?;
+        figures[index] = read_number(name, words[2 * index + 1], WORDS)?;
     }
     Ok(figures)
 }
@@ -197,6 +210,10 @@ mod tests {
         }
     }
 
+    fn read(tree: &Tree, text: &str) -> Result<Plan, String> {
+        Plan::new(tree, read_marks(tree, text.as_bytes())?)
+    }
+
     fn fault(text: &str) -> String {
         read(&case_e(), text).expect_err(text)
     }
@@ -213,6 +230,9 @@ mod tests {
         assert_eq!(plan.pages, [page(1, 1, 5), page(2, 6, 4), page(4, 5, 4)]);
         assert_eq!(plan.page_of, [1, 2, 2, 3, 3, 2]);
         assert_eq!(read(&case_e(), E), Ok(plan));
+        let bytes = read_marks(&case_e(), &[1, 1, 2, 1, 2, 2]);
+        assert_eq!(bytes, read_marks(&case_e(), E.as_bytes()));
+        assert_eq!(write_marks(&bytes.unwrap()), "1 1 2 1 2 2\n");
     }
 
     #[test]
@@ -226,13 +246,15 @@ mod tests {
 
     #[test]
     fn bad_marks() {
-        assert_eq!(fault(" \n"), "the plan is empty");
+        assert_eq!(fault(" \n"), "0 marks for a tree of 6 nodes");
         assert_eq!(
             fault("refused 7 at 1\n"),
             "there is no plan: refused 7 at 1"
         );
         assert_eq!(fault("1 1 1 1 1"), "5 marks for a tree of 6 nodes");
-        assert_eq!(fault("1 1 3 1 1 1"), "mark 3 is not in 0 to 2");
+        let three = "node 3 has mark 3: a mark is 0, 1 or 2";
+        assert_eq!(fault("1 1 3 1 1 1"), three);
+        assert_eq!(fault("1 1 256 1 1 1"), "mark 256 is not in 0 to 2");
         assert_eq!(fault("1 1 x 1 1 1"), "mark \"x\" is not a number");
         let root = "node 1 has mark 0: the root begins a run and has 1";
         assert_eq!(fault("0 1 1 1 1 1"), root);

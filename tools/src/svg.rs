@@ -1,6 +1,9 @@
-//! A tree with a plan as an SVG: a heading, the picture and its legend.
+//! A tree with a plan as an SVG: a heading, then the tree and its legend or, where they would be too
+//! large to be read, cards.
 
-use crate::element::{rect, text, INK};
+use crate::cards::{Card, Columns, Deck, Detail};
+use crate::element::{counted, rect, text, INK};
+use crate::fold::Shown;
 use crate::legend::Legend;
 use crate::picture::Picture;
 use crate::plan::Plan;
@@ -9,23 +12,92 @@ use crate::tree::Tree;
 const MARGIN: i32 = 28;
 /// Room for the heading.
 const TOP: i32 = 74;
+/// A tree of more nodes is folded.
+const FEW: usize = 200;
+/// A tree that needs more is shown as cards.
+const WIDEST: i32 = 2400;
+const HIGHEST: i32 = 1600;
+/// So many rows are shown of each page that is cut from the one that is drawn.
+const ROWS: usize = 6;
 
 pub fn draw(tree: &Tree, plan: &Plan) -> String {
-    let corner = (MARGIN, TOP);
-    let picture = Picture::new(tree, plan, corner);
-    let legend = Legend::new(plan, tree.limit, corner, picture.size());
+    let is_large = tree.count() > FEW;
+    let shown = match is_large {
+        false => Shown::whole(tree, plan),
+        true => Shown::folded(tree, plan),
+    };
     let heading = heading(tree, plan);
-    let (width, height) = size(&picture, &legend, &heading);
+    draw_tree(tree, plan, &shown, &heading).unwrap_or_else(|| {
+        let deck = Deck::new(tree, &shown, is_large);
+        draw_cards(&deck, &[("", deck.cards())], &heading)
+    })
+}
+
+/// One page, with the page that it is cut from and those cut from it.
+pub fn draw_page(tree: &Tree, plan: &Plan, page: usize) -> String {
+    let nodes = tree
+        .numbers()
+        .filter(|&number| plan.page_of(number) == page);
+    let shown = match nodes.count() {
+        count if count <= FEW => Shown::whole(tree, plan),
+        _ => Shown::folded(tree, plan),
+    };
+    let deck = Deck::new(tree, &shown, false);
+    let above: Vec<Card> = match deck.above(page) {
+        0 => vec![],
+        above => vec![deck.card(above, Detail::Down(page))],
+    };
+    let below = deck.below(page).into_iter();
+    let below: Vec<Card> = below
+        .map(|page| deck.card(page, Detail::First(ROWS)))
+        .collect();
+    let itself = vec![deck.key(), deck.card(page, Detail::Whole)];
+    let named = [
+        ("the page that it is cut from", above),
+        ("the page", itself),
+        ("the pages cut from it", below),
+    ];
+    let groups: Vec<(&str, Vec<Card>)> = named
+        .into_iter()
+        .filter(|group| !group.1.is_empty())
+        .collect();
+    let heading = format!("page {page} of {}", heading(tree, plan));
+    draw_cards(&deck, &groups, &heading)
+}
+
+/// The tree with lines from parents to children, if it is not too large.
+fn draw_tree(tree: &Tree, plan: &Plan, shown: &Shown, heading: &str) -> Option<String> {
+    let corner = (MARGIN, TOP);
+    let picture = Picture::new(shown, corner);
+    let legend = Legend::new(plan, tree.limit, corner, picture.size());
+    let (width, height) = picture.size();
+    let (right, low) = legend.end();
+    let end = (right.max(MARGIN + width), low.max(TOP + height));
+    if end.0 > WIDEST || end.1 > HIGHEST {
+        return None;
+    }
+    Some(page(heading, end, picture.draw() + &legend.draw()))
+}
+
+fn draw_cards(deck: &Deck, groups: &[(&str, Vec<Card>)], heading: &str) -> String {
+    let columns = Columns::new(deck, groups, (MARGIN, TOP - 10));
+    page(heading, columns.end(), columns.draw())
+}
+
+/// A picture with its heading, as far as this lower right corner.
+fn page(heading: &str, (right, low): (i32, i32), content: String) -> String {
+    // Ten units are the most that a letter of the heading takes.
+    let right = right.max(MARGIN + 10 * heading.len() as i32);
+    let (width, height) = (right + MARGIN, low + MARGIN);
     let body = [
         format!("<title>{heading}</title>\n"),
         rect((0, 0), (width, height), 0, "fill=\"#ffffff\""),
         text(
             (MARGIN, 40),
             "font-size=\"16\" font-weight=\"bold\"",
-            &heading,
+            heading,
         ),
-        picture.draw(),
-        legend.draw(),
+        content,
     ];
     format!(
         "<svg xmlns=\"http://www.w3.org/2000/svg\" viewBox=\"0 0 {width} {height}\" \
@@ -42,29 +114,17 @@ fn heading(tree: &Tree, plan: &Plan) -> String {
     format!("{nodes}, {pages}, root page {root}, limit {limit}")
 }
 
-fn counted(count: usize, name: &str) -> String {
-    let plural = if count == 1 { "" } else { "s" };
-    format!("{count} {name}{plural}")
-}
-
-fn size(picture: &Picture, legend: &Legend, heading: &str) -> (i32, i32) {
-    let (width, height) = picture.size();
-    let (right, low) = legend.end();
-    // Ten units are the most that a letter of the heading takes.
-    let heading = 10 * heading.len() as i32;
-    let right = right.max(MARGIN + width.max(heading));
-    (right + MARGIN, low.max(TOP + height) + MARGIN)
-}
-
 #[cfg(test)]
 mod tests {
     use super::*;
     use crate::plan;
+    use crate::table;
     use crate::tree::tests::{case_e, random_tree};
-    use crate::tree::MAX_NODES;
+    use balduqen::MAX_NODES;
 
     fn drawn(tree: &Tree, marks: &str) -> String {
-        draw(tree, &plan::read(tree, marks).unwrap())
+        let marks = plan::read_marks(tree, marks.as_bytes()).unwrap();
+        draw(tree, &Plan::new(tree, marks).unwrap())
     }
 
     #[test]
@@ -102,10 +162,122 @@ mod tests {
         }
     }
 
+    /// How many nodes are told, each by itself or in a fold; each is told once.
+    fn nodes_told(picture: &str) -> usize {
+        let titles = picture.split("<title>").skip(1);
+        let named = titles.filter_map(|rest| {
+            let title = rest.split('<').next()?;
+            let names = title
+                .strip_prefix("nodes ")
+                .or(title.strip_prefix("node "))?;
+            let (names, _) = names.split_once(',')?;
+            let (first, last) = names.split_once('\u{2013}').unwrap_or((names, names));
+            Some(first.parse().ok()?..=last.parse().ok()?)
+        });
+        let mut told: Vec<usize> = named.flatten().collect();
+        let count = told.len();
+        told.sort_unstable();
+        told.dedup();
+        assert_eq!(told.len(), count, "a node is told twice");
+        count
+    }
+
+    fn size(picture: &str) -> (usize, usize) {
+        let side = |name: &str| {
+            let (_, rest) = picture.split_once(&format!(" {name}=\"")).unwrap();
+            rest.split('"').next().unwrap().parse().unwrap()
+        };
+        (side("width"), side("height"))
+    }
+
+    /// A tree by the depths of its nodes.
+    fn shaped(count: usize, depth: impl Fn(usize) -> usize) -> Tree {
+        let mut tree = Tree::new(64);
+        for index in 0..count {
+            tree.add(depth(index), 1 + index as u32 % 3, index as u32 + 1);
+        }
+        tree
+    }
+
+    /// Flat, deep, two nodes a level, and mixed; planned by each planner, and with a page a node.
     #[test]
-    fn the_largest_tree_is_drawn() {
-        let tree = random_tree(7, MAX_NODES);
-        let picture = drawn(&tree, &"1 ".repeat(MAX_NODES));
-        assert_eq!(picture.matches("<title>node ").count(), MAX_NODES);
+    fn large_trees_stay_readable() {
+        for count in [100, 250, MAX_NODES] {
+            let trees = [
+                shaped(count, |index| index.min(1)),
+                shaped(count, |index| index),
+                shaped(count, |index| index.div_ceil(2)),
+                shaped(count, |index| match index {
+                    0 => 0,
+                    _ => [1, 2, 3, 3, 3, 3, 3, 2, 3, 4][(index - 1) % 10],
+                }),
+                random_tree(7, count),
+            ];
+            for tree in trees {
+                let table = table::write(&tree);
+                let mut plans = vec![vec![1; count]];
+                for planner in balduqen::Planner::ALL {
+                    let planned = balduqen::plan(planner, &table);
+                    plans.extend(planned.map(|plan| plan.marks));
+                }
+                for marks in plans {
+                    let picture = draw(&tree, &Plan::new(&tree, marks).unwrap());
+                    assert_eq!(nodes_told(&picture), count);
+                    let (width, height) = size(&picture);
+                    assert!(width <= 6000 && height <= 4500, "{width} x {height}");
+                }
+            }
+        }
+    }
+
+    /// Above some hundred nodes leaves fold, and not below.
+    #[test]
+    fn leaves_fold_in_large_trees_only() {
+        for (count, folds) in [(FEW, 0), (FEW + 1, 1)] {
+            let tree = shaped(count, |index| index.min(1));
+            let mut marks = vec![0; count];
+            marks[0] = 1;
+            let picture = draw(&tree, &Plan::new(&tree, marks).unwrap());
+            let fold = format!("{} leaves", count - 1);
+            assert_eq!(picture.matches(&fold).count(), 2 * folds);
+            assert_eq!(nodes_told(&picture), count);
+        }
+    }
+
+    #[test]
+    fn one_page() {
+        let tree = case_e();
+        let plan = Plan::new(&tree, vec![1, 1, 2, 1, 2, 2]).unwrap();
+        let pictures = [1, 2, 3].map(|page| draw_page(&tree, &plan, page));
+        let headings = [
+            "the page that it is cut from",
+            "the page",
+            "the pages cut from it",
+        ];
+        let has = |picture: &str| headings.map(|heading| picture.contains(&format!(">{heading}<")));
+        assert_eq!(has(&pictures[0]), [false, true, true]);
+        assert_eq!(has(&pictures[1]), [true, true, true]);
+        assert_eq!(has(&pictures[2]), [true, true, false]);
+        for (picture, page) in pictures.iter().zip(1..) {
+            let heading = format!(">page {page} of 6 nodes, 3 pages, root page 5, limit 5<");
+            assert_eq!(picture.matches(&heading).count(), 2);
+        }
+        // Page 1 and its page 2; page 2, the way down to it, and its page 3; page 3 and the way down.
+        let told = pictures.map(|picture| nodes_told(&picture));
+        assert_eq!(told, [1 + 3, 3 + 1 + 2, 2 + 1]);
+    }
+
+    #[test]
+    fn one_page_of_a_large_tree() {
+        let tree = shaped(MAX_NODES, |index| index.min(1));
+        let plan = balduqen::plan(balduqen::Planner::Best, &table::write(&tree)).unwrap();
+        let plan = Plan::new(&tree, plan.marks).unwrap();
+        for page in [1, 2, plan.pages.len()] {
+            let picture = draw_page(&tree, &plan, page);
+            let (width, height) = size(&picture);
+            assert!(width <= 6000 && height <= 4500, "{width} x {height}");
+            let (first, last) = (plan.page(page).first, plan.page(page).last);
+            assert!(nodes_told(&picture) > last - first);
+        }
     }
 }

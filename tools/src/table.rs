@@ -1,7 +1,8 @@
 //! The tree table: N, K and N records of weight, label, first child and next sibling, in words of
 //! 16 bits, high byte first.
 
-use crate::tree::{Tree, LIMITS, MAX_NODES};
+use crate::tree::Tree;
+use balduqen::{MAX_LIMIT, MAX_NODES};
 
 struct Record {
     weight: u32,
@@ -15,7 +16,7 @@ pub fn write(tree: &Tree) -> Vec<u8> {
     for number in tree.numbers() {
         let node = tree.node(number);
         words.extend([node.weight, node.label]);
-        words.extend([tree.first_child(number), tree.next_sibling(number)].map(|link| link as u32));
+        words.extend([node.first_child, node.next_sibling].map(|link| link as u32));
     }
     words.into_iter().flat_map(word_bytes).collect()
 }
@@ -49,9 +50,8 @@ fn read_head(table: &[u8]) -> Result<(usize, u32), String> {
     if count == 0 || count > MAX_NODES {
         return Err(format!("{count} nodes; a table has 1 to {MAX_NODES}"));
     }
-    if !LIMITS.contains(&limit) {
-        let (least, most) = (LIMITS.start(), LIMITS.end());
-        return Err(format!("limit {limit} is not in {least} to {most}"));
+    if limit == 0 || limit as usize > MAX_LIMIT {
+        return Err(format!("limit {limit} is not in 1 to {MAX_LIMIT}"));
     }
     let right = 4 + 8 * count;
     if length != right {

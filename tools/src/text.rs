@@ -1,10 +1,14 @@
 //! A tree as an indented text: `limit K`, then a node a line, `weight label`, two spaces a level.
-//! Blank lines are passed over.
+//! Blank lines are passed over, and so is a byte-order mark, and a '#' with the rest of its line.
 
-use crate::tree::{Tree, LABELS, LIMITS, MAX_NODES, WEIGHTS};
+use crate::tree::{Tree, WORDS};
+use balduqen::{MAX_LIMIT, MAX_NODES};
 use std::ops::RangeInclusive;
 
+/// A limit or a count that no table has is read, as far as a table has room for it, for the library
+/// to refuse.
 pub fn read(text: &str) -> Result<Tree, String> {
+    let text = text.strip_prefix('\u{feff}').unwrap_or(text);
     let mut found = None;
     for (line, place) in text.lines().zip(1..) {
         read_line(&mut found, line).map_err(|fault| format!("line {place}: {fault}"))?;
@@ -29,6 +33,7 @@ pub fn write(tree: &Tree) -> String {
 
 /// The first line that is not blank has the limit, and each later one a node.
 fn read_line(found: &mut Option<Tree>, line: &str) -> Result<(), String> {
+    let line = line.split('#').next().unwrap_or(line);
     if line.contains('\t') {
         return Err("a tab; indent and separate with spaces".to_string());
     }
@@ -46,7 +51,7 @@ fn read_line(found: &mut Option<Tree>, line: &str) -> Result<(), String> {
 
 fn read_limit(indent: usize, words: &[&str]) -> Result<u32, String> {
     match words {
-        ["limit", limit] if indent == 0 => read_number("limit", limit, LIMITS),
+        ["limit", limit] if indent == 0 => read_number("limit", limit, 1..=MAX_LIMIT as u32),
         _ => Err("the first line is 'limit K', with no indent".to_string()),
     }
 }
@@ -56,9 +61,9 @@ fn add_node(tree: &mut Tree, indent: usize, words: &[&str]) -> Result<(), String
     let &[weight, label] = words else {
         return Err("a node is two numbers, 'weight label'".to_string());
     };
-    let weight = read_number("weight", weight, WEIGHTS)?;
-    let label = read_number("label", label, LABELS)?;
-    if tree.count() == MAX_NODES {
+    let weight = read_number("weight", weight, WORDS)?;
+    let label = read_number("label", label, WORDS)?;
+    if tree.count() as u32 == *WORDS.end() {
         return Err(format!("too many nodes; a table has at most {MAX_NODES}"));
     }
     tree.add(depth, weight, label);
@@ -87,13 +92,14 @@ fn read_depth(tree: &Tree, indent: usize) -> Result<usize, String> {
     }
 }
 
-/// Digits only: Rust's own reading would take a plus sign.
+/// A number that a word has room for; where it has none, what the number should be is told. Digits
+/// only: Rust's own reading would take a plus sign.
 pub fn read_number(name: &str, word: &str, range: RangeInclusive<u32>) -> Result<u32, String> {
     if word.is_empty() || !word.bytes().all(|byte| byte.is_ascii_digit()) {
         return Err(format!("{name} {word:?} is not a number"));
     }
     // What is too long to be read is out of every range.
-    let number = word.parse().ok().filter(|number| range.contains(number));
+    let number = word.parse().ok().filter(|number| WORDS.contains(number));
     let (least, most) = (range.start(), range.end());
     number.ok_or_else(|| format!("{name} {word} is not in {least} to {most}"))
 }
@@ -142,11 +148,11 @@ mod tests {
     #[test]
     fn bad_limits() {
         assert_eq!(fault(""), "line 1: 'limit K' is missing");
-        assert_eq!(fault("limit 0\n1 1"), "line 1: limit 0 is not in 1 to 1024");
         assert_eq!(
-            fault("limit 1025"),
-            "line 1: limit 1025 is not in 1 to 1024"
+            fault("limit 65536\n1 1"),
+            "line 1: limit 65536 is not in 1 to 1024"
         );
+        assert_eq!(read("limit 0\n1 1").map(|tree| tree.limit), Ok(0));
         assert_eq!(fault("limit x"), "line 1: limit \"x\" is not a number");
         let first = "line 1: the first line is 'limit K', with no indent";
         assert_eq!(fault("5 1\nlimit 5"), first);
@@ -197,10 +203,24 @@ mod tests {
     }
 
     #[test]
+    fn comments_and_a_byte_order_mark() {
+        let noted = "\u{feff}# the shift of case E\nlimit 5 # a page\n5 1#root\n  2 2\n  1 3\n#\n\n    2 4\n    2 5 # 9 9\n  1 6\n";
+        assert_eq!(read(noted), Ok(case_e()));
+        assert_eq!(fault("# limit 5\n"), "line 2: 'limit K' is missing");
+        assert_eq!(
+            fault("limit 5\n1 # 1\n"),
+            "line 2: a node is two numbers, 'weight label'"
+        );
+        // Only the first sign of a text is a byte-order mark.
+        assert!(fault("limit 5\n\u{feff}1 1\n").starts_with("line 2: weight"));
+    }
+
+    /// More nodes than a table has are for the library to refuse; more than a word counts are not.
+    #[test]
     fn node_limit() {
-        let most = format!("limit 5\n1 1\n{}", "  1 1\n".repeat(MAX_NODES - 1));
-        assert_eq!(read(&most).map(|tree| tree.count()), Ok(MAX_NODES));
-        let wanted = "line 2050: too many nodes; a table has at most 2048";
+        let most = format!("limit 5\n1 1\n{}", "  1 1\n".repeat(65534));
+        assert_eq!(read(&most).map(|tree| tree.count()), Ok(65535));
+        let wanted = "line 65537: too many nodes; a table has at most 2048";
         assert_eq!(fault(&(most + "  1 1\n")), wanted);
     }
 }

@@ -2,21 +2,23 @@
 
 use std::ops::RangeInclusive;
 
-pub const MAX_NODES: usize = 2048;
-pub const LIMITS: RangeInclusive<u32> = 1..=1024;
-/// 0 is a note, kept on the margin of the film.
-pub const WEIGHTS: RangeInclusive<u32> = 0..=65535;
-pub const LABELS: RangeInclusive<u32> = 0..=65535;
+/// What a word of a table holds. That a count, a limit or a label is in its own range is left to the
+/// library, which has a number for each.
+pub const WORDS: RangeInclusive<u32> = 0..=65535;
 
-/// A node. Parent and the sibling just before are node numbers, 0 for none.
+/// A node. Parent, first child and siblings are node numbers, 0 for none.
 #[derive(Clone, Debug, PartialEq, Eq)]
 pub struct Node {
+    /// 0 is a note, kept on the margin of the film.
     pub weight: u32,
     pub label: u32,
     /// Levels below the root.
     pub depth: usize,
     pub parent: usize,
+    /// The sibling just before.
     pub before: usize,
+    pub first_child: usize,
+    pub next_sibling: usize,
 }
 
 /// Nodes are numbered from 1, and node 1 is the root.
@@ -24,6 +26,8 @@ pub struct Node {
 pub struct Tree {
     pub limit: u32,
     nodes: Vec<Node>,
+    /// From the root to the node that was added last.
+    path: Vec<usize>,
 }
 
 impl Tree {
@@ -31,31 +35,32 @@ impl Tree {
         Tree {
             limit,
             nodes: vec![],
+            path: vec![],
         }
     }
 
     /// Adds the next node of the walk: the first has depth 0, a later one has from 1 to one more
     /// than the node before it.
     pub fn add(&mut self, depth: usize, weight: u32, label: u32) {
-        let parent = match depth {
-            0 => 0,
-            _ => self.last_at(depth - 1),
-        };
-        // One that comes before the parent hangs below another node.
-        let before = self.last_at(depth);
-        let before = if before > parent { before } else { 0 };
+        let number = self.count() + 1;
+        let parent = depth.checked_sub(1).map_or(0, |above| self.path[above]);
+        let before = self.path.get(depth).copied().unwrap_or(0);
+        if before != 0 {
+            self.nodes[before - 1].next_sibling = number;
+        } else if parent != 0 {
+            self.nodes[parent - 1].first_child = number;
+        }
+        self.path.truncate(depth);
+        self.path.push(number);
         self.nodes.push(Node {
             weight,
             label,
             depth,
             parent,
             before,
+            first_child: 0,
+            next_sibling: 0,
         });
-    }
-
-    fn last_at(&self, depth: usize) -> usize {
-        let at = self.nodes.iter().rposition(|node| node.depth == depth);
-        at.map_or(0, |index| index + 1)
     }
 
     pub fn count(&self) -> usize {
@@ -70,22 +75,14 @@ impl Tree {
         &self.nodes[number - 1]
     }
 
-    pub fn first_child(&self, number: usize) -> usize {
-        self.numbers()
-            .find(|&child| self.node(child).parent == number)
-            .unwrap_or(0)
-    }
-
-    pub fn next_sibling(&self, number: usize) -> usize {
-        self.numbers()
-            .find(|&sibling| self.node(sibling).before == number)
-            .unwrap_or(0)
-    }
-
     pub fn children(&self, number: usize) -> Vec<usize> {
-        self.numbers()
-            .filter(|&child| self.node(child).parent == number)
-            .collect()
+        let mut children = vec![];
+        let mut child = self.node(number).first_child;
+        while child != 0 {
+            children.push(child);
+            child = self.node(child).next_sibling;
+        }
+        children
     }
 }
 
@@ -128,7 +125,12 @@ pub mod tests {
         assert_eq!(parents, [0, 1, 1, 3, 3, 1]);
         assert_eq!(before, [0, 0, 2, 0, 4, 3]);
         assert_eq!(tree.children(1), [2, 3, 6]);
-        assert_eq!((tree.first_child(3), tree.next_sibling(3)), (4, 6));
-        assert_eq!((tree.first_child(6), tree.next_sibling(6)), (0, 0));
+        let links = |number| {
+            (
+                tree.node(number).first_child,
+                tree.node(number).next_sibling,
+            )
+        };
+        assert_eq!([1, 3, 5, 6].map(links), [(2, 0), (4, 6), (0, 0), (0, 0)]);
     }
 }

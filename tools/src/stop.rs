@@ -1,0 +1,43 @@
+//! What keeps a command from its end.
+
+use std::{fmt, io};
+
+#[derive(Clone, Debug, PartialEq, Eq)]
+pub enum Stop {
+    /// What was given is refused: why, and what had been found by then.
+    Refused { found: String, why: String },
+    /// The command is not as it should be, or a file cannot be read or written.
+    Trouble(String),
+}
+
+impl Stop {
+    pub fn refused(why: impl fmt::Display) -> Stop {
+        Stop::Refused {
+            found: String::new(),
+            why: why.to_string(),
+        }
+    }
+
+    /// A file that has not the form of what it should be, for which the list has no number.
+    pub fn bad_form(file: &str, fault: impl fmt::Display) -> Stop {
+        Stop::refused(format!("refused: {}: {fault}", name(file)))
+    }
+
+    /// A file that cannot be read or written.
+    pub fn of_file(file: &str, error: &io::Error) -> Stop {
+        let error = error.to_string();
+        let words = error.split(" (os error").next().unwrap_or(&error);
+        Stop::trouble(format!("{}: {words}", name(file)))
+    }
+
+    pub fn trouble(why: impl fmt::Display) -> Stop {
+        Stop::Trouble(why.to_string())
+    }
+}
+
+fn name(file: &str) -> &str {
+    match file {
+        "-" => "standard input",
+        _ => file,
+    }
+}

@@ -1,0 +1,141 @@
+//! The script at the root, in a folder of its own with stand-ins for what proves and builds: it builds
+//! what is not there or older than its sources, shows each crate as it is proved, and then runs.
+
+use std::fs;
+use std::os::unix::fs::PermissionsExt;
+use std::path::{Path, PathBuf};
+use std::process::{Command, Output};
+use std::thread::sleep;
+use std::time::Duration;
+
+const SCRIPT: &str = include_str!("../../balduqen");
+
+/// Proves, as the kit's command writes it.
+const RT: &str = r#"echo "rt $*" >> calls
+echo 'note: no function'
+echo 'rt: model proved (2 s)'
+echo 'struct model::Answer: proved'
+echo 'rt: theory proved (6 s)'
+mkdir -p target/staticlib && echo library > target/staticlib/libembed.a
+echo 'rt: target/staticlib/libembed.a has the functions of embed'
+"#;
+
+/// Builds a program that tells its words and the folder that it is called in.
+const CARGO: &str = r#"cd "$(dirname "$0")/.." && echo "cargo $*" >> calls
+mkdir -p target/tools/release
+printf '#!/bin/sh\necho "called: $*"\nexit 1\n' > target/tools/release/balduqen
+chmod +x target/tools/release/balduqen
+"#;
+
+struct Root(PathBuf);
+
+impl Root {
+    fn new(name: &str, rt: &str, cargo: &str) -> Root {
+        let root = Path::new(env!("CARGO_TARGET_TMPDIR")).join(name);
+        let _ = fs::remove_dir_all(&root);
+        for folder in ["bin", "crates", "rust", "tools/src", "elsewhere"] {
+            fs::create_dir_all(root.join(folder)).expect("a folder");
+        }
+        for file in [
+            "crates.txt",
+            "crates/lib.rt",
+            "tools/Cargo.toml",
+            "tools/src/main.rs",
+        ] {
+            fs::write(root.join(file), "").expect("a file");
+        }
+        let root = Root(root);
+        root.put("balduqen", SCRIPT);
+        root.put("bin/rt", &format!("#!/usr/bin/env bash\n{rt}"));
+        root.put("bin/cargo", &format!("#!/usr/bin/env bash\n{cargo}"));
+        root
+    }
+
+    fn put(&self, file: &str, text: &str) {
+        let path = self.0.join(file);
+        fs::write(&path, text).expect("a file");
+        fs::set_permissions(&path, fs::Permissions::from_mode(0o755)).expect("it can be run");
+    }
+
+    /// Runs the script from another folder: exit status, standard output and standard error.
+    fn run(&self) -> (Option<i32>, String, String) {
+        let path = std::env::var("PATH").expect("a path");
+        let Output {
+            status,
+            stdout,
+            stderr,
+        } = Command::new("../balduqen")
+            .args(["plan", "a b"])
+            .current_dir(self.0.join("elsewhere"))
+            .env("PATH", format!("{}:{path}", self.0.join("bin").display()))
+            .output()
+            .expect("the script runs");
+        let text = |bytes| String::from_utf8(bytes).expect("a text");
+        (status.code(), text(stdout), text(stderr))
+    }
+
+    fn calls(&self) -> String {
+        fs::read_to_string(self.0.join("calls")).unwrap_or_default()
+    }
+
+    /// A source is changed after what was built from it.
+    fn change(&self, file: &str) {
+        sleep(Duration::from_millis(20));
+        fs::write(self.0.join(file), "changed").expect("a file");
+    }
+}
+
+const PROVED: &str = "\
+The library is proved and built first; from nothing this takes a few minutes.
+  model proved (2 s)
+  theory proved (6 s)
+  embed proved, and target/staticlib/libembed.a is written
+The commands are built.
+";
+
+#[test]
+fn builds_once_and_runs() {
+    let root = Root::new("builds", RT, CARGO);
+    let called = "called: plan a b\n".to_string();
+    // The program's own exit status is the script's.
+    assert_eq!(root.run(), (Some(1), called.clone(), PROVED.to_string()));
+    let calls = root.calls();
+    assert_eq!(calls.lines().count(), 2, "{calls}");
+    assert!(
+        calls.starts_with("rt staticlib embed\ncargo build "),
+        "{calls}"
+    );
+    assert_eq!(root.run(), (Some(1), called.clone(), String::new()));
+    assert_eq!(root.calls(), calls);
+
+    root.change("tools/src/main.rs");
+    let built = "The commands are built.\n".to_string();
+    assert_eq!(root.run(), (Some(1), called.clone(), built));
+    assert_eq!(root.run(), (Some(1), called.clone(), String::new()));
+    root.change("crates/lib.rt");
+    assert_eq!(root.run(), (Some(1), called.clone(), PROVED.to_string()));
+    assert_eq!(root.run(), (Some(1), called, String::new()));
+}
+
+#[test]
+fn says_what_fails() {
+    let root = Root::new(
+        "not_proved",
+        "echo 'rt: model proved (2 s)'; echo fault; exit 1",
+        CARGO,
+    );
+    let (status, out, err) = root.run();
+    assert_eq!((status, out.as_str()), (Some(2), ""));
+    let wanted = "fault\nbalduqen: the library is not proved\n";
+    assert!(err.ends_with(wanted), "{err}");
+    assert_eq!(root.calls(), "");
+
+    let root = Root::new("not_built", RT, "echo 'error: fault'; exit 101");
+    let (status, out, err) = root.run();
+    assert_eq!((status, out.as_str()), (Some(2), ""));
+    let wanted = "error: fault\nbalduqen: the commands are not built\n";
+    assert!(err.ends_with(wanted), "{err}");
+    // The next call tries again.
+    root.put("bin/cargo", &format!("#!/usr/bin/env bash\n{CARGO}"));
+    assert_eq!(root.run().0, Some(1));
+}
