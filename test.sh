@@ -1,6 +1,7 @@
 #!/usr/bin/env bash
-# All tests: proves every crate, tries the must-fail edits and looks through their logs, runs the page program, then the tests in Rust
-# and C against the proved library and the page program, those of the tools, and the README's first command. The bench has to build.
+# All tests: proves every crate, tries the must-fail edits and looks through their logs, runs the page program, then the examples in C
+# and Rust, the README's first command, the tests in Rust against the proved library and the page program, and those of the crate for
+# Rust and of the commands, with the README's tour. The bench has to build.
 # The last line is 'N passed, M failed', and the exit status is 0 only where M is 0.
 set -u -o pipefail
 cd "$(dirname "$0")" || exit 2
@@ -84,16 +85,21 @@ gcc -std=c11 -Wall -Wextra -Werror -Iinclude examples/case_e.c -o target/case_e 
   target/case_e | diff - examples/case_e.out
 add_one example "$?"
 
+# The same in Rust.
+(cd rust && CARGO_TARGET_DIR=../target/rust cargo run -q --release --offline --example case_e) | diff - examples/case_e.out
+add_one "example in Rust" "$?"
+
 # The README's first command: what it shows, and the picture.
-./pages.sh tools/samples/e.txt target/e.svg | diff - tools/samples/e.plan && cmp target/e.svg docs/case-e.svg
+./balduqen plan tools/samples/e.txt --svg target/e.svg | diff - tools/samples/e.plan && cmp target/e.svg docs/case-e.svg
 add_one readme "$?"
 
 (cd bench && CARGO_TARGET_DIR=../target/bench cargo build --release --offline)
 add_one bench "$?"
 
+in_rust rust tests/header.rs=3 tests/readme.rs=1 tests/results.rs=6
 in_rust tests tests/entries.rs=73 tests/guarded.rs=32 tests/library.rs=234 tests/model.rs=77 tests/program.rs=18 tests/rule_sheet.rs=91 \
   tests/sheet_reader.rs=9 tests/stack.rs=2 tests/threads.rs=1
-in_rust tools src/main.rs=28 tests/commands.rs=6 tests/must_fail_logs.rs=3
+in_rust tools src/lib.rs=44 tests/must_fail_logs.rs=3 tests/script.rs=2 tests/sessions.rs=16
 
 echo "$passed passed, $failed failed"
 [ "$failed" -eq 0 ]
