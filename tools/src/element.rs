@@ -20,16 +20,38 @@ pub fn text((x, y): (i32, i32), style: &str, content: &str) -> String {
     format!("<text x=\"{x}\" y=\"{y}\" {style}>{content}</text>\n")
 }
 
-/// A page's number on a small tag, with a sign to it where the page is over the limit.
-pub fn tag((x, y): (i32, i32), page: usize, over: bool) -> String {
-    let (number, fill) = match over {
-        true => (format!("{page}!"), ALARM.to_string()),
-        false => (page.to_string(), dark(page)),
+/// The height of a page's tag.
+pub const TAG: i32 = 16;
+
+/// A page's number on a small tag of this height, with a sign to it where the page is over the limit.
+pub fn tag((x, y): (i32, i32), height: i32, page: usize, over: bool) -> String {
+    let fill = match over {
+        true => ALARM.to_string(),
+        false => dark(page),
     };
-    let width = 10 + 7 * number.len() as i32;
-    let style = "fill=\"#ffffff\" font-size=\"11\" font-weight=\"bold\" text-anchor=\"middle\"";
-    rect((x, y), (width, 16), 8, &format!("fill=\"{fill}\""))
-        + &text((x + width / 2, y + 12), style, &number)
+    let width = tag_width(height, page, over);
+    let size = (height + 6) / 2;
+    let style = format!(
+        "fill=\"#ffffff\" font-size=\"{size}\" font-weight=\"bold\" text-anchor=\"middle\""
+    );
+    let middle = (x + width / 2, y + (height + 8) / 2);
+    rect(
+        (x, y),
+        (width, height),
+        height / 2,
+        &format!("fill=\"{fill}\""),
+    ) + &text(middle, &style, &tag_text(page, over))
+}
+
+pub fn tag_width(height: i32, page: usize, over: bool) -> i32 {
+    height - 6 + 7 * tag_text(page, over).len() as i32
+}
+
+fn tag_text(page: usize, over: bool) -> String {
+    match over {
+        true => format!("{page}!"),
+        false => page.to_string(),
+    }
 }
 
 /// A number of things, as a text.

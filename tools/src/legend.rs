@@ -1,7 +1,7 @@
 //! The legend: what the signs mean, and each page's first node, last sibling and weight.
 
 use crate::colour::{dark, light};
-use crate::element::{path, rect, tag, text, ALARM, FAINT};
+use crate::element::{path, rect, tag, text, ALARM, FAINT, TAG};
 use crate::picture::{bar, figures, node_box, BOX_HEIGHT, CUT, KEPT};
 use crate::plan::Plan;
 
@@ -160,7 +160,7 @@ impl<'a> Legend<'a> {
         let (light, dark) = (light(number), dark(number));
         let style = format!("fill=\"{light}\" stroke=\"{dark}\" stroke-width=\"0.5\"");
         let mut out = rect((x, y), (LIST_WIDTH, ROW - 4), 4, &style);
-        out += &tag((x + 4, y + 2), number, over);
+        out += &tag((x + 4, y + 2), TAG, number, over);
         let figures = [page.first as u32, page.last as u32, page.weight];
         for (figure, end) in figures.into_iter().zip(ENDS) {
             out += &text((x + end, y + 15), END_STYLE, &figure.to_string());
@@ -175,7 +175,7 @@ impl<'a> Legend<'a> {
 }
 
 fn tag_sign((x, y): (i32, i32)) -> String {
-    tag((x + 11, y - 8), 1, false)
+    tag((x + 11, y - 8), TAG, 1, false)
 }
 
 fn kept_sign((x, y): (i32, i32)) -> String {

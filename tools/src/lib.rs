@@ -21,4 +21,6 @@ mod element;
 mod fold;
 mod layout;
 mod legend;
+mod list;
 mod picture;
+mod stacks;

@@ -8,11 +8,10 @@ use std::io::{self, ErrorKind, Write};
 use std::process::ExitCode;
 
 fn main() -> ExitCode {
-    let words: Vec<String> = env::args_os()
-        .skip(1)
-        .map(|word| word.to_string_lossy().into_owned())
-        .collect();
-    match run(&words) {
+    let words = env::args_os().skip(1).map(|word| word.into_string());
+    let words: Result<Vec<String>, _> = words.collect();
+    let words = words.map_err(|word| Stop::trouble(format!("{word:?} is no text in UTF-8")));
+    match words.and_then(|words| run(&words)) {
         Ok(()) => ExitCode::SUCCESS,
         Err(Stop::Refused { found, why }) => {
             // The refusal is what counts, wherever its report goes.

@@ -1,7 +1,7 @@
 //! The tree: a box a node in the colour of its page, lines to parents, and bars along runs.
 
 use crate::colour::{dark, light};
-use crate::element::{self, path, rect, text, ALARM, FAINT, LABEL};
+use crate::element::{self, path, rect, text, ALARM, FAINT, LABEL, TAG};
 use crate::fold::{Kind, Shown};
 use crate::layout;
 use crate::tree::Tree;
@@ -103,7 +103,7 @@ impl<'a> Picture<'a> {
         let [name, weight, label] = lines(self.shown, number);
         out += &figures((x + self.box_width / 2, y), &name, &weight, &label);
         if self.shown.plan.page(page).first == number {
-            out += &element::tag((x - 10, y - 12), page, over);
+            out += &element::tag((x - 10, y - 12), TAG, page, over);
         }
         out + "</g>\n"
     }

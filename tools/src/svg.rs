@@ -1,12 +1,13 @@
 //! A tree with a plan as an SVG: a heading, then the tree and its legend or, where they would be too
 //! large to be read, cards.
 
-use crate::cards::{Card, Columns, Deck, Detail};
+use crate::cards::{Card, Deck, Detail};
 use crate::element::{counted, rect, text, INK};
 use crate::fold::Shown;
 use crate::legend::Legend;
 use crate::picture::Picture;
 use crate::plan::Plan;
+use crate::stacks::Stacks;
 use crate::tree::Tree;
 
 const MARGIN: i32 = 28;
@@ -80,8 +81,8 @@ fn draw_tree(tree: &Tree, plan: &Plan, shown: &Shown, heading: &str) -> Option<S
 }
 
 fn draw_cards(deck: &Deck, groups: &[(&str, Vec<Card>)], heading: &str) -> String {
-    let columns = Columns::new(deck, groups, (MARGIN, TOP - 10));
-    page(heading, columns.end(), columns.draw())
+    let stacks = Stacks::new(deck, groups, (MARGIN, TOP - 10));
+    page(heading, stacks.end(), stacks.draw())
 }
 
 /// A picture with its heading, as far as this lower right corner.

@@ -204,7 +204,8 @@ mod tests {
 
     #[test]
     fn comments_and_a_byte_order_mark() {
-        let noted = "\u{feff}# the shift of case E\nlimit 5 # a page\n5 1#root\n  2 2\n  1 3\n#\n\n    2 4\n    2 5 # 9 9\n  1 6\n";
+        let noted = "\u{feff}# the shift of case E\nlimit 5 # a page\n5 1#root\n  2 2\n  1 3\n#\n\n    2 4\n\
+                     \x20   2 5 # 9 9\n  1 6\n";
         assert_eq!(read(noted), Ok(case_e()));
         assert_eq!(fault("# limit 5\n"), "line 2: 'limit K' is missing");
         assert_eq!(

@@ -3,14 +3,23 @@
 
 use crate::stop::Stop;
 
+/// What an option's value names.
+#[derive(Clone, Copy, Debug, PartialEq, Eq)]
+pub enum Role {
+    Word,
+    Input,
+    Output,
+}
+
 /// An option, which takes a value.
 pub struct Choice {
     pub name: &'static str,
     pub value: &'static str,
+    pub role: Role,
     pub needed: bool,
 }
 
-/// What a command takes, and what it does.
+/// What a command takes, and what it does. Operands are files that it reads.
 pub struct Usage {
     pub name: &'static str,
     pub operands: &'static [&'static str],
@@ -58,6 +67,7 @@ impl Usage {
             name,
             value,
             needed,
+            ..
         } in self.choices
         {
             line += &match needed {
@@ -116,17 +126,39 @@ impl Usage {
         if let Some(missing) = self.operands.get(given.operands.len()) {
             return Err(self.trouble(format!("{missing} is missing")));
         }
-        for Choice {
-            name,
-            value,
-            needed,
-        } in self.choices
-        {
-            if *needed && given.chosen(name).is_none() {
+        for choice in self.choices.iter().filter(|choice| choice.needed) {
+            let Choice { name, value, .. } = choice;
+            if given.chosen(name).is_none() {
                 return Err(self.trouble(format!("{name} {value} is missing")));
             }
         }
-        Ok(())
+        self.check_files(given)
+    }
+
+    /// Standard input is read once, and each output is a file of its own, which is not read.
+    fn check_files(&self, given: &Given) -> Result<(), Stop> {
+        let chosen = |role: Role| {
+            let choices = self
+                .choices
+                .iter()
+                .filter(move |choice| choice.role == role);
+            choices.filter_map(|choice| given.chosen(choice.name))
+        };
+        let operands = given.operands.iter().map(String::as_str);
+        let inputs: Vec<&str> = operands.chain(chosen(Role::Input)).collect();
+        if inputs.iter().filter(|&&name| name == "-").count() > 1 {
+            return Err(self.trouble("standard input can be read once only".to_string()));
+        }
+        let mut outputs: Vec<&str> = chosen(Role::Output).collect();
+        outputs.sort_unstable();
+        if let Some(two) = outputs.windows(2).find(|two| two[0] == two[1]) {
+            return Err(self.trouble(format!("'{}' is named for two outputs", two[0])));
+        }
+        let mut both = outputs.iter().filter(|name| inputs.contains(name));
+        match both.find(|name| **name != "-") {
+            Some(name) => Err(self.trouble(format!("'{name}' is read, and would be overwritten"))),
+            None => Ok(()),
+        }
     }
 
     /// A fault of the command line, and where to find how it should be.

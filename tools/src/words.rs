@@ -7,6 +7,9 @@ use crate::rule_sheet;
 use crate::table;
 use balduqen::{Cause, Edition, Refusal, ARCHIVE_NODES, MAX_LIMIT, MAX_NODES};
 
+const MARKS: &str =
+    "0 stays with its parent, 1 begins a run, 2 continues that of the sibling just before.";
+
 /// What a refused call was lent.
 #[derive(Clone, Copy, Debug, Default)]
 pub struct Lent<'a> {
@@ -28,37 +31,45 @@ impl Lent<'_> {
 
     fn found(&self, cause: Cause, place: usize) -> (String, String) {
         match cause {
-            Cause::ShortTable | Cause::BadCount | Cause::BadLimit | Cause::BadLength | Cause::BadWalk => {
-                (self.form(), self.form_advice(cause))
-            }
             Cause::HeavyNode => self.heavy_node(place),
-            Cause::NoLabel => (
-                format!("node {place} has label 0, a lot that nobody has filed"),
-                match self.archive {
-                    [] => format!("File the lot, and give node {place} its label."),
-                    _ => "This film has to stay of the first edition.".to_string(),
-                },
-            ),
+            Cause::NoLabel => self.no_label(place),
             Cause::BadMarks => (
                 format!("{} marks for a tree of {place} nodes", self.marks.len()),
                 "Give one mark for each node, in the order of the nodes.".to_string(),
             ),
-            Cause::BadMark => (
-                self.plan().err().unwrap_or_default(),
-                "0 stays with its parent, 1 begins a run, 2 continues that of the sibling just before.".to_string(),
-            ),
+            Cause::BadMark => (self.plan().err().unwrap_or_default(), MARKS.to_string()),
             Cause::HeavyPage => self.heavy_page(place),
             Cause::NoArchive => (self.no_archive(), self.no_archive_advice()),
-            Cause::ManyNodes => (
-                format!("{place} nodes, and the first edition takes up to {ARCHIVE_NODES}"),
-                match self.archive {
-                    [] => "Write edition 2: --edition 2.".to_string(),
-                    _ => "This film has to stay of edition 2.".to_string(),
-                },
-            ),
+            Cause::ManyNodes => self.many_nodes(place),
             // Buffers are made with the right lengths.
-            Cause::ShortScratch | Cause::BadOutput => (format!("a buffer of another length than {place}"), String::new()),
+            Cause::ShortScratch | Cause::BadOutput => (
+                format!("a buffer has not the length {place}"),
+                "This is a fault of the program.".to_string(),
+            ),
+            Cause::ShortTable
+            | Cause::BadCount
+            | Cause::BadLimit
+            | Cause::BadLength
+            | Cause::BadWalk => (self.form(), self.form_advice(cause)),
         }
+    }
+
+    fn no_label(&self, node: usize) -> (String, String) {
+        let advice = match self.archive {
+            [] => format!("File the lot, and give node {node} its label."),
+            _ => "This film has to stay of the first edition.".to_string(),
+        };
+        let found = format!("node {node} has label 0, a lot that nobody has filed");
+        (found, advice)
+    }
+
+    fn many_nodes(&self, nodes: usize) -> (String, String) {
+        let advice = match self.archive {
+            [] => "Write edition 2: --edition 2.",
+            _ => "This film has to stay of edition 2.",
+        };
+        let found = format!("{nodes} nodes, and the first edition takes up to {ARCHIVE_NODES}");
+        (found, advice.to_string())
     }
 
     /// What keeps the bytes from being a table, whatever the weights and labels.
