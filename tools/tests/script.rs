@@ -20,10 +20,10 @@ mkdir -p target/staticlib && echo library > target/staticlib/libembed.a
 echo 'rt: target/staticlib/libembed.a has the functions of embed'
 "#;
 
-/// Builds a program that tells its words and the folder that it is called in.
+/// Builds a program that tells its words.
 const CARGO: &str = r#"cd "$(dirname "$0")/.." && echo "cargo $*" >> calls
 mkdir -p target/tools/release
-printf '#!/bin/sh\necho "called: $*"\nexit 1\n' > target/tools/release/balduqen
+printf '#!/bin/sh\nfor word; do echo "word: $word"; done\nexit 1\n' > target/tools/release/balduqen
 chmod +x target/tools/release/balduqen
 "#;
 
@@ -96,7 +96,7 @@ The commands are built.
 #[test]
 fn builds_once_and_runs() {
     let root = Root::new("builds", RT, CARGO);
-    let called = "called: plan a b\n".to_string();
+    let called = "word: plan\nword: a b\n".to_string();
     // The program's own exit status is the script's.
     assert_eq!(root.run(), (Some(1), called.clone(), PROVED.to_string()));
     let calls = root.calls();
