@@ -68,7 +68,7 @@ impl Answer {
     }
 
     pub fn result(self) -> Result<Verdict, Refusal> {
-        Refusal::none(self.number, self.place)?;
+        Refusal::unless_accepted(self.number, self.place)?;
         Ok(Verdict {
             pages: self.pages as usize,
             root: self.root,
@@ -98,7 +98,7 @@ impl Price {
     }
 
     pub fn result(self) -> Result<u32, Refusal> {
-        Refusal::none(self.number, self.place)?;
+        Refusal::unless_accepted(self.number, self.place)?;
         Ok(self.cents)
     }
 }
@@ -125,7 +125,7 @@ impl Saving {
     }
 
     pub fn result(self) -> Result<i32, Refusal> {
-        Refusal::none(self.number, self.place)?;
+        Refusal::unless_accepted(self.number, self.place)?;
         Ok(self.saving)
     }
 }

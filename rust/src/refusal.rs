@@ -61,8 +61,8 @@ pub struct Refusal {
 }
 
 impl Refusal {
-    /// Refuses where an answer does: its number is 0 for acceptance.
-    pub(crate) fn none(number: u32, place: u32) -> Result<(), Refusal> {
+    /// The refusal that an answer is, unless its number is 0.
+    pub(crate) fn unless_accepted(number: u32, place: u32) -> Result<(), Refusal> {
         match number {
             0 => Ok(()),
             _ => Err(Refusal {

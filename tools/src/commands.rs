@@ -82,7 +82,7 @@ fn read_form(file: &str) -> Result<(Vec<u8>, Tree), Stop> {
         Ok(tree) => Ok((table, tree)),
         Err(fault) => Err(match balduqen::read_tree(&table) {
             Err(refusal) => of_table(&table)(refusal),
-            Ok(()) => Stop::bad_form(file, fault),
+            Ok(()) => Stop::bad_form(file, fault, text::FORM),
         }),
     }
 }
@@ -115,7 +115,7 @@ fn of_film(archive: &[u8]) -> impl Fn(Refusal) -> Stop + '_ {
 /// The marks that a file tells for a tree.
 fn read_marks(tree: &Tree, file: &str) -> Result<Vec<u8>, Stop> {
     let marks = plan::read_marks(tree, &read_file(file)?);
-    marks.map_err(|fault| Stop::bad_form(file, fault))
+    marks.map_err(|fault| Stop::bad_form(file, fault, plan::FORM))
 }
 
 /// The table of an accepted tree, and marks: those of a file or, without one, those of the best plan.
@@ -183,7 +183,7 @@ fn picture(
             Err(refusal) if [Cause::BadMarks, Cause::BadMark].contains(&refusal.cause) => {
                 of_plan(table, marks)(refusal)
             }
-            _ => Stop::refused(format!("refused: {fault}")),
+            _ => Stop::refused(format!("refused: {fault}\n    {}", plan::FORM)),
         })?;
     match page {
         None => Ok(svg::draw(tree, &plan).into()),

@@ -89,6 +89,9 @@ impl Plan {
     }
 }
 
+pub const FORM: &str =
+    "A plan is a mark a node, 0, 1 or 2, or the pages as 'balduqen plan' lists them.";
+
 /// The marks that a file tells. That each is allowed is not looked at, but where the pages are
 /// listed: a listing that is no plan's tells none.
 pub fn read_marks(tree: &Tree, content: &[u8]) -> Result<Vec<u8>, String> {

@@ -18,9 +18,10 @@ impl Stop {
         }
     }
 
-    /// A file that has not the form of what it should be, for which the list has no number.
-    pub fn bad_form(file: &str, fault: impl fmt::Display) -> Stop {
-        Stop::refused(format!("refused: {}: {fault}", name(file)))
+    /// A file that has not the form of what it should be, for which the list has no number; and what
+    /// that form is.
+    pub fn bad_form(file: &str, fault: impl fmt::Display, form: &str) -> Stop {
+        Stop::refused(format!("refused: {}: {fault}\n    {form}", name(file)))
     }
 
     /// A file that cannot be read or written.

@@ -5,6 +5,9 @@ use crate::tree::{Tree, WORDS};
 use balduqen::{MAX_LIMIT, MAX_NODES};
 use std::ops::RangeInclusive;
 
+pub const FORM: &str =
+    "A tree is 'limit K', then a node a line, 'weight label', two spaces of indent a level.";
+
 /// A limit or a count that no table has is read, as far as a table has room for it, for the library
 /// to refuse.
 pub fn read(text: &str) -> Result<Tree, String> {
