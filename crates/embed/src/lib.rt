@@ -226,7 +226,7 @@ pub extern "C" fn balduqen_convert_to_2(archive: &[u8], out: &mut [u8]) -> Figur
     ensures { λ r. ⌜ ConvertFigures firstEdition secondEdition (now (archive .entry)) (now (out .entry))
         r (now (out .exit)) ⌝ }
 {
-    flatten(archive::convert_to_2(archive, out))
+    flatten(converters::convert_to_2(archive, out))
 }
 
 #[no_mangle]
@@ -236,7 +236,7 @@ pub extern "C" fn balduqen_convert_to_1(archive: &[u8], out: &mut [u8]) -> Figur
     ensures { λ r. ⌜ ConvertFigures secondEdition firstEdition (now (archive .entry)) (now (out .entry))
         r (now (out .exit)) ⌝ }
 {
-    flatten(archive::convert_to_1(archive, out))
+    flatten(converters::convert_to_1(archive, out))
 }
 
 #[no_mangle]

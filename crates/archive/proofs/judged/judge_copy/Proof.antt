@@ -12,7 +12,7 @@ use Rattle.theory.specs.JudgeAnswers.{with-facts}
 use Rattle.theory.specs.Outputs.{written}
 use Rattle.theory.specs.ArchiveAnswers.{writeWith, write-entry}
 use Rattle.archive.specs.Answers.{copy-refused, copy-long, copy-stopped, copy-differs, copy-same}
-use Rattle.archive.proofs.ReadAnswers.{part-long, part-back}
+use Rattle.archive.specs.Parts.{part-long, part-back}
 use borrow.Author.Needs.{needs}
 use Rattle.archive.proofs.judged.judge_copy.Statement.{statement}
 use Rattle.archive.proofs.judged.judge_copy.Tie as tie

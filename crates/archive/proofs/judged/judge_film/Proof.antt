@@ -3,7 +3,7 @@ use mathlib.Core.Path.{ap, _∙_}
 use native.Mathlib.Omega.{arith}
 use Rattle.model.specs.Table.{tableBytes}
 use Rattle.archive.specs.Answers.{told-many, told-copy}
-use Rattle.archive.proofs.ReadAnswers.{known-part}
+use Rattle.archive.specs.Parts.{known-part}
 use borrow.Author.Needs.{needs}
 use Rattle.archive.proofs.judged.judge_film.Statement.{statement}
 use Rattle.archive.proofs.judged.judge_film.Tie as tie

@@ -4,8 +4,8 @@ use Prim.Native.Nat.{_≤_}
 use lib.ListN.{length}
 use Rattle.model.specs.Table.{tableBytes}
 use Rattle.model.specs.Archive.{nodesIn}
-use Rattle.archive.proofs.ReadAnswers.{known-part, tree-fits, plan-fits, reader-none, reader-table}
-use Rattle.archive.proofs.ReadAnswers.{reader-marks, reader-done}
+use Rattle.archive.specs.Parts.{known-part, tree-fits, plan-fits}
+use Rattle.archive.proofs.ReadAnswers.{reader-none, reader-table, reader-marks, reader-done}
 use Rattle.archive.specs.Room.{room-kept}
 use borrow.Author.Needs.{needs}
 use Rattle.archive.proofs.read.read_edition.Statement.{statement}

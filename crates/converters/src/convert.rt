@@ -1,5 +1,5 @@
 // From film of one edition to film of the other: the tree and the plan that the one tells, written in the other.
-use crate::judged::judge_film;
+use archive::judged::judge_film;
 use film::decode::decode;
 use film::nodes_in;
 use model::Answer;

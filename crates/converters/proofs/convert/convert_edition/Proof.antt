@@ -1,15 +1,15 @@
--- `archive::convert::convert_edition` meets its contract. Assumes nothing.
+-- `converters::convert::convert_edition` meets its contract. Assumes nothing.
 use mathlib.Core.Path.{_≡_, ap, _∙_}
 use Prim.Native.Nat.{_≤_}
 use lib.ListN.{length}
 use Rattle.model.specs.Table.{tableBytes}
 use Rattle.model.specs.Archive.{nodesIn}
-use Rattle.archive.proofs.ReadAnswers.{known-part, tree-fits, plan-fits, converter-none}
-use Rattle.archive.proofs.ReadAnswers.{converter-done}
+use Rattle.archive.specs.Parts.{known-part, tree-fits, plan-fits}
+use Rattle.converters.proofs.ConvertAnswers.{converter-none, converter-done}
 use Rattle.archive.specs.Room.{room-kept}
 use borrow.Author.Needs.{needs}
-use Rattle.archive.proofs.convert.convert_edition.Statement.{statement}
-use Rattle.archive.proofs.convert.convert_edition.Tie as tie
+use Rattle.converters.proofs.convert.convert_edition.Statement.{statement}
+use Rattle.converters.proofs.convert.convert_edition.Tie as tie
 
 -- ---- What was decoded, and how much of it is told
 

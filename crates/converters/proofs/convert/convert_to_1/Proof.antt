@@ -1,7 +1,7 @@
--- `archive::convert::convert_to_2` meets its contract. Assumes nothing.
+-- `converters::convert::convert_to_1` meets its contract. Assumes nothing.
 use mathlib.Core.Path.{sym, ap₂, subst, _∙_}
 use native.Mathlib.Omega.{arith}
-use Rattle.model.specs.Archive.{firstEdition, secondEdition}
+use Rattle.model.specs.Archive.{secondEdition, firstEdition}
 use Rattle.model.specs.Refusals.{convertArchive}
 use Rattle.model.specs.Demand.{ConvertPromise}
 use Rattle.model.specs.declared.Edition.{Edition}
@@ -9,17 +9,17 @@ use Rattle.theory.specs.ArchiveWords.{first-described, second-described}
 use Rattle.theory.specs.Outputs.{promised}
 use Rattle.theory.specs.PromiseConvert.{convert-promise}
 use Rattle.records.specs.Size.{InRoom, first-room, second-room}
 use Rattle.archive.specs.Room.{Room, room-of}
 use borrow.Author.Needs.{needs}
-use Rattle.archive.proofs.convert.convert_to_2.Statement.{statement}
-use Rattle.archive.proofs.convert.convert_to_2.Tie as tie
+use Rattle.converters.proofs.convert.convert_to_1.Statement.{statement}
+use Rattle.converters.proofs.convert.convert_to_1.Tie as tie
 
 convert-edition-requires : tie.Need-convert-edition-requires
 convert-edition-requires c κs =
     let to = c .before .before .before .before in (
-      subst (λ (x : Edition). Room x _ _ _) (sym (to .before .first-edition .ensures))
-          (room-of first-room),
-      subst (λ (x : Edition). InRoom x) (sym (to .second-edition .ensures)) second-room,
+      subst (λ (x : Edition). Room x _ _ _) (sym (to .before .second-edition .ensures))
+          (room-of second-room),
+      subst (λ (x : Edition). InRoom x) (sym (to .first-edition .ensures)) first-room,
     )
 
 returns : tie.Need-returns
@@ -29,15 +29,15 @@ returns c =
     let from = to .before in
     let start = from .before .before .before in
     let a = start .args in
-    promised (ConvertPromise firstEdition secondEdition (a .archive .now) (a .out .now))
-    (convert-promise first-described second-described (a .archive .now) (a .out .now)
+    promised (ConvertPromise secondEdition firstEdition (a .archive .now) (a .out .now))
+    (convert-promise second-described first-described (a .archive .now) (a .out .now)
     (λ i. omega (arith, from .before .before .shared-slice-known .given i)))
     (r .convert-edition .ensures
-    ∙ ap₂ (λ (x y : Edition). convertArchive x y (a .archive .now) (a .out .now)) (from .first-edition .ensures)
-    (to .second-edition .ensures))
+    ∙ ap₂ (λ (x y : Edition). convertArchive x y (a .archive .now) (a .out .now)) (from .second-edition .ensures)
+    (to .first-edition .ensures))
 
-pub convert-to-2-spec : {M : Type 1} → statement M
-convert-to-2-spec =
+pub convert-to-1-spec : {M : Type 1} → statement M
+convert-to-1-spec =
     tie.close
     (tie.spec (λ c κs. search needs) (λ c κs. search needs) (λ c. search needs) (λ c. search needs)
     (λ c. search needs) convert-edition-requires (λ c. search needs) returns)
