@@ -6,7 +6,7 @@ use columns::node::plan_nodes;
 use lay::lay_nodes;
 use table::SLOTS;
 use table::links::link_before;
-use table::words::limit_of;
+use words::read::limit_of;
 ghost use mathlib.Core.Path.{_≡_};
 ghost use Prim.Native.Nat.{_≤_};
 ghost use lib.ListN.{length};

@@ -1,7 +1,7 @@
 // The words of an archive of an edition: N, K and P, and the fields of the page records and the node records. What lies
 // past the end reads as 0.
 use model::Edition;
-use table::words::word_at;
+use words::read::word_at;
 ghost use mathlib.Core.Path.{_≡_};
 ghost use Prim.Native.Nat.{_+_, _-_, _*_, _<_};
 ghost use Rattle.model.specs.Table.{wordAt};

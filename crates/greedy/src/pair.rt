@@ -2,11 +2,11 @@
 // all nodes are weighed from the last to the first; then each node, from the first on, gives its first child and its
 // next sibling their marks.
 use crate::kept::kept_at;
-use table::words::first_at;
-use table::words::limit_of;
-use table::words::next_at;
-use table::words::node_count;
-use table::words::weight_at;
+use words::read::first_at;
+use words::read::limit_of;
+use words::read::next_at;
+use words::read::node_count;
+use words::read::weight_at;
 ghost use mathlib.Core.Path.{_≡_};
 ghost use Prim.Native.Nat.{_+_, _*_, _≤_};
 ghost use lib.ListN.{length};

@@ -1,11 +1,11 @@
 // The single planner: nodes from the last to the first, each with its children cut, the heaviest first, until it is
 // within the limit.
 use crate::kept::kept_at;
-use table::words::first_at;
-use table::words::limit_of;
-use table::words::next_at;
-use table::words::node_count;
-use table::words::weight_at;
+use words::read::first_at;
+use words::read::limit_of;
+use words::read::next_at;
+use words::read::node_count;
+use words::read::weight_at;
 ghost use mathlib.Core.Path.{_≡_};
 ghost use Prim.Native.Nat.{_≤_};
 ghost use Rattle.model.specs.Table.{limitOf, treeOf};

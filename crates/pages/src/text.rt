@@ -1,5 +1,5 @@
 // Text appended to the report at a position. Each function gives back the position after what it put.
-use table::put::put_text;
+use words::put::put_text;
 ghost use Prim.Native.Nat.{_+_, _≤_};
 ghost use lib.ListN.{length};
 ghost use Rattle.theory.specs.Appended.{Appended};

@@ -5,7 +5,7 @@ use judge::judge_pages;
 use model::Price;
 use table::SLOTS;
 use table::read_tree;
-use table::words::limit_of;
+use words::read::limit_of;
 ghost use mathlib.Core.Path.{_≡_};
 ghost use Rattle.model.specs.Refusals.{pricePlan};
 ghost use Rattle.model.specs.Demand.{PricePromise};

@@ -1,10 +1,10 @@
 // The plan of depth-first, in one pass in node order: a node joins the current page, which is the one begun last, or
 // begins the next.
 use table::SLOTS;
-use table::words::limit_of;
-use table::words::next_at;
-use table::words::node_count;
-use table::words::weight_at;
+use words::read::limit_of;
+use words::read::next_at;
+use words::read::node_count;
+use words::read::weight_at;
 ghost use mathlib.Core.Path.{_≡_};
 ghost use Prim.Native.Nat.{_+_, _-_, _*_, _≤_};
 ghost use lib.Dec.{eqb};

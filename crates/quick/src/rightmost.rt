@@ -2,11 +2,11 @@
 // until the node and what stays of them are within the limit.
 use table::SLOTS;
 use table::links::link_before;
-use table::words::first_at;
-use table::words::limit_of;
-use table::words::next_at;
-use table::words::node_count;
-use table::words::weight_at;
+use words::read::first_at;
+use words::read::limit_of;
+use words::read::next_at;
+use words::read::node_count;
+use words::read::weight_at;
 ghost use mathlib.Core.Path.{_≡_};
 ghost use Prim.Native.Nat.{_-_, _≤_};
 ghost use lib.Dec.{eqb};

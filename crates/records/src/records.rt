@@ -2,11 +2,11 @@
 use crate::size::FILM_SLOTS;
 use model::Edition;
 use table::SLOTS;
-use table::put::put_record;
-use table::put::put_word;
-use table::words::label_at;
-use table::words::node_count;
-use table::words::weight_at;
+use words::put::put_record;
+use words::put::put_word;
+use words::read::label_at;
+use words::read::node_count;
+use words::read::weight_at;
 ghost use mathlib.Core.Path.{_≡_};
 ghost use Prim.Native.Nat.{_+_, _*_, _≤_, _<_};
 ghost use lib.ListN.{length, getD};

@@ -9,7 +9,7 @@ use model::Answer;
 use table::SLOTS;
 use table::read_tree;
 use table::refuse;
-use table::words::limit_of;
+use words::read::limit_of;
 ghost use mathlib.Core.Path.{_≡_};
 ghost use Prim.Native.Nat.{_*_};
 ghost use lib.ListN.{length};

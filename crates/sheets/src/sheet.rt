@@ -5,7 +5,7 @@ use crate::line::first_line;
 use crate::line::last_line;
 use crate::line::page_line;
 use table::SLOTS;
-use table::put::put_text;
+use words::put::put_text;
 ghost use mathlib.Core.Path.{_≡_};
 ghost use Prim.Native.Nat.{_+_, _*_, _≤_, _<_};
 ghost use lib.ListN.{length};

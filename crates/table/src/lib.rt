@@ -1,18 +1,16 @@
-// The tree reader: words, the walk of the chains, and the refusals 1 to 7 and 14, of which 5 is retired. Words are also
-// put, for whoever writes a table, and siblings linked back, for whoever goes through them from the last.
+// The tree reader: the walk of the chains, and the refusals 1 to 7 and 14, of which 5 is retired. Siblings are also
+// linked back, for whoever goes through them from the last.
 pub mod links;
-pub mod put;
 mod walk;
-pub mod words;
 
 use model::Answer;
 use model::Beside;
 use model::Place;
 use walk::walk_place;
-use words::label_at;
-use words::limit_of;
-use words::node_count;
-use words::weight_at;
+use words::read::label_at;
+use words::read::limit_of;
+use words::read::node_count;
+use words::read::weight_at;
 ghost use mathlib.Core.Path.{_≡_};
 ghost use lib.Dec.{eqb, ltb};
 ghost use mathlib.Core.Bool.{_||_};

@@ -1,7 +1,7 @@
 // Links back to the sibling before.
 use crate::SLOTS;
-use crate::words::next_at;
-use crate::words::node_count;
+use words::read::next_at;
+use words::read::node_count;
 ghost use Rattle.theory.specs.SiblingsBack.{SiblingsLinked};
 ghost use Rattle.theory.specs.TableFacts.{AcceptedFacts};
 

@@ -1,8 +1,8 @@
 // The walk of the chains, child before sibling.
 use crate::SLOTS;
-use crate::words::first_at;
-use crate::words::next_at;
 use model::Place;
+use words::read::first_at;
+use words::read::next_at;
 ghost use mathlib.Core.Path.{_≡_};
 ghost use mathlib.Core.List.{[], _∷_};
 ghost use Prim.Native.Nat.{_+_, _*_, _≤_};

@@ -1,4 +1,4 @@
--- `table::words::field_at` meets its contract. Assumes nothing.
+-- `words::read::field_at` meets its contract. Assumes nothing.
 use mathlib.Core.Logic.{⊎-elim}
 use native.Mathlib.Omega.{arith}
 use denote.Ref.{now}
@@ -6,8 +6,8 @@ use Prim.Native.Nat.{ℕ, _+_, _*_}
 use mathlib.Core.Path.{ap, _∙_}
 use Rattle.model.specs.Table.{wordAt, fieldAt}
 use borrow.Author.Needs.{needs}
-use Rattle.table.proofs.words.field_at.Statement.{statement}
-use Rattle.table.proofs.words.field_at.Tie as tie
+use Rattle.words.proofs.read.field_at.Statement.{statement}
+use Rattle.words.proofs.read.field_at.Tie as tie
 
 returns : tie.Need-returns
 unfolding fieldAt

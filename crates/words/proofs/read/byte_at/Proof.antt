@@ -1,10 +1,10 @@
--- `table::words::byte_at` meets its contract. Assumes nothing.
+-- `words::read::byte_at` meets its contract. Assumes nothing.
 use denote.Ref.{now}
 use mathlib.Core.Path.{sym}
 use lib.ListN.{List·getD-eq-default}
 use borrow.Author.Needs.{needs}
-use Rattle.table.proofs.words.byte_at.Statement.{statement}
-use Rattle.table.proofs.words.byte_at.Tie as tie
+use Rattle.words.proofs.read.byte_at.Statement.{statement}
+use Rattle.words.proofs.read.byte_at.Tie as tie
 
 returns-2 : tie.Need-returns-2
 returns-2 c = sym (List·getD-eq-default (now (c .before .args .bytes)) 0 (c .if1 .left))

@@ -1,8 +1,8 @@
--- `table::words::word_at` meets its contract. Assumes nothing.
+-- `words::read::word_at` meets its contract. Assumes nothing.
 use Rattle.model.specs.Table.{wordAt}
 use borrow.Author.Needs.{needs}
-use Rattle.table.proofs.words.word_at.Statement.{statement}
-use Rattle.table.proofs.words.word_at.Tie as tie
+use Rattle.words.proofs.read.word_at.Statement.{statement}
+use Rattle.words.proofs.read.word_at.Tie as tie
 
 returns : tie.Need-returns
 unfolding wordAt

@@ -1,8 +1,8 @@
--- `table::put::put_word` meets its contract. Assumes nothing.
+-- `words::put::put_word` meets its contract. Assumes nothing.
 use Rattle.theory.specs.Put.{putWord}
 use borrow.Author.Needs.{needs}
-use Rattle.table.proofs.put.put_word.Statement.{statement}
-use Rattle.table.proofs.put.put_word.Tie as tie
+use Rattle.words.proofs.put.put_word.Statement.{statement}
+use Rattle.words.proofs.put.put_word.Tie as tie
 
 returns : tie.Need-returns
 unfolding putWord

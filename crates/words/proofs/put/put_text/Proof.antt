@@ -1,4 +1,4 @@
--- `table::put::put_text` meets its contract. Assumes nothing.
+-- `words::put::put_text` meets its contract. Assumes nothing.
 use mathlib.Core.Path.{_≡_, refl, ap, _∙_}
 use Prim.Native.Nat.{_+_, _-_, _≤_}
 use native.Mathlib.Omega.{arith}
@@ -6,8 +6,8 @@ use lib.Seq.{paste, paste-zero}
 use lib.ListN.{length, getD, set, length-set}
 use Rattle.theory.specs.Appended.{text-turn, text-end}
 use borrow.Author.Needs.{needs}
-use Rattle.table.proofs.put.put_text.Statement.{statement}
-use Rattle.table.proofs.put.put_text.Tie as tie
+use Rattle.words.proofs.put.put_text.Statement.{statement}
+use Rattle.words.proofs.put.put_text.Tie as tie
 
 abbrev Inv-loop : tie.InvT-loop
 Inv-loop out₀ at text i₀ out i = (i ≤ length text) × (length out ≡ length out₀) × (out ≡ paste out₀ at text i)
