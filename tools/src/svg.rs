@@ -6,7 +6,7 @@ use crate::element::{counted, rect, text, INK};
 use crate::fold::Shown;
 use crate::legend::Legend;
 use crate::picture::Picture;
-use crate::plan::Plan;
+use crate::plan::{Page, Plan};
 use crate::stacks::Stacks;
 use crate::tree::Tree;
 
@@ -36,20 +36,21 @@ pub fn draw(tree: &Tree, plan: &Plan) -> String {
 
 /// One page, with the page that it is cut from and those cut from it.
 pub fn draw_page(tree: &Tree, plan: &Plan, page: usize) -> String {
-    let nodes = tree
-        .numbers()
-        .filter(|&number| plan.page_of(number) == page);
-    let shown = match nodes.count() {
+    let is_on = |number: &usize| plan.page_of(*number) == page;
+    let shown = match tree.numbers().filter(is_on).count() {
         count if count <= FEW => Shown::whole(tree, plan),
         _ => Shown::folded(tree, plan),
     };
-    let deck = Deck::new(tree, &shown, false);
+    let is_cut = |run: &&Page| run.first > 1 && is_on(&tree.node(run.first).parent);
+    let has_rows = plan.pages.iter().filter(is_cut).count() > FEW;
+    let deck = Deck::new(tree, &shown, has_rows);
     let above: Vec<Card> = match deck.above(page) {
         0 => vec![],
         above => vec![deck.card(above, Detail::Down(page))],
     };
     let below = deck.below(page).into_iter();
     let below: Vec<Card> = below
+        .filter(|&page| !deck.is_row(page))
         .map(|page| deck.card(page, Detail::First(ROWS)))
         .collect();
     let itself = vec![deck.key(), deck.card(page, Detail::Whole)];
@@ -268,17 +269,20 @@ mod tests {
         assert_eq!(told, [1 + 3, 3 + 1 + 2, 2 + 1]);
     }
 
+    /// Best's plan, with many leaves a page, and single's, with a page a leaf.
     #[test]
     fn one_page_of_a_large_tree() {
         let tree = shaped(MAX_NODES, |index| index.min(1));
-        let plan = balduqen::plan(balduqen::Planner::Best, &table::write(&tree)).unwrap();
-        let plan = Plan::new(&tree, plan.marks).unwrap();
-        for page in [1, 2, plan.pages.len()] {
-            let picture = draw_page(&tree, &plan, page);
-            let (width, height) = size(&picture);
-            assert!(width <= 6000 && height <= 4500, "{width} x {height}");
-            let (first, last) = (plan.page(page).first, plan.page(page).last);
-            assert!(nodes_told(&picture) > last - first);
+        for planner in [balduqen::Planner::Best, balduqen::Planner::Single] {
+            let plan = balduqen::plan(planner, &table::write(&tree)).unwrap();
+            let plan = Plan::new(&tree, plan.marks).unwrap();
+            for page in [1, 2, plan.pages.len()] {
+                let picture = draw_page(&tree, &plan, page);
+                let (width, height) = size(&picture);
+                assert!(width <= 6000 && height <= 4500, "{width} x {height}");
+                let (first, last) = (plan.page(page).first, plan.page(page).last);
+                assert!(nodes_told(&picture) > last - first);
+            }
         }
     }
 }
