@@ -2,6 +2,20 @@
 //! and reads the film's archive, prints leader sheets and prices plans. Slices go in; what is made
 //! comes out, or a refusal with its cause and place.
 //!
+//! ```
+//! use balduqen::{plan, Cause, Planner};
+//!
+//! // One node and limit 5; then its weight and its label, no child and no sibling.
+//! let table = [0, 1, 0, 5, 0, 3, 0, 7, 0, 0, 0, 0];
+//! let best = plan(Planner::Best, &table)?;
+//! assert_eq!((best.verdict.pages, best.verdict.root), (1, 3));
+//!
+//! let heavy = [0, 1, 0, 5, 0, 9, 0, 7, 0, 0, 0, 0];
+//! let refusal = plan(Planner::Best, &heavy).unwrap_err();
+//! assert_eq!((refusal.cause, refusal.place), (Cause::HeavyNode, 1));
+//! # Ok::<(), balduqen::Refusal>(())
+//! ```
+//!
 //! A table and marks are bytes as `include/balduqen.h` tells them. Nothing is asked of what they
 //! hold or how long they are. Where the buffers are to be the caller's own, `doors` has each
 //! function with lent buffers.
