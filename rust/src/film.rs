@@ -4,7 +4,7 @@ use crate::doors::{self, Answer};
 use crate::{archive_length, judge, table_length, word, Refusal, Verdict};
 
 /// The first word of edition 2. No archive of the first edition begins with it.
-const EDITION_WORD: usize = 8194;
+const EDITION_WORD: u16 = 8194;
 
 #[derive(Clone, Copy, Debug, PartialEq, Eq)]
 pub enum Edition {
@@ -66,7 +66,7 @@ pub fn write_archive(edition: Edition, table: &[u8], marks: &[u8]) -> Result<Vec
 /// is read like any other; what is read then is refused by all that is handed a tree.
 pub fn read_archive(archive: &[u8]) -> Result<Film, Refusal> {
     let edition = Edition::of(archive);
-    let nodes = word(archive, edition.words_before());
+    let nodes = usize::from(word(archive, edition.words_before()));
     let (mut table, mut marks) = (vec![0; table_length(nodes)], vec![0; nodes]);
     let door = match edition {
         Edition::First => doors::read_archive,
@@ -85,7 +85,7 @@ pub fn read_archive(archive: &[u8]) -> Result<Film, Refusal> {
 pub fn convert(archive: &[u8]) -> Result<Vec<u8>, Refusal> {
     let from = Edition::of(archive);
     let at = from.words_before();
-    let (nodes, pages) = (word(archive, at), word(archive, at + 2));
+    let [nodes, pages] = [at, at + 2].map(|index| usize::from(word(archive, index)));
     let mut out = vec![0; archive_length(from.other(), pages, nodes)];
     let door: fn(&[u8], &mut [u8]) -> Answer = match from {
         Edition::First => doors::convert_to_2,

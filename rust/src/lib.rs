@@ -46,10 +46,11 @@ pub fn read_tree(table: &[u8]) -> Result<(), Refusal> {
     doors::read_tree(table).result().map(|_| ())
 }
 
-/// A word of a table or an archive by its index, or 0 where the bytes end before it.
-fn word(bytes: &[u8], index: usize) -> usize {
-    match bytes.get(2 * index..2 * index + 2) {
-        Some(word) => 256 * usize::from(word[0]) + usize::from(word[1]),
-        None => 0,
+/// A word of a table or an archive by its index, or 0 where the bytes end before it. It has 16 bits,
+/// so that no length that is worked out from words saturates.
+fn word(bytes: &[u8], index: usize) -> u16 {
+    match bytes.get(2 * index..) {
+        Some([high, low, ..]) => u16::from_be_bytes([*high, *low]),
+        _ => 0,
     }
 }

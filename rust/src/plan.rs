@@ -90,7 +90,7 @@ pub fn saving(table: &[u8]) -> Result<i32, Refusal> {
 /// amount of scratch.
 fn buffers(table: &[u8]) -> Result<(Vec<u8>, Vec<u32>), Refusal> {
     read_tree(table)?;
-    let (nodes, limit) = (word(table, 0), word(table, 1));
+    let [nodes, limit] = [0, 1].map(|index| usize::from(word(table, index)));
     Ok((vec![0; nodes], vec![0; scratch_length(nodes, limit)]))
 }
 
