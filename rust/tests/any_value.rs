@@ -1,5 +1,6 @@
 //! No public function panics, whatever value it is handed.
 
+use balduqen::doors::{Answer, Price, Saving};
 use balduqen::*;
 
 /// Values around those where a length passes `usize::MAX`, and a few small ones.
@@ -47,4 +48,59 @@ fn lengths_saturate() {
     }
     assert_eq!(table_length(usize::MAX), usize::MAX);
     assert_eq!(sheets_length(usize::MAX), usize::MAX);
+}
+
+/// An answer of any kind with this number and place, as a result without its amounts.
+fn results(number: u32, place: u32) -> [Result<(), Refusal>; 3] {
+    let answer = Answer {
+        number,
+        place,
+        ..Answer::default()
+    };
+    let price = Price {
+        number,
+        place,
+        ..Price::default()
+    };
+    let saving = Saving {
+        number,
+        place,
+        ..Saving::default()
+    };
+    [
+        answer.result().map(|_| ()),
+        price.result().map(|_| ()),
+        saving.result().map(|_| ()),
+    ]
+}
+
+/// A number of a newer library, or of a broken one, is told and not a panic.
+#[test]
+fn every_number_has_a_result() {
+    let listed = |number| (1..=15).contains(&number) && number != 5;
+    for number in (0..100).chain([u32::MAX]) {
+        for (place, result) in [0, 3, u32::MAX].map(|place| (place, results(number, place))) {
+            let wanted = match number {
+                0 => Ok(()),
+                _ if listed(number) => Err(Cause::of(number).expect("a cause")),
+                _ => Err(Cause::Unlisted(number)),
+            };
+            let wanted = wanted.map_err(|cause| Refusal { cause, place });
+            assert_eq!(result, [wanted; 3]);
+            if let Err(refusal) = wanted {
+                assert_eq!(refusal.cause.number(), number);
+                let said = refusal.to_string();
+                assert!(said.starts_with(&format!("refused {number} at {place}: ")));
+                assert_eq!(
+                    said.ends_with("this number is not in the list"),
+                    !listed(number)
+                );
+            }
+        }
+    }
+    let retired = results(5, 3)[0].expect_err("no acceptance");
+    assert_eq!(
+        retired.to_string(),
+        "refused 5 at 3: this number is not in the list"
+    );
 }

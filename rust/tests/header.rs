@@ -31,7 +31,8 @@ fn defined(name: &str) -> &'static str {
 #[test]
 fn the_list_is_the_headers() {
     let accepted = ("Accepted".to_string(), 0);
-    let ours = Cause::ALL.map(|cause| (format!("{cause:?}"), cause.number()));
+    let named = |cause: &Cause| (format!("{cause:?}"), cause.number());
+    let ours = Cause::ALL.iter().map(named);
     let all: Vec<(String, u32)> = [accepted].into_iter().chain(ours).collect();
     assert_eq!(all, causes());
     for number in 0..100 {

@@ -51,6 +51,10 @@ impl Lent<'_> {
             | Cause::BadLimit
             | Cause::BadLength
             | Cause::BadWalk => (self.form(), self.form_advice(cause)),
+            _ => (
+                "this program does not know the number".to_string(),
+                "The library is newer than the program: take one that is as new.".to_string(),
+            ),
         }
     }
 
