@@ -25,6 +25,7 @@ mod film;
 mod length;
 mod plan;
 mod refusal;
+mod unknown;
 
 pub use film::{convert, read_archive, write_archive, Edition, Film};
 pub use length::{
@@ -33,6 +34,7 @@ pub use length::{
 };
 pub use plan::{judge, plan, price, print_sheets, saving, Plan, Planner};
 pub use refusal::{Cause, Refusal};
+pub use unknown::{UnknownEdition, UnknownPlanner};
 
 /// The page count of an accepted plan, and the weight of its root page.
 #[derive(Clone, Copy, Debug, PartialEq, Eq)]

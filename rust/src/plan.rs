@@ -1,21 +1,31 @@
 //! Plans made, judged, printed and priced.
 
-use crate::{doors, read_tree, scratch_length, sheets_length, word, Refusal, Verdict};
+use crate::{
+    doors, read_tree, scratch_length, sheets_length, word, Refusal, UnknownPlanner, Verdict,
+};
 use std::fmt;
 use std::str::FromStr;
 
-/// The six planners.
+/// The six planners. Each plans every tree that can be planned.
 #[derive(Clone, Copy, Debug, PartialEq, Eq)]
 pub enum Planner {
+    /// The fewest pages of all plans and, with as many, the lightest root page.
     Best,
+    /// As best, but each branch keeps its own best plan.
     Level,
+    /// Cuts the heaviest child, as a run by itself, until the rest fits.
     Single,
+    /// The same on the tree of first children and next siblings, so that runs can be longer.
     Pair,
+    /// Cuts runs of last children, each as long as a page holds, until the rest fits. It is quick.
     Rightmost,
+    /// Lays each node, in their order, on the page begun last where it can, and else begins one. It
+    /// is quick.
     DepthFirst,
 }
 
 impl Planner {
+    /// All planners, the best one first.
     pub const ALL: [Planner; 6] = [
         Planner::Best,
         Planner::Level,
@@ -25,6 +35,8 @@ impl Planner {
         Planner::DepthFirst,
     ];
 
+    /// Its name, by which a planner is also read from text.
+    #[must_use]
     pub fn name(self) -> &'static str {
         match self {
             Planner::Best => "best",
@@ -36,7 +48,8 @@ impl Planner {
         }
     }
 
-    /// Its door: table, marks, scratch.
+    /// Its door, which takes a table and fills marks with the help of scratch.
+    #[must_use]
     pub fn door(self) -> fn(&[u8], &mut [u8], &mut [u32]) -> doors::Answer {
         match self {
             Planner::Best => doors::plan_best,
@@ -56,23 +69,27 @@ impl fmt::Display for Planner {
 }
 
 impl FromStr for Planner {
-    type Err = String;
+    type Err = UnknownPlanner;
 
-    fn from_str(name: &str) -> Result<Planner, String> {
+    fn from_str(name: &str) -> Result<Planner, UnknownPlanner> {
         let mut all = Planner::ALL.into_iter();
         all.find(|planner| planner.name() == name)
-            .ok_or_else(|| format!("there is no planner '{name}'"))
+            .ok_or_else(|| UnknownPlanner::new(name))
     }
 }
 
-/// A plan of a tree: a mark a node, and the verdict.
+/// A plan of a tree.
+#[must_use]
 #[derive(Clone, Debug, PartialEq, Eq)]
 pub struct Plan {
+    /// A mark a node, in their order: 0 stays with its parent, 1 begins a run, 2 continues that of
+    /// the sibling just before.
     pub marks: Vec<u8>,
+    /// Its page count and root weight.
     pub verdict: Verdict,
 }
 
-/// The planner's plan for the tree.
+/// The planner's plan for the tree. Refuses 1 to 4, 6, 7 and 14: what is no tree, or has no plan.
 pub fn plan(planner: Planner, table: &[u8]) -> Result<Plan, Refusal> {
     let (mut marks, mut scratch) = buffers(table)?;
     let answer = planner.door()(table, &mut marks, &mut scratch);
@@ -80,7 +97,8 @@ pub fn plan(planner: Planner, table: &[u8]) -> Result<Plan, Refusal> {
     Ok(Plan { marks, verdict })
 }
 
-/// What the best plan of the tree costs less than the single planner's, in cents.
+/// What the best plan of the tree costs less than the single planner's, in cents; below 0 where it
+/// costs more. Refuses as `plan` does.
 pub fn saving(table: &[u8]) -> Result<i32, Refusal> {
     let (mut marks, mut scratch) = buffers(table)?;
     doors::saving(table, &mut marks, &mut scratch).result()
@@ -94,17 +112,18 @@ fn buffers(table: &[u8]) -> Result<(Vec<u8>, Vec<u32>), Refusal> {
     Ok((vec![0; nodes], vec![0; scratch_length(nodes, limit)]))
 }
 
-/// Whether the marks are a plan of the tree with no page over the limit.
+/// Whether the marks are a plan of the tree with no page over the limit. Refuses 1 to 4, 6 to 8, 10,
+/// 11 and 14.
 pub fn judge(table: &[u8], marks: &[u8]) -> Result<Verdict, Refusal> {
     doors::judge(table, marks).result()
 }
 
-/// What the plan costs, in cents.
+/// What the plan costs, in cents. Refuses where `judge` does.
 pub fn price(table: &[u8], marks: &[u8]) -> Result<u32, Refusal> {
     doors::price(table, marks).result()
 }
 
-/// The leader sheets of the plan: lines of 80 columns, 60 to a sheet.
+/// The leader sheets of the plan: lines of 80 columns, 60 to a sheet. Refuses where `judge` does.
 pub fn print_sheets(table: &[u8], marks: &[u8]) -> Result<Vec<u8>, Refusal> {
     let verdict = judge(table, marks)?;
     let mut sheets = vec![0; sheets_length(verdict.pages)];

@@ -47,7 +47,7 @@ fn case_e() {
     assert_eq!(saving(&table), Ok(347));
     let sheet = include_bytes!("../../examples/case_e.sheet");
     assert_eq!(print_sheets(&table, &best.marks), Ok(sheet.to_vec()));
-    for edition in [Edition::First, Edition::Second] {
+    for edition in Edition::ALL {
         let archive = write_archive(edition, &table, &best.marks).expect("an archive");
         assert_eq!(archive.len(), archive_length(edition, 3, 6));
         assert_eq!(Edition::of(&archive), edition);
@@ -63,7 +63,7 @@ fn case_e() {
     }
 }
 
-/// Each planner by its name, and that it is the door of that name.
+/// The page count of each planner, and that it is the door's.
 #[test]
 fn planners() {
     let pages =
@@ -72,15 +72,11 @@ fn planners() {
     let counts = Planner::ALL.map(|planner| pages(planner, &table));
     assert_eq!(counts, [3, 4, 4, 3, 4, 4]);
     for planner in Planner::ALL {
-        assert_eq!(planner.name().parse(), Ok(planner));
-        assert_eq!(planner.to_string(), planner.name());
         let made = plan(planner, &table).expect("a plan");
         let (mut marks, mut scratch) = (vec![7; 6], vec![7; scratch_length(6, 5)]);
         let answer = planner.door()(&table, &mut marks, &mut scratch);
         assert_eq!((answer.result(), marks), (Ok(made.verdict), made.marks));
     }
-    let unknown = "greedy".parse::<Planner>();
-    assert_eq!(unknown, Err("there is no planner 'greedy'".to_string()));
 }
 
 /// Each cause that a call can meet, and what it says. Buffers are made here with the right lengths,
@@ -178,7 +174,7 @@ fn refusals_are_handed_on() {
     let wanted = refusal(Cause::HeavyPage, 1);
     assert_eq!(price(&bytes(&E), &over), Err(wanted));
     assert_eq!(print_sheets(&bytes(&E), &over), Err(wanted));
-    for edition in [Edition::First, Edition::Second] {
+    for edition in Edition::ALL {
         assert_eq!(write_archive(edition, &bytes(&E), &over), Err(wanted));
     }
 }
@@ -187,7 +183,7 @@ fn refusals_are_handed_on() {
 #[test]
 fn damaged_film() {
     let table = bytes(&E);
-    for edition in [Edition::First, Edition::Second] {
+    for edition in Edition::ALL {
         let archive = write_archive(edition, &table, &[1, 1, 2, 1, 2, 2]).expect("an archive");
         let damaged = Err(refusal(Cause::NoArchive, 0));
         for length in 0..archive.len() {
