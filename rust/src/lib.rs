@@ -17,8 +17,11 @@
 //! ```
 //!
 //! A table and marks are bytes as `include/balduqen.h` tells them. Nothing is asked of what they
-//! hold or how long they are. Where the buffers are to be the caller's own, `doors` has each
-//! function with lent buffers.
+//! hold or how long they are, and no function panics on any value. A call uses up to `STACK` bytes
+//! of stack. Where the buffers are to be the caller's own, `doors` has each function with lent
+//! buffers.
+
+#![deny(missing_docs)]
 
 pub mod doors;
 mod film;
@@ -39,17 +42,19 @@ pub use unknown::{UnknownEdition, UnknownPlanner};
 /// The page count of an accepted plan, and the weight of its root page.
 #[derive(Clone, Copy, Debug, PartialEq, Eq)]
 pub struct Verdict {
+    /// How many pages the plan has.
     pub pages: usize,
+    /// What the root page weighs.
     pub root: u32,
 }
 
-/// Whether the table holds a tree that can be planned.
+/// Whether the table holds a tree that can be planned. Refuses 1 to 4, 6, 7 and 14.
 pub fn read_tree(table: &[u8]) -> Result<(), Refusal> {
     doors::read_tree(table).result().map(|_| ())
 }
 
-/// A word of a table or an archive by its index, or 0 where the bytes end before it. It has 16 bits,
-/// so that no length that is worked out from words saturates.
+/// A word of a table or an archive by its index, or 0 where the bytes end before it. It has 16
+/// bits, so that no length that is worked out from words saturates.
 fn word(bytes: &[u8], index: usize) -> u16 {
     match bytes.get(2 * index..) {
         Some([high, low, ..]) => u16::from_be_bytes([*high, *low]),

@@ -112,8 +112,8 @@ fn buffers(table: &[u8]) -> Result<(Vec<u8>, Vec<u32>), Refusal> {
     Ok((vec![0; nodes], vec![0; scratch_length(nodes, limit)]))
 }
 
-/// Whether the marks are a plan of the tree with no page over the limit. Refuses 1 to 4, 6 to 8, 10,
-/// 11 and 14.
+/// Whether the marks are a plan of the tree with no page over the limit. Refuses 1 to 4, 6 to 8,
+/// 10, 11 and 14.
 pub fn judge(table: &[u8], marks: &[u8]) -> Result<Verdict, Refusal> {
     doors::judge(table, marks).result()
 }

@@ -104,3 +104,72 @@ fn every_number_has_a_result() {
         "refused 5 at 3: this number is not in the list"
     );
 }
+
+/// A count that an answer's word has no room for is the highest, and not a small one.
+#[test]
+fn counts_of_an_answer_saturate() {
+    let words = [0, 1, u32::MAX - 1, u32::MAX];
+    let counts = words.map(|word| (word as usize, word));
+    let over = [1 << 32, (1 << 32) + 7, usize::MAX].map(|count| (count, u32::MAX));
+    for (count, word) in counts.into_iter().chain(over) {
+        assert_eq!(Answer::accepted(count, 7).pages, word);
+        assert_eq!(Answer::refused(12, count).place, word);
+        assert_eq!(Price::refused(12, count).answer().place, word);
+        assert_eq!(Saving::refused(12, count).answer().place, word);
+    }
+}
+
+/// Beginnings of bytes: nothing, half a word, a tree of one node and its film in the first edition,
+/// the word of edition 2, and heads that ask for as much as words can.
+const HEADS: [&[u8]; 7] = [
+    &[],
+    &[0],
+    &[0, 1, 0, 5, 0, 3, 0, 7],
+    &[0, 1, 0, 5, 0, 1, 0, 1, 0, 1, 0, 3, 0, 0, 0, 3, 0, 7],
+    &[0x20, 0x02],
+    &[0x20, 0x02, 255, 255, 255, 255, 255, 255],
+    &[255; 8],
+];
+
+/// The beginnings, filled up to short lengths and to those of long tables.
+fn any_bytes() -> Vec<Vec<u8>> {
+    let mut all = vec![];
+    for head in HEADS {
+        for length in (0..40).chain([table_length(2048), table_length(65535)]) {
+            for fill in [0, 1, 2, 255] {
+                let mut bytes = head.to_vec();
+                bytes.resize(length.max(head.len()), fill);
+                all.push(bytes);
+            }
+        }
+    }
+    all
+}
+
+/// Every function that makes its buffers takes any bytes, and the same are refused by those that
+/// ask for the same.
+#[test]
+fn any_bytes_have_a_result() {
+    let (mut trees, mut plans, mut films) = (0, 0, 0);
+    for bytes in any_bytes() {
+        let accepted = read_tree(&bytes);
+        trees += u32::from(accepted.is_ok());
+        for planner in Planner::ALL {
+            assert_eq!(plan(planner, &bytes).map(|_| ()), accepted);
+        }
+        assert_eq!(saving(&bytes).map(|_| ()), accepted);
+        for marks in [&[], &[1][..], &bytes] {
+            let judged = judge(&bytes, marks);
+            plans += u32::from(judged.is_ok());
+            assert_eq!(price(&bytes, marks).err(), judged.err());
+            assert_eq!(print_sheets(&bytes, marks).err(), judged.err());
+            for edition in Edition::ALL {
+                assert_eq!(write_archive(edition, &bytes, marks).err(), judged.err());
+            }
+        }
+        let film = read_archive(&bytes);
+        films += u32::from(film.is_ok());
+        assert_eq!(convert(&bytes).err(), film.err());
+    }
+    assert!(trees > 0 && plans > 0 && films > 0);
+}

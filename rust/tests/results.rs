@@ -179,7 +179,7 @@ fn refusals_are_handed_on() {
     }
 }
 
-/// Film cut short at each length, and with each byte changed: 13 or another tree, and never a panic.
+/// Film cut short at each length, and with each byte changed: 13 or another tree, never a panic.
 #[test]
 fn damaged_film() {
     let table = bytes(&E);
@@ -206,7 +206,8 @@ fn damaged_film() {
                 );
             }
         }
-        // The labels' two bytes each, but for 1 that would become 0 in edition 2; and the lowest bit of K.
+        // The labels' two bytes each, but for 1 that would become 0 in edition 2; and the lowest bit
+        // of K.
         assert!(read >= 11, "{read}");
     }
 }
