@@ -297,7 +297,8 @@ pub fn film_times(load: &Load, plan: &Plan) -> FilmTimes {
         new_films: soiled,
     };
     for (film, plain) in lent.films.iter_mut().zip(&PLAIN) {
-        (plain.write)(lent.table, lent.marks, film);
+        // The first edition refuses a longer tree, on which its steps are not tried.
+        let _ = (plain.write)(lent.table, lent.marks, film);
     }
     STEPS.map(|step| {
         let is_tried = step.is_tried(load.nodes);

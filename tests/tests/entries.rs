@@ -903,7 +903,8 @@ fn film_with_a_note(entries: &Entries) {
     let (table, marks) = (note_between().bytes(), [1, 1, 2, 2]);
     on_film(entries, &table, &marks, &[2, 2]);
     let mut archive = [7; 54];
-    (entries.film(FIRST).write)(&table, &marks, &mut archive);
+    let answer = (entries.film(FIRST).write)(&table, &marks, &mut archive);
+    assert_eq!(answer, Answer::accepted(2, 2));
     assert_eq!(archive[..], archive_of_note_between());
 }
 

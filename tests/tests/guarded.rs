@@ -2,6 +2,11 @@
 //! model. What is lent to be read stands in memory that cannot be written. A touch outside what was
 //! lent ends the process, which counts as a failure.
 
+#![allow(
+    unused_must_use,
+    reason = "a call here is a check, which has looked at the answer that it gives back"
+)]
+
 use balduqen::doors;
 use balduqen_tests::cases::*;
 use balduqen_tests::check::{show, Seen};

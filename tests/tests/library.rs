@@ -1,5 +1,10 @@
 //! Tests of the proved library through its C interface, each call against the model.
 
+#![allow(
+    unused_must_use,
+    reason = "a call here is a check, which has looked at the answer that it gives back"
+)]
+
 #[path = "library/convert.rs"]
 mod convert;
 #[path = "library/judge.rs"]

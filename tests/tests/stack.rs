@@ -2,6 +2,11 @@
 //! calls itself, so that the frames of a call are the same for every tree; the trees here have the
 //! most nodes, of a table or of the archive's first edition, and every form.
 
+#![allow(
+    unused_must_use,
+    reason = "a call here is a check, which has looked at the answer that it gives back"
+)]
+
 use balduqen_tests::cases::KINDS;
 use balduqen_tests::entries::LIBRARY;
 use balduqen_tests::gen::*;

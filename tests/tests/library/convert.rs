@@ -147,7 +147,8 @@ fn plans_of_all_planners(edition: Edition) {
         let count = made.marks.len();
         let mut best = vec![7; count];
         let mut scratch = vec![0; scratch_length(count, made.table.limit.into())];
-        (LIBRARY.planner)(Kind::Best)(&table, &mut best, &mut scratch);
+        let planned = (LIBRARY.planner)(Kind::Best)(&table, &mut best, &mut scratch);
+        assert!(planned.is_accepted(), "{planned:?}: {}", show(&table));
         others += usize::from(best != made.marks);
     }
     assert!(others > 40, "{others}");

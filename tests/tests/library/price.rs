@@ -55,7 +55,8 @@ fn saving(table: &[u8], marks: &[u8], scratch: &[u32]) -> (Saving, Vec<u8>) {
     assert!(new_marks == best_marks && new_scratch == best_scratch);
     if best.is_accepted() {
         let mut single = marks.to_vec();
-        doors::plan_single(table, &mut single, &mut best_scratch);
+        let answer = doors::plan_single(table, &mut single, &mut best_scratch);
+        assert!(answer.is_accepted(), "{answer:?}: {}", show(table));
         let tree = tree_of(table);
         let [best, single] = [&best_marks, &single].map(|marks| cents_of_plan(&tree, marks) as i32);
         assert_eq!(saving.saving, single - best, "{}", show(table));
@@ -234,7 +235,7 @@ mod prices {
                     let mut scratch = vec![7; scratch_length(count, limit)];
                     let planned = kind.library()(&table, &mut marks, &mut scratch);
                     let mut sheets = vec![7; sheets_length(planned.pages as usize)];
-                    doors::print_sheets(&table, &marks, &mut sheets);
+                    assert_eq!(doors::print_sheets(&table, &marks, &mut sheets), planned);
                     let told = read_sheets(&sheets).expect("sound sheets").pages;
                     let weights = told.iter().map(|page| page.weight as u32);
                     let cents = cents_of_pages(&weights.collect::<Vec<u32>>(), limit as u32);
