@@ -39,6 +39,10 @@ pub use plan::{judge, plan, price, print_sheets, saving, Plan, Planner};
 pub use refusal::{Cause, Refusal};
 pub use unknown::{UnknownEdition, UnknownPlanner};
 
+/// The version of this crate, of the header and of the commands. Each request that lands adds one
+/// to its middle number.
+pub const VERSION: &str = env!("CARGO_PKG_VERSION");
+
 /// The page count of an accepted plan, and the weight of its root page.
 #[derive(Clone, Copy, Debug, PartialEq, Eq)]
 pub struct Verdict {
