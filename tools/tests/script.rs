@@ -57,19 +57,25 @@ impl Root {
         fs::set_permissions(&path, fs::Permissions::from_mode(0o755)).expect("it can be run");
     }
 
-    /// Runs the script from another folder: exit status, standard output and standard error.
-    fn run(&self) -> (Option<i32>, String, String) {
+    /// Calls the script from another folder, as a shell does it.
+    fn call(&self, command: &str) -> Output {
         let path = std::env::var("PATH").expect("a path");
+        Command::new("bash")
+            .args(["-c", command])
+            .current_dir(self.0.join("elsewhere"))
+            .env("PATH", format!("{}:{path}", self.0.join("bin").display()))
+            .env("LC_ALL", "C")
+            .output()
+            .expect("the script runs")
+    }
+
+    /// Exit status, standard output and standard error.
+    fn run(&self) -> (Option<i32>, String, String) {
         let Output {
             status,
             stdout,
             stderr,
-        } = Command::new("../balduqen")
-            .args(["plan", "a b"])
-            .current_dir(self.0.join("elsewhere"))
-            .env("PATH", format!("{}:{path}", self.0.join("bin").display()))
-            .output()
-            .expect("the script runs");
+        } = self.call("../balduqen plan 'a b'");
         let text = |bytes| String::from_utf8(bytes).expect("a text");
         (status.code(), text(stdout), text(stderr))
     }
@@ -138,4 +144,47 @@ fn says_what_fails() {
     // The next call tries again.
     root.put("bin/cargo", &format!("#!/usr/bin/env bash\n{CARGO}"));
     assert_eq!(root.run().0, Some(1));
+}
+
+/// What is in the way of the build, or of the program, and what is said of it.
+#[test]
+fn says_what_is_in_the_way() {
+    let said = |root: &Root| {
+        let (status, out, err) = root.run();
+        assert_eq!((status, out.as_str()), (Some(2), ""));
+        err
+    };
+    let root = Root::new("no_lock", RT, CARGO);
+    fs::create_dir_all(root.0.join("target/balduqen.lock")).expect("a folder");
+    let lock = root.0.join("target/balduqen.lock");
+    let wanted = format!(
+        "balduqen: {} cannot be written, and the library or the commands have to be built\n",
+        lock.display()
+    );
+    assert_eq!(said(&root), wanted);
+
+    let root = Root::new("no_target", RT, CARGO);
+    root.put("target", "");
+    assert!(said(&root).ends_with("/target cannot be made, and what it is for has to be built\n"));
+
+    let root = Root::new("no_program", RT, CARGO);
+    assert_eq!(root.run().0, Some(1));
+    let program = root.0.join("target/tools/release/balduqen");
+    fs::remove_file(&program).expect("a program");
+    fs::create_dir(&program).expect("a folder");
+    assert!(said(&root).ends_with("/target/tools/release/balduqen cannot be run\n"));
+}
+
+/// The build goes on, and the exit status is the same.
+#[test]
+fn standard_error_may_be_full_or_closed() {
+    for (name, to) in [("full", "/dev/full"), ("closed", "&-")] {
+        let root = Root::new(name, RT, CARGO);
+        let output = root.call(&format!("../balduqen plan 'a b' 2>{to}"));
+        assert_eq!(output.status.code(), Some(1), "{to}");
+        assert_eq!(output.stdout, b"word: plan\nword: a b\n", "{to}");
+        let root = Root::new(&format!("not_proved_{name}"), "exit 1", CARGO);
+        let output = root.call(&format!("../balduqen plan 'a b' 2>{to}"));
+        assert_eq!(output.status.code(), Some(2), "{to}");
+    }
 }
