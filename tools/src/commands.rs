@@ -1,11 +1,13 @@
 //! The commands: what each makes of what it is given.
 
 use crate::film::{self, Film};
-use crate::input::{read_file, read_table};
-use crate::list::{help_of_all, COMMANDS};
+use crate::input::{read_film, read_marks, read_tree, FilmFile, MarksFile, TreeFile};
+use crate::list::{help_of_all, Run, COMMANDS};
 use crate::output::Output;
 use crate::plan::{self, Plan};
+use crate::quote::short;
 use crate::rule_sheet;
+use crate::same_file::is_standard_output;
 use crate::stop::Stop;
 use crate::svg;
 use crate::table;
@@ -13,7 +15,7 @@ use crate::text;
 use crate::tree::Tree;
 use crate::usage::{near, Asked, Given, Usage};
 use crate::words::{self, Lent};
-use balduqen::{Cause, Edition, Planner, Refusal, MAX_NODES};
+use balduqen::{Cause, Edition, Planner, Refusal, UnknownEdition, MAX_NODES};
 
 /// What a command makes: a report for standard output, and files.
 #[derive(Debug, Default, PartialEq, Eq)]
@@ -24,28 +26,37 @@ pub struct Made {
 
 /// Runs the command that the words name.
 pub fn run(words: &[String]) -> Result<Made, Stop> {
-    let Some((name, rest)) = words.split_first() else {
-        return Err(Stop::trouble(help_of_all()));
-    };
-    if ["help", "--help", "-h"].contains(&name.as_str()) {
-        return Ok(report(help_of_all()));
+    let words: Vec<&str> = words.iter().map(String::as_str).collect();
+    match words[..] {
+        [] => Err(Stop::trouble(help_of_all())),
+        ["help" | "--help" | "-h"] => Ok(report(help_of_all())),
+        ["help" | "--help" | "-h", name] => Ok(report(command(name)?.0.help_text())),
+        ["--version" | "-V"] => Ok(report(format!("balduqen {}\n", env!("CARGO_PKG_VERSION")))),
+        ["help" | "--help" | "-h" | "--version" | "-V", .., more] => {
+            let more = short(more);
+            Err(Stop::trouble(format!("one word too many: '{more}'")))
+        }
+        [name, ref rest @ ..] => {
+            let (usage, run) = command(name)?;
+            match usage.read(rest)? {
+                Asked::Help => Ok(report(usage.help_text())),
+                Asked::Run(given) => run(usage, &given),
+            }
+        }
     }
+}
+
+/// The command of this name.
+fn command(name: &str) -> Result<&'static (Usage, Run), Stop> {
     let found = COMMANDS.iter().find(|command| command.0.name == name);
-    let Some((usage, run)) = found else {
+    found.ok_or_else(|| {
         let names: Vec<&str> = COMMANDS.iter().map(|command| command.0.name).collect();
-        return Err(Stop::trouble(format!(
-            "unknown command '{name}'{}\n    'balduqen --help' lists the commands.",
+        Stop::trouble(format!(
+            "unknown command '{}'{}\n    'balduqen --help' lists the commands.",
+            short(name),
             near(name, &names)
-        )));
-    };
-    match usage.read(rest)? {
-        Asked::Help => Ok(report(format!(
-            "balduqen {}\n\n{}",
-            usage.line(),
-            usage.help
-        ))),
-        Asked::Run(given) => run(usage, &given),
-    }
+        ))
+    })
 }
 
 fn report(text: impl Into<Vec<u8>>) -> Made {
@@ -60,7 +71,7 @@ impl Made {
     fn and(mut self, file: Option<&str>, bytes: impl FnOnce() -> Vec<u8>) -> Made {
         match file {
             None => {}
-            Some("-") => self.report = bytes(),
+            Some(file) if is_standard_output(file) => self.report = bytes(),
             Some(file) => self.files.push(Output {
                 file: file.to_string(),
                 bytes: bytes(),
@@ -75,62 +86,79 @@ fn to_file(file: Option<&str>, bytes: Vec<u8>) -> Made {
     Made::default().and(Some(file.unwrap_or("-")), || bytes)
 }
 
-/// A table with the tree that it tells, of sound form: any weights and labels.
-fn read_form(file: &str) -> Result<(Vec<u8>, Tree), Stop> {
-    let table = read_table(file)?;
-    match table::read(&table) {
-        Ok(tree) => Ok((table, tree)),
-        Err(fault) => Err(match balduqen::read_tree(&table) {
-            Err(refusal) => of_table(&table)(refusal),
-            Ok(()) => Stop::bad_form(file, fault, text::FORM),
+/// A tree of sound form, any weights and labels, and its file.
+fn read_form(file: &str) -> Result<(TreeFile, Tree), Stop> {
+    let file = read_tree(file)?;
+    match table::read(&file.table) {
+        Ok(tree) => Ok((file, tree)),
+        Err(fault) => Err(match balduqen::read_tree(&file.table) {
+            Err(refusal) => of_tree(&file)(refusal),
+            Ok(()) => Stop::bad_form(&file.name, fault, text::FORM),
         }),
     }
 }
 
-fn of_table(table: &[u8]) -> impl Fn(Refusal) -> Stop + '_ {
-    of_plan(table, &[])
-}
-
-fn of_plan<'a>(table: &'a [u8], marks: &'a [u8]) -> impl Fn(Refusal) -> Stop + 'a {
-    move |refusal| {
-        let lent = Lent {
-            table,
-            marks,
-            ..Lent::default()
-        };
-        Stop::refused(lent.say(refusal))
-    }
-}
-
-fn of_film(archive: &[u8]) -> impl Fn(Refusal) -> Stop + '_ {
-    move |refusal| {
-        let lent = Lent {
-            archive,
-            ..Lent::default()
-        };
-        Stop::refused(lent.say(refusal))
-    }
-}
-
-/// The marks that a file tells for a tree.
-fn read_marks(tree: &Tree, file: &str) -> Result<Vec<u8>, Stop> {
-    let marks = plan::read_marks(tree, &read_file(file)?);
-    marks.map_err(|fault| Stop::bad_form(file, fault, plan::FORM))
-}
-
-/// The table of an accepted tree, and marks: those of a file or, without one, those of the best plan.
-fn tree_and_marks(given: &Given) -> Result<(Vec<u8>, Vec<u8>), Stop> {
-    let table = read_table(given.operand(0))?;
-    balduqen::read_tree(&table).map_err(of_table(&table))?;
-    let marks = match given.chosen("--marks") {
-        None => {
-            balduqen::plan(Planner::Best, &table)
-                .map_err(of_table(&table))?
-                .marks
-        }
-        Some(file) => read_marks(&sound(&table), file)?,
+fn of_tree(tree: &TreeFile) -> impl Fn(Refusal) -> Stop + '_ {
+    let lent = Lent {
+        tree: Some(tree),
+        ..Lent::default()
     };
-    Ok((table, marks))
+    move |refusal| lent.stop(refusal)
+}
+
+fn of_plan<'a>(tree: &'a TreeFile, marks: &'a MarksFile) -> impl Fn(Refusal) -> Stop + 'a {
+    let lent = Lent {
+        tree: Some(tree),
+        marks: Some(marks),
+        ..Lent::default()
+    };
+    move |refusal| lent.stop(refusal)
+}
+
+fn of_film(film: &FilmFile) -> impl Fn(Refusal) -> Stop + '_ {
+    let lent = Lent {
+        film: Some(film),
+        ..Lent::default()
+    };
+    move |refusal| lent.stop(refusal)
+}
+
+/// A tree that is accepted, and marks for it.
+struct Planned {
+    file: TreeFile,
+    tree: Tree,
+    marks: MarksFile,
+}
+
+impl Planned {
+    /// The marks are those of a file or, without one, a planner's.
+    fn new(tree: &str, marks: Option<&str>, planner: Planner) -> Result<Planned, Stop> {
+        let file = read_tree(tree)?;
+        balduqen::read_tree(&file.table).map_err(of_tree(&file))?;
+        let tree = sound(&file.table);
+        let marks = match marks {
+            Some(name) => read_marks(&tree, name)?,
+            None => {
+                let plan = balduqen::plan(planner, &file.table).map_err(of_tree(&file))?;
+                MarksFile {
+                    name: file.name.clone(),
+                    marks: plan.marks,
+                    lines: vec![],
+                }
+            }
+        };
+        Ok(Planned { file, tree, marks })
+    }
+
+    /// The marks that were chosen or, without any, those of the best plan.
+    fn chosen(given: &Given) -> Result<Planned, Stop> {
+        Planned::new(given.operand(0), given.chosen("--marks"), Planner::Best)
+    }
+
+    /// Has the library make something of table and marks.
+    fn made<T>(&self, make: impl FnOnce(&[u8], &[u8]) -> Result<T, Refusal>) -> Result<T, Stop> {
+        make(&self.file.table, &self.marks.marks).map_err(of_plan(&self.file, &self.marks))
+    }
 }
 
 /// The tree of a table that the library accepts.
@@ -139,27 +167,36 @@ fn sound(table: &[u8]) -> Tree {
 }
 
 pub fn plan_tree(usage: &Usage, given: &Given) -> Result<Made, Stop> {
-    let named = given.chosen("--planner").unwrap_or("best");
-    let planner: Planner = named.parse().map_err(|fault| {
-        let names = Planner::ALL.map(Planner::name);
-        usage.trouble(format!("{fault}{}", near(named, &names)))
-    })?;
+    let planner = chosen_planner(usage, given)?;
     if given.chosen("--page").is_some() && given.chosen("--svg").is_none() {
         return Err(usage.trouble("--page is for a picture: --svg FILE".to_string()));
     }
     let page = page_number(usage, given)?;
-    let table = read_table(given.operand(0))?;
-    let made = balduqen::plan(planner, &table).map_err(of_table(&table))?;
-    let list = film::listing_of_plan(&table, &made.marks).map_err(of_plan(&table, &made.marks))?;
+    let planned = Planned::new(given.operand(0), given.chosen("--marks"), planner)?;
+    let list = planned.made(film::listing_of_plan)?;
     let picture = match given.chosen("--svg") {
         None => vec![],
-        Some(_) => picture(usage, &sound(&table), &table, &made.marks, page)?,
+        Some(_) => picture(usage, &planned, page)?,
     };
     Ok(report(list)
-        .and(given.chosen("--marks"), || {
-            plan::write_marks(&made.marks).into()
+        .and(given.chosen("--marks-out"), || {
+            plan::write_marks(&planned.marks.marks).into()
         })
         .and(given.chosen("--svg"), || picture))
+}
+
+fn chosen_planner(usage: &Usage, given: &Given) -> Result<Planner, Stop> {
+    match (given.chosen("--planner"), given.chosen("--marks")) {
+        (Some(_), Some(_)) => {
+            let fault = "--planner makes a plan, and --marks has one; take one of the two";
+            Err(usage.trouble(fault.to_string()))
+        }
+        (None, _) => Ok(Planner::Best),
+        (Some(named), None) => named.parse().map_err(|fault| {
+            let names = Planner::ALL.map(Planner::name);
+            usage.trouble(format!("{fault}{}", near(named, &names)))
+        }),
+    }
 }
 
 fn page_number(usage: &Usage, given: &Given) -> Result<Option<usize>, Stop> {
@@ -171,20 +208,16 @@ fn page_number(usage: &Usage, given: &Given) -> Result<Option<usize>, Stop> {
 }
 
 /// The picture of a plan, whole or of one page.
-fn picture(
-    usage: &Usage,
-    tree: &Tree,
-    table: &[u8],
-    marks: &[u8],
-    page: Option<usize>,
-) -> Result<Vec<u8>, Stop> {
-    let plan =
-        Plan::new(tree, marks.to_vec()).map_err(|fault| match balduqen::judge(table, marks) {
+fn picture(usage: &Usage, planned: &Planned, page: Option<usize>) -> Result<Vec<u8>, Stop> {
+    let Planned { file, tree, marks } = planned;
+    let plan = Plan::new(tree, marks.marks.clone()).map_err(|fault| {
+        match balduqen::judge(&file.table, &marks.marks) {
             Err(refusal) if [Cause::BadMarks, Cause::BadMark].contains(&refusal.cause) => {
-                of_plan(table, marks)(refusal)
+                of_plan(file, marks)(refusal)
             }
-            _ => Stop::refused(format!("refused: {fault}\n    {}", plan::FORM)),
-        })?;
+            _ => Stop::bad_form(&marks.name, fault, plan::FORM),
+        }
+    })?;
     match page {
         None => Ok(svg::draw(tree, &plan).into()),
         Some(page) if page >= 1 && page <= plan.pages.len() => {
@@ -198,23 +231,15 @@ fn picture(
 }
 
 pub fn judge(_: &Usage, given: &Given) -> Result<Made, Stop> {
-    let table = read_table(given.operand(0))?;
-    balduqen::read_tree(&table).map_err(of_table(&table))?;
-    let marks = read_marks(&sound(&table), given.operand(1))?;
-    balduqen::judge(&table, &marks).map_err(of_plan(&table, &marks))?;
-    let list = film::listing_of_plan(&table, &marks).map_err(of_plan(&table, &marks))?;
-    Ok(report(list))
+    let planned = Planned::new(given.operand(0), Some(given.operand(1)), Planner::Best)?;
+    Ok(report(planned.made(film::listing_of_plan)?))
 }
 
 pub fn write(usage: &Usage, given: &Given) -> Result<Made, Stop> {
-    let edition = match given.chosen("--edition") {
-        None | Some("1") => Edition::First,
-        Some("2") => Edition::Second,
-        Some(other) => return Err(usage.trouble(format!("there is no edition '{other}'"))),
-    };
-    let (table, marks) = tree_and_marks(given)?;
-    let archive =
-        balduqen::write_archive(edition, &table, &marks).map_err(of_plan(&table, &marks))?;
+    let edition = given.chosen("--edition").unwrap_or("1").parse();
+    let edition = edition.map_err(|fault: UnknownEdition| usage.trouble(fault.to_string()))?;
+    let planned = Planned::chosen(given)?;
+    let archive = planned.made(|table, marks| balduqen::write_archive(edition, table, marks))?;
     Ok(report(told(&archive)).and(given.chosen("-o"), || archive))
 }
 
@@ -227,11 +252,12 @@ fn told(archive: &[u8]) -> String {
 }
 
 pub fn read(_: &Usage, given: &Given) -> Result<Made, Stop> {
-    let archive = read_file(given.operand(0))?;
-    let film = balduqen::read_archive(&archive).map_err(of_film(&archive))?;
+    let file = read_film(given.operand(0))?;
+    let archive = &file.archive;
+    let film = balduqen::read_archive(archive).map_err(of_film(&file))?;
     let edition = words::edition(film.edition);
     let nodes = film.marks.len();
-    let mut list = film::listing(&archive);
+    let mut list = film::listing(archive);
     list += &format!("{edition}, {nodes} nodes, {} bytes\n", archive.len());
     let tree = sound(&film.table);
     if let Some(node) = tree.numbers().find(|&number| tree.node(number).label == 0) {
@@ -245,36 +271,34 @@ pub fn read(_: &Usage, given: &Given) -> Result<Made, Stop> {
                 false => text::write(&tree).into(),
             }
         })
-        .and(given.chosen("--marks"), || {
+        .and(given.chosen("--marks-out"), || {
             plan::write_marks(&film.marks).into()
         }))
 }
 
 pub fn convert(_: &Usage, given: &Given) -> Result<Made, Stop> {
-    let archive = read_file(given.operand(0))?;
-    let out = balduqen::convert(&archive).map_err(of_film(&archive))?;
+    let film = read_film(given.operand(0))?;
+    let out = balduqen::convert(&film.archive).map_err(of_film(&film))?;
     Ok(report(told(&out)).and(given.chosen("-o"), || out))
 }
 
 pub fn sheet(_: &Usage, given: &Given) -> Result<Made, Stop> {
-    let (table, marks) = tree_and_marks(given)?;
-    let sheets = balduqen::print_sheets(&table, &marks).map_err(of_plan(&table, &marks))?;
+    let sheets = Planned::chosen(given)?.made(balduqen::print_sheets)?;
     Ok(to_file(given.chosen("-o"), sheets))
 }
 
 pub fn price(_: &Usage, given: &Given) -> Result<Made, Stop> {
-    let (table, marks) = tree_and_marks(given)?;
-    let cents = balduqen::price(&table, &marks).map_err(of_plan(&table, &marks))?;
+    let cents = Planned::chosen(given)?.made(balduqen::price)?;
     Ok(report(format!("price {cents} cents\n")))
 }
 
 pub fn saving(_: &Usage, given: &Given) -> Result<Made, Stop> {
-    let table = read_table(given.operand(0))?;
-    let refused = of_table(&table);
-    let saving = balduqen::saving(&table).map_err(&refused)?;
+    let tree = read_tree(given.operand(0))?;
+    let refused = of_tree(&tree);
+    let saving = balduqen::saving(&tree.table).map_err(&refused)?;
     let price = |planner| {
-        let plan = balduqen::plan(planner, &table)?;
-        balduqen::price(&table, &plan.marks)
+        let plan = balduqen::plan(planner, &tree.table)?;
+        balduqen::price(&tree.table, &plan.marks)
     };
     let best = price(Planner::Best).map_err(&refused)?;
     let single = price(Planner::Single).map_err(&refused)?;
@@ -283,46 +307,44 @@ pub fn saving(_: &Usage, given: &Given) -> Result<Made, Stop> {
     )))
 }
 
+/// What the checks of the rule sheet do not cover, as its sections 11 and 18 tell it.
+const UNSEEN: &str = "\
+No check finds a wrong label, another K that no page exceeds, or every wrong parent. Read K, the
+labels and the parents twice, and compare another copy if there is one: sections 11 and 18 of
+docs/RULE-SHEET.txt.
+";
+
 pub fn verify(_: &Usage, given: &Given) -> Result<Made, Stop> {
-    let archive = read_file(given.operand(0))?;
-    let walk = rule_sheet::walk(&archive);
+    let film = read_film(given.operand(0))?;
+    let walk = rule_sheet::walk(&film.archive);
     let mut found = walk.found.join("\n") + "\n";
     match walk.end {
-        Err(_) => {
-            let why = Refusal {
-                cause: Cause::NoArchive,
-                place: 0,
-            };
-            let lent = Lent {
-                archive: &archive,
-                ..Lent::default()
-            };
-            Err(Stop::Refused {
-                found,
-                why: lent.say(why),
-            })
-        }
+        Err(_) => Err(no_archive(&film).with(found)),
         Ok(rebuilt) => {
             let checks = walk.found.len() - 1;
             let marks: Vec<u8> = rebuilt.nodes.iter().map(|node| node.mark).collect();
+            let marks = plan::write_marks(&marks).replace('\n', "\n      ");
+            found += &format!("marks {}\n", marks.trim_end());
             found += &format!("all {checks} checks hold: the archive is sound\n");
-            found += &format!("marks {}", plan::write_marks(&marks));
-            Ok(report(found))
+            Ok(report(found + UNSEEN))
         }
     }
 }
 
-const AS_TOLD: &str = "The words are told by what the head says, as far as they go.";
+/// Film that the rule sheet finds not sound.
+fn no_archive(film: &FilmFile) -> Stop {
+    of_film(film)(Refusal {
+        cause: Cause::NoArchive,
+        place: 0,
+    })
+}
 
 pub fn dump(_: &Usage, given: &Given) -> Result<Made, Stop> {
-    let archive = read_file(given.operand(0))?;
-    let dump = Film::new(&archive).dump();
-    match rule_sheet::walk(&archive).end {
+    let film = read_film(given.operand(0))?;
+    let dump = Film::new(&film.archive).dump();
+    match rule_sheet::walk(&film.archive).end {
         // The words' meanings rest on the head and the length, which are the first five checks.
-        Err((failed, why)) if failed.check <= 5 => Err(Stop::Refused {
-            found: dump,
-            why: format!("refused 13 at 0: {failed}: {why}\n    {AS_TOLD}"),
-        }),
+        Err((failed, _)) if failed.check <= 5 => Err(no_archive(&film).with(dump)),
         _ => Ok(report(dump)),
     }
 }
@@ -333,14 +355,14 @@ pub fn make_text(_: &Usage, given: &Given) -> Result<Made, Stop> {
 }
 
 pub fn make_table(_: &Usage, given: &Given) -> Result<Made, Stop> {
-    let (table, _) = read_form(given.operand(0))?;
-    Ok(to_file(given.chosen("-o"), table))
+    let (file, _) = read_form(given.operand(0))?;
+    Ok(to_file(given.chosen("-o"), file.table))
 }
 
 pub fn make_svg(usage: &Usage, given: &Given) -> Result<Made, Stop> {
     let page = page_number(usage, given)?;
-    let (table, tree) = read_form(given.operand(0))?;
+    let (file, tree) = read_form(given.operand(0))?;
     let marks = read_marks(&tree, given.operand(1))?;
-    let picture = picture(usage, &tree, &table, &marks, page)?;
+    let picture = picture(usage, &Planned { file, tree, marks }, page)?;
     Ok(to_file(given.chosen("-o"), picture))
 }

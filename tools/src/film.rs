@@ -2,7 +2,10 @@
 //! pages as film lists them.
 
 use crate::rule_sheet::{comma, Edition};
-use balduqen::Refusal;
+use balduqen::{Refusal, ARCHIVE_NODES, MAX_NODES};
+
+/// So many words after the last record are told.
+const FOLLOWING: usize = 8;
 
 /// A page as its record tells it.
 #[derive(Clone, Copy, Debug, PartialEq, Eq)]
@@ -111,12 +114,24 @@ impl<'a> Film<'a> {
         }
     }
 
+    /// How many words are told: those of the head and the records, as many as an archive can have, and
+    /// a few that follow.
+    fn told(&self) -> usize {
+        let most = match self.edition {
+            Edition::First => ARCHIVE_NODES,
+            Edition::Two => MAX_NODES,
+        };
+        let pages = self.page_words() * self.page_count().min(most);
+        self.head_words() + pages + 4 * self.node_count().min(most) + FOLLOWING
+    }
+
     /// A line for each word, under the sheet's heading, and one for a last byte by itself.
     pub fn dump(&self) -> String {
-        let width = comma(self.archive.len().saturating_sub(1)).len().max(2);
+        let told = self.told().min(self.archive.len().div_ceil(2));
+        let width = comma((2 * told).saturating_sub(1)).len().max(2);
         let bytes = format!("{:<1$}", "Bytes", 2 * width + 2);
         let mut dump = format!("    {bytes}   Base 16 Word   Meaning\n");
-        for (index, pair) in self.archive.chunks(2).enumerate() {
+        for (index, pair) in self.archive.chunks(2).take(told).enumerate() {
             let first = comma(2 * index);
             let Some(word) = self.word(index) else {
                 let wide = 2 * width + 2;
@@ -136,7 +151,15 @@ impl<'a> Film<'a> {
                 comma(word)
             );
         }
-        dump
+        match self.archive.len().saturating_sub(2 * told) {
+            0 => dump,
+            left => {
+                dump + &format!(
+                    "    and {} bytes more than the head can mean\n",
+                    comma(left)
+                )
+            }
+        }
     }
 }
 
@@ -250,7 +273,26 @@ mod tests {
         let longer = [&archive[..], &[0, 9]].concat();
         let dump = Film::new(&longer).dump();
         assert!(dump.ends_with("78, 79   00 09      9   after the last record\n"));
+    }
+
+    /// No more is told than the head can mean, whatever it says and however much follows.
+    #[test]
+    fn far_too_long() {
+        let archive = film(balduqen::Edition::First);
+        let longer = [&archive[..], &[0; 1 << 20]].concat();
+        let dump = Film::new(&longer).dump();
+        assert_eq!(dump.lines().count(), 1 + 39 + FOLLOWING + 1);
+        let left = comma((1 << 20) - 2 * FOLLOWING);
+        assert!(dump.ends_with(&format!(
+            "    and {left} bytes more than the head can mean\n"
+        )));
         let most = Film::new(&[0xff; 70000]).dump();
-        assert_eq!(most.lines().count(), 1 + 35000);
+        assert_eq!(
+            most.lines().count(),
+            1 + 3 + 8 * ARCHIVE_NODES + FOLLOWING + 1
+        );
+        let second = [&[0x20, 0x02][..], &[0xff; 70000]].concat();
+        let most = Film::new(&second).dump();
+        assert_eq!(most.lines().count(), 1 + 4 + 9 * MAX_NODES + FOLLOWING + 1);
     }
 }

@@ -5,7 +5,7 @@ use crate::stop::Stop;
 use crate::usage::{Choice, Given, Role, Usage};
 
 /// What makes of a command's words what it makes.
-type Run = fn(&Usage, &Given) -> Result<Made, Stop>;
+pub type Run = fn(&Usage, &Given) -> Result<Made, Stop>;
 
 /// The help for whoever asks for no command.
 pub fn help_of_all() -> String {
@@ -14,15 +14,21 @@ pub fn help_of_all() -> String {
     for (usage, _) in COMMANDS {
         help += &format!("  balduqen {}\n      {}\n", usage.line(), usage.about);
     }
-    help + "\n'balduqen COMMAND --help' tells more of a command.\n\n" + FILES + "\n" + STATUS
+    help + "\n" + MORE + "\n" + FILES + "\n" + STATUS
 }
+
+const MORE: &str = "\
+'balduqen help COMMAND' and 'balduqen COMMAND --help' tell more of a command, 'balduqen --version'
+tells the version. Behind '--' no word is an option.
+";
 
 const FILES: &str = "\
 A TREE is an indented text ('limit K', then a node a line, 'weight label', two spaces of indent a
 level; '#' begins a comment) or a table (N and K, then weight, label, first child and next sibling
 of each node, in words of 16 bits, high byte first); which of the two, its content tells.
-MARKS are a mark a node, as a text or a byte each, or the pages as 'plan' lists them.
+MARKS are a mark a node, as a text or a byte each, or the pages as 'plan' and 'read' list them.
 '-' is standard input, and as an output standard output in place of the report.
+--marks FILE is read, and --marks-out FILE is written. No file that is read is written over.
 ";
 
 const STATUS: &str = "\
@@ -48,13 +54,14 @@ const TREE_OUT: Choice = Choice {
 };
 
 const MARKS_OUT: Choice = Choice {
-    name: "--marks",
+    name: "--marks-out",
     ..MAYBE_OUT
 };
 
-const MARKS_IN: Choice = Choice {
+const MARKS: Choice = Choice {
+    name: "--marks",
     role: Role::Input,
-    ..MARKS_OUT
+    ..MAYBE_OUT
 };
 
 const SVG: Choice = Choice {
@@ -86,18 +93,19 @@ pub const COMMANDS: &[(Usage, Run)] = &[
         Usage {
             name: "plan",
             operands: &["TREE"],
-            choices: &[PLANNER, MARKS_OUT, SVG, PAGE],
+            choices: &[PLANNER, MARKS, MARKS_OUT, SVG, PAGE],
             about: "plans a tree and lists the pages",
             help: "\
 Plans the tree and lists its pages as the page program does: page count, weight of the root page and
 limit, then first node, last sibling and weight of each page.
 
-  --planner NAME  best (the fewest pages there can be; without this option), level, single, pair,
-                  rightmost or depth-first
-  --marks FILE    writes the plan as a mark a node: 0 stays with its parent, 1 begins a run, 2
-                  continues the run of the sibling just before
-  --svg FILE      draws the tree with the plan
-  --page P        draws page P only, with the page it is cut from and those cut from it
+  --planner NAME    best (the fewest pages there can be; without this option), level, single, pair,
+                    rightmost or depth-first
+  --marks FILE      lists and draws this plan in place of a planner's
+  --marks-out FILE  writes the plan as a mark a node: 0 stays with its parent, 1 begins a run, 2
+                    continues the run of the sibling just before
+  --svg FILE        draws the tree with the plan
+  --page P          draws page P only, with the page it is cut from and those cut from it
 ",
         },
         commands::plan_tree,
@@ -118,7 +126,7 @@ Judges whether the marks are a plan of the tree with no page over the limit, and
         Usage {
             name: "write",
             operands: &["TREE"],
-            choices: &[MARKS_IN, EDITION, OUT],
+            choices: &[MARKS, EDITION, OUT],
             about: "writes the film's archive of a tree and a plan",
             help: "\
 Writes the archive of the tree and a plan.
@@ -139,8 +147,8 @@ Writes the archive of the tree and a plan.
             help: "\
 Reads an archive of either edition, and lists its pages.
 
-  -o TREE        writes the tree: a table where the name ends in '.table', else an indented text
-  --marks FILE   writes the plan as a mark a node
+  -o TREE           writes the tree: a table where the name ends in '.table', else an indented text
+  --marks-out FILE  writes the plan as a mark a node
 ",
         },
         commands::read,
@@ -161,7 +169,7 @@ Writes the tree and the plan of an archive as an archive of the other edition.
         Usage {
             name: "sheet",
             operands: &["TREE"],
-            choices: &[MARKS_IN, MAYBE_OUT],
+            choices: &[MARKS, MAYBE_OUT],
             about: "prints a plan as leader sheets",
             help: "\
 Prints the leader sheets of a plan: 60 lines of 80 columns each.
@@ -176,7 +184,7 @@ Prints the leader sheets of a plan: 60 lines of 80 columns each.
         Usage {
             name: "price",
             operands: &["TREE"],
-            choices: &[MARKS_IN],
+            choices: &[MARKS],
             about: "tells what a plan costs",
             help: "\
 Tells what the film maker asks for a plan's pages, in cents.
@@ -207,7 +215,7 @@ more, since fewest pages is not lowest price.
             about: "walks an archive by the rule sheet",
             help: "\
 Makes the checks of docs/RULE-SHEET.txt on an archive, in their order and by their numbers, and tells
-what each found, up to the first that fails.
+what each found, up to the first that fails. Where all hold, it ends with what no check sees.
 ",
         },
         commands::verify,
@@ -220,8 +228,8 @@ what each found, up to the first that fails.
             about: "tells each word of an archive with its meaning",
             help: "\
 Tells each word of an archive with its meaning, as docs/RULE-SHEET.txt shows it. Where the head or
-the length is not that of an archive, the words are told all the same, by what the head says, and
-the exit status is 1.
+the length is not that of an archive, the words are told all the same, by what the head says and as
+far as an archive can go, and the exit status is 1.
 ",
         },
         commands::dump,

@@ -2,26 +2,39 @@
 
 use balduqen_tools::commands;
 use balduqen_tools::output::write_all;
+use balduqen_tools::quote::short;
 use balduqen_tools::stop::Stop;
 use std::env;
 use std::io::{self, ErrorKind, Write};
+use std::panic;
 use std::process::ExitCode;
 
 fn main() -> ExitCode {
+    panic::set_hook(Box::new(|fault| {
+        tell(&format!("balduqen: a fault of the program: {fault}"));
+    }));
+    ExitCode::from(panic::catch_unwind(status).unwrap_or(2))
+}
+
+/// Runs the command, and tells the exit status.
+fn status() -> u8 {
     let words = env::args_os().skip(1).map(|word| word.into_string());
     let words: Result<Vec<String>, _> = words.collect();
-    let words = words.map_err(|word| Stop::trouble(format!("{word:?} is no text in UTF-8")));
+    let words = words.map_err(|word| {
+        let word = short(&format!("{word:?}"));
+        Stop::trouble(format!("{word} is no text in UTF-8"))
+    });
     match words.and_then(|words| run(&words)) {
-        Ok(()) => ExitCode::SUCCESS,
+        Ok(()) => 0,
         Err(Stop::Refused { found, why }) => {
             // The refusal is what counts, wherever its report goes.
             let _ = put(found.as_bytes());
-            eprintln!("{}", why.trim_end());
-            ExitCode::from(1)
+            tell(why.trim_end());
+            1
         }
         Err(Stop::Trouble(why)) => {
-            eprintln!("balduqen: {}", why.trim_end());
-            ExitCode::from(2)
+            tell(&format!("balduqen: {}", why.trim_end()));
+            2
         }
     }
 }
@@ -39,4 +52,9 @@ fn put(bytes: &[u8]) -> io::Result<()> {
         Err(error) if error.kind() == ErrorKind::BrokenPipe => Ok(()),
         done => done,
     }
+}
+
+/// On standard error. Where it cannot be written, the exit status still tells.
+fn tell(line: &str) {
+    let _ = writeln!(io::stderr(), "{line}");
 }

@@ -1,5 +1,6 @@
 //! Files written whole or not at all: first each beside its place, then all of them put there.
 
+use crate::same_file::{end_of_links, folder_of};
 use crate::stop::Stop;
 use std::fs::{self, File};
 use std::io::{self, Write};
@@ -59,16 +60,13 @@ fn place_of(file: &str) -> io::Result<Option<PathBuf>> {
             File::options().append(true).open(file)?;
             fs::canonicalize(file).map(Some)
         }
-        Err(_) => Ok(Some(PathBuf::from(file))),
+        Err(_) => end_of_links(Path::new(file)).map(Some),
     }
 }
 
 fn write_beside(place: PathBuf, bytes: &[u8], number: u32) -> io::Result<Beside> {
-    let name = place
-        .file_name()
-        .ok_or(io::Error::other("it has no name"))?;
-    let name = format!(".{}.{}.{number}", name.to_string_lossy(), process::id());
-    let path = place.parent().unwrap_or(Path::new("")).join(name);
+    let name = format!(".balduqen.{}.{number}", process::id());
+    let path = folder_of(&place).join(name);
     let mut file = File::create_new(&path)?;
     let beside = Beside { path, place };
     file.write_all(bytes)?;

@@ -1,8 +1,7 @@
-//! A plan and its pages. It comes as a mark a node, in bytes or as a text, or as the page program
-//! writes it.
+//! A plan and its pages. It comes as a mark a node, or as the pages are listed.
 
-use crate::input::is_text;
-use crate::text::read_number;
+use crate::quote::quote;
+use crate::text::{lines, read_number};
 use crate::tree::{Tree, WORDS};
 
 /// A page: its run from first node to last sibling, and the weight of all its nodes.
@@ -92,18 +91,24 @@ impl Plan {
 pub const FORM: &str =
     "A plan is a mark a node, 0, 1 or 2, or the pages as 'balduqen plan' lists them.";
 
-/// The marks that a file tells. That each is allowed is not looked at, but where the pages are
-/// listed: a listing that is no plan's tells none.
-pub fn read_marks(tree: &Tree, content: &[u8]) -> Result<Vec<u8>, String> {
-    if !is_text(content) {
-        return Ok(content.to_vec());
-    }
-    let text = String::from_utf8_lossy(content);
-    let mut words = text.split_whitespace();
-    match words.next() {
-        Some("pages") => read_listing(tree, text.trim_end()).map(|plan| plan.marks),
-        Some("refused") => Err(format!("there is no plan: {}", text.trim_end())),
-        _ => text.split_whitespace().map(read_mark).collect(),
+/// The marks that a text tells, each with its line. That each is allowed is not looked at, but where
+/// the pages are listed: a listing that is no plan's tells none.
+pub fn read_marks(tree: &Tree, text: &str) -> Result<(Vec<u8>, Vec<usize>), String> {
+    let first = lines(text).next();
+    let begins = first.and_then(|(place, line)| Some((place, line.split_whitespace().next()?)));
+    match begins {
+        Some((_, "pages")) => Ok((read_listing(tree, text)?.marks, vec![])),
+        Some((place, "refused")) => Err(format!("line {place}: a refusal, and no plan")),
+        _ => {
+            let marks = lines(text).flat_map(|(place, line)| {
+                let marks = line.split_whitespace().map(read_mark);
+                marks.map(move |mark| match mark {
+                    Ok(mark) => Ok((mark, place)),
+                    Err(fault) => Err(format!("line {place}: {fault}")),
+                })
+            });
+            marks.collect()
+        }
     }
 }
 
@@ -112,10 +117,16 @@ fn read_mark(word: &str) -> Result<u8, String> {
     u8::try_from(mark).map_err(|_| format!("mark {word} is not in 0 to 2"))
 }
 
+/// So many marks stand in a line of a text.
+const MARKS_A_LINE: usize = 40;
+
 /// The marks as a text.
 pub fn write_marks(marks: &[u8]) -> String {
-    let marks: Vec<String> = marks.iter().map(u8::to_string).collect();
-    marks.join(" ") + "\n"
+    let line = |marks: &[u8]| {
+        let marks: Vec<String> = marks.iter().map(u8::to_string).collect();
+        marks.join(" ") + "\n"
+    };
+    marks.chunks(MARKS_A_LINE).map(line).collect()
 }
 
 /// The runs give the marks, and the marks the plan. The listing must then be that plan's, since one
@@ -123,21 +134,36 @@ pub fn write_marks(marks: &[u8]) -> String {
 fn read_listing(tree: &Tree, text: &str) -> Result<Plan, String> {
     let mut marks = vec![0; tree.count()];
     let mut listed = vec![];
-    let mut head = [0; 3];
-    for (line, place) in text.lines().zip(1..) {
+    let mut head = None;
+    for (place, line) in lines(text) {
         let at = |fault| format!("line {place}: {fault}");
-        if place == 1 {
-            head = read_figures(line, ["pages", "root", "limit"]).map_err(at)?;
+        if head.is_none() {
+            head = Some((
+                place,
+                read_figures(line, ["pages", "root", "limit"]).map_err(at)?,
+            ));
+        } else if is_of_film(tree, line) {
             continue;
+        } else {
+            let figures = read_figures(line, ["page", "first", "last", "weight"]).map_err(at)?;
+            let [_, first, last, _] = figures;
+            mark_run(tree, &mut marks, first as usize, last as usize).map_err(at)?;
+            listed.push((place, figures));
         }
-        let figures = read_figures(line, ["page", "first", "last", "weight"]).map_err(at)?;
-        let [_, first, last, _] = figures;
-        mark_run(tree, &mut marks, first as usize, last as usize).map_err(at)?;
-        listed.push(figures);
     }
     let plan = Plan::new(tree, marks)?;
-    compare(tree, &plan, head, &listed)?;
+    compare(tree, &plan, head.unwrap_or_default(), &listed)?;
     Ok(plan)
+}
+
+/// Whether a line is what 'read' says of the film beside its pages, of as many nodes.
+fn is_of_film(tree: &Tree, line: &str) -> bool {
+    let words: Vec<&str> = line.split_whitespace().collect();
+    match words[..] {
+        ["edition", _, nodes, "nodes,", _, "bytes"] => nodes == tree.count().to_string(),
+        ["node", _, "has", "label", "0,", ..] => true,
+        _ => false,
+    }
 }
 
 /// The numbers of a line that has a number after each of these names.
@@ -146,7 +172,7 @@ fn read_figures<const N: usize>(line: &str, names: [&str; N]) -> Result<[u32; N]
     let named = words.iter().step_by(2).eq(names.iter());
     if words.len() != 2 * N || !named {
         let form = names.map(|name| format!("{name} ..")).join(" ");
-        return Err(format!("{line:?} is not of the form '{form}'"));
+        return Err(format!("{} is not of the form '{form}'", quote(line)));
     }
     let mut figures = [0; N];
     for (index, name) in names.into_iter().enumerate() {
@@ -174,15 +200,21 @@ fn mark_run(tree: &Tree, marks: &mut [u8], first: usize, last: usize) -> Result<
     }
 }
 
-fn compare(tree: &Tree, plan: &Plan, head: [u32; 3], listed: &[[u32; 4]]) -> Result<(), String> {
+/// Head and pages, each with its line, as they are for this tree.
+fn compare(
+    tree: &Tree,
+    plan: &Plan,
+    (place, head): (usize, [u32; 3]),
+    listed: &[(usize, [u32; 4])],
+) -> Result<(), String> {
     let right = [plan.pages.len() as u32, plan.page(1).weight, tree.limit];
     if head != right {
         let [pages, root, limit] = right;
         return Err(format!(
-            "line 1: for this table it is 'pages {pages} root {root} limit {limit}'"
+            "line {place}: for this tree it is 'pages {pages} root {root} limit {limit}'"
         ));
     }
-    for ((figures, page), number) in listed.iter().zip(&plan.pages).zip(1..) {
+    for (((place, figures), page), number) in listed.iter().zip(&plan.pages).zip(1..) {
         let Page {
             first,
             last,
@@ -190,8 +222,7 @@ fn compare(tree: &Tree, plan: &Plan, head: [u32; 3], listed: &[[u32; 4]]) -> Res
         } = *page;
         if *figures != [number, first as u32, last as u32, weight] {
             return Err(format!(
-                "line {}: for this table it is 'page {number} first {first} last {last} weight {weight}'",
-                number + 1
+                "line {place}: for this tree it is 'page {number} first {first} last {last} weight {weight}'"
             ));
         }
     }
@@ -214,7 +245,7 @@ mod tests {
     }
 
     fn read(tree: &Tree, text: &str) -> Result<Plan, String> {
-        Plan::new(tree, read_marks(tree, text.as_bytes())?)
+        Plan::new(tree, read_marks(tree, text)?.0)
     }
 
     fn fault(text: &str) -> String {
@@ -233,9 +264,39 @@ mod tests {
         assert_eq!(plan.pages, [page(1, 1, 5), page(2, 6, 4), page(4, 5, 4)]);
         assert_eq!(plan.page_of, [1, 2, 2, 3, 3, 2]);
         assert_eq!(read(&case_e(), E), Ok(plan));
-        let bytes = read_marks(&case_e(), &[1, 1, 2, 1, 2, 2]);
-        assert_eq!(bytes, read_marks(&case_e(), E.as_bytes()));
-        assert_eq!(write_marks(&bytes.unwrap()), "1 1 2 1 2 2\n");
+        assert_eq!(write_marks(&[1, 1, 2, 1, 2, 2]), "1 1 2 1 2 2\n");
+    }
+
+    /// As trees are read: with a byte-order mark, comments and blank lines.
+    #[test]
+    fn noted_marks() {
+        let noted = "\u{feff}# by hand\r\n1 1 2 # lots\r\n\r\n\t1 2\n2";
+        let marks = (vec![1, 1, 2, 1, 2, 2], vec![2, 2, 2, 4, 4, 5]);
+        assert_eq!(read_marks(&case_e(), noted), Ok(marks));
+        let listing = format!("# shift 7\n\n{}", E.replace('\n', " # a page\n"));
+        assert_eq!(read(&case_e(), &listing), read(&case_e(), E));
+    }
+
+    /// The listing as 'read' writes it tells of the film, too.
+    #[test]
+    fn listings_of_film() {
+        let told = "edition 1, 6 nodes, 78 bytes\n";
+        let unfiled = "node 3 has label 0, a lot that nobody had filed\n";
+        let listing = format!("{E}{told}{unfiled}");
+        assert_eq!(read(&case_e(), &listing), read(&case_e(), E));
+        let form = "is not of the form 'page .. first .. last .. weight ..'";
+        let fault = fault(&format!("{E}edition 1, 7 nodes, 78 bytes\n"));
+        assert_eq!(
+            fault,
+            format!("line 5: \"edition 1, 7 nodes, 78 bytes\" {form}")
+        );
+    }
+
+    #[test]
+    fn many_marks_take_many_lines() {
+        let text = write_marks(&[1; 81]);
+        assert_eq!(text.lines().map(str::len).collect::<Vec<_>>(), [79, 79, 1]);
+        assert_eq!(read_marks(&case_e(), &text).unwrap().0, [1; 81]);
     }
 
     #[test]
@@ -250,15 +311,12 @@ mod tests {
     #[test]
     fn bad_marks() {
         assert_eq!(fault(" \n"), "0 marks for a tree of 6 nodes");
-        assert_eq!(
-            fault("refused 7 at 1\n"),
-            "there is no plan: refused 7 at 1"
-        );
+        assert_eq!(fault("refused 7 at 1\n"), "line 1: a refusal, and no plan");
         assert_eq!(fault("1 1 1 1 1"), "5 marks for a tree of 6 nodes");
         let three = "node 3 has mark 3: a mark is 0, 1 or 2";
         assert_eq!(fault("1 1 3 1 1 1"), three);
-        assert_eq!(fault("1 1 256 1 1 1"), "mark 256 is not in 0 to 2");
-        assert_eq!(fault("1 1 x 1 1 1"), "mark \"x\" is not a number");
+        assert_eq!(fault("1 1 256 1 1 1"), "line 1: mark 256 is not in 0 to 2");
+        assert_eq!(fault("1 1\nx 1"), "line 2: mark \"x\" is not a number");
         let root = "node 1 has mark 0: the root begins a run and has 1";
         assert_eq!(fault("0 1 1 1 1 1"), root);
         let first = "node 2 has mark 2: there is no sibling before it";
@@ -284,15 +342,15 @@ mod tests {
     }
 
     #[test]
-    fn listings_of_another_table() {
-        let head = "line 1: for this table it is 'pages 3 root 5 limit 5'";
+    fn listings_of_another_tree() {
+        let head = "line 1: for this tree it is 'pages 3 root 5 limit 5'";
         assert_eq!(changed("limit 5", "limit 6"), head);
         assert_eq!(changed("root 5", "root 4"), head);
         assert_eq!(changed("pages 3", "pages 4"), head);
-        let second = "line 3: for this table it is 'page 2 first 2 last 6 weight 4'";
+        let second = "line 3: for this tree it is 'page 2 first 2 last 6 weight 4'";
         assert_eq!(changed("last 6 weight 4", "last 6 weight 5"), second);
         assert_eq!(changed("page 2", "page 3"), second);
-        let short = "line 1: for this table it is 'pages 2 root 5 limit 5'";
+        let short = "line 1: for this tree it is 'pages 2 root 5 limit 5'";
         assert_eq!(changed("page 3 first 4 last 5 weight 4\n", ""), short);
     }
 }

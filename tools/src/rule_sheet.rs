@@ -198,8 +198,8 @@ pub fn comma(number: usize) -> String {
 fn list(numbers: impl IntoIterator<Item = usize>) -> String {
     let all: Vec<String> = numbers.into_iter().map(comma).collect();
     match all.len() {
-        0..=12 => all.join(", "),
-        count => format!("{}, .., {}", all[..8].join(", "), all[count - 1]),
+        0..=8 => all.join(", "),
+        count => format!("{}, .., {}", all[..4].join(", "), all[count - 1]),
     }
 }
 

@@ -21,7 +21,7 @@ impl Stop {
     /// A file that has not the form of what it should be, for which the list has no number; and what
     /// that form is.
     pub fn bad_form(file: &str, fault: impl fmt::Display, form: &str) -> Stop {
-        Stop::refused(format!("refused: {}: {fault}\n    {form}", name(file)))
+        Stop::refused(format!("{}: refused: {fault}\n    {form}", name(file)))
     }
 
     /// A file that cannot be read or written.
@@ -31,14 +31,24 @@ impl Stop {
         Stop::trouble(format!("{}: {words}", name(file)))
     }
 
+    /// A refusal with what had been found by then.
+    pub fn with(self, found: String) -> Stop {
+        match self {
+            Stop::Refused { why, .. } => Stop::Refused { found, why },
+            trouble => trouble,
+        }
+    }
+
     pub fn trouble(why: impl fmt::Display) -> Stop {
         Stop::Trouble(why.to_string())
     }
 }
 
-fn name(file: &str) -> &str {
+/// A file as it is called in words.
+pub fn name(file: &str) -> &str {
     match file {
         "-" => "standard input",
+        "" => "''",
         _ => file,
     }
 }

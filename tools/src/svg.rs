@@ -125,7 +125,7 @@ mod tests {
     use balduqen::MAX_NODES;
 
     fn drawn(tree: &Tree, marks: &str) -> String {
-        let marks = plan::read_marks(tree, marks.as_bytes()).unwrap();
+        let (marks, _) = plan::read_marks(tree, marks).unwrap();
         draw(tree, &Plan::new(tree, marks).unwrap())
     }
 

@@ -1,6 +1,7 @@
 //! A tree as an indented text: `limit K`, then a node a line, `weight label`, two spaces a level.
 //! Blank lines are passed over, and so is a byte-order mark, and a '#' with the rest of its line.
 
+use crate::quote::{quote, short};
 use crate::tree::{Tree, WORDS};
 use balduqen::{MAX_LIMIT, MAX_NODES};
 use std::ops::RangeInclusive;
@@ -8,19 +9,52 @@ use std::ops::RangeInclusive;
 pub const FORM: &str =
     "A tree is 'limit K', then a node a line, 'weight label', two spaces of indent a level.";
 
+/// A tree, and the lines of the text that tell it.
+#[derive(Debug, PartialEq, Eq)]
+pub struct Text {
+    pub tree: Tree,
+    pub lines: Lines,
+}
+
+/// The line of the limit, and that of each node.
+#[derive(Clone, Debug, PartialEq, Eq)]
+pub struct Lines {
+    pub limit: usize,
+    pub nodes: Vec<usize>,
+}
+
+/// The lines that say something, each with its number: no byte-order mark, no comment, no blank line.
+pub fn lines(text: &str) -> impl Iterator<Item = (usize, &str)> {
+    let text = text.strip_prefix('\u{feff}').unwrap_or(text);
+    let lines = (1..).zip(text.lines());
+    let lines = lines.map(|(place, line)| (place, line.split('#').next().unwrap_or(line)));
+    lines.filter(|(_, line)| !line.trim().is_empty())
+}
+
 /// A limit or a count that no table has is read, as far as a table has room for it, for the library
 /// to refuse.
-pub fn read(text: &str) -> Result<Tree, String> {
-    let text = text.strip_prefix('\u{feff}').unwrap_or(text);
-    let mut found = None;
-    for (line, place) in text.lines().zip(1..) {
-        read_line(&mut found, line).map_err(|fault| format!("line {place}: {fault}"))?;
-    }
+pub fn read(text: &str) -> Result<Text, String> {
     let end = text.lines().count() + 1;
-    match found {
-        None => Err(format!("line {end}: 'limit K' is missing")),
-        Some(tree) if tree.count() == 0 => Err(format!("line {end}: the root is missing")),
-        Some(tree) => Ok(tree),
+    let mut lines = lines(text);
+    let at = |place: usize| move |fault: String| format!("line {place}: {fault}");
+    let Some((first, line)) = lines.next() else {
+        return Err(at(end)("'limit K' is missing".to_string()));
+    };
+    let mut tree = Tree::new(read_limit(line).map_err(at(first))?);
+    let mut nodes = vec![];
+    for (place, line) in lines {
+        add_node(&mut tree, line).map_err(at(place))?;
+        nodes.push(place);
+    }
+    match nodes.is_empty() {
+        true => Err(at(end)("the root is missing".to_string())),
+        false => Ok(Text {
+            tree,
+            lines: Lines {
+                limit: first,
+                nodes,
+            },
+        }),
     }
 }
 
@@ -34,34 +68,28 @@ pub fn write(tree: &Tree) -> String {
     text
 }
 
-/// The first line that is not blank has the limit, and each later one a node.
-fn read_line(found: &mut Option<Tree>, line: &str) -> Result<(), String> {
-    let line = line.split('#').next().unwrap_or(line);
+/// The words of a line, and how far it is indented.
+fn read_words(line: &str) -> Result<(usize, Vec<&str>), String> {
     if line.contains('\t') {
         return Err("a tab; indent and separate with spaces".to_string());
     }
-    let words: Vec<&str> = line.split(' ').filter(|word| !word.is_empty()).collect();
-    if words.is_empty() {
-        return Ok(());
-    }
+    let words = line.split(' ').filter(|word| !word.is_empty());
     let indent = line.len() - line.trim_start_matches(' ').len();
-    match found {
-        None => *found = Some(Tree::new(read_limit(indent, &words)?)),
-        Some(tree) => add_node(tree, indent, &words)?,
-    }
-    Ok(())
+    Ok((indent, words.collect()))
 }
 
-fn read_limit(indent: usize, words: &[&str]) -> Result<u32, String> {
-    match words {
+fn read_limit(line: &str) -> Result<u32, String> {
+    let (indent, words) = read_words(line)?;
+    match words[..] {
         ["limit", limit] if indent == 0 => read_number("limit", limit, 1..=MAX_LIMIT as u32),
         _ => Err("the first line is 'limit K', with no indent".to_string()),
     }
 }
 
-fn add_node(tree: &mut Tree, indent: usize, words: &[&str]) -> Result<(), String> {
+fn add_node(tree: &mut Tree, line: &str) -> Result<(), String> {
+    let (indent, words) = read_words(line)?;
     let depth = read_depth(tree, indent)?;
-    let &[weight, label] = words else {
+    let [weight, label] = words[..] else {
         return Err("a node is two numbers, 'weight label'".to_string());
     };
     let weight = read_number("weight", weight, WORDS)?;
@@ -99,12 +127,12 @@ fn read_depth(tree: &Tree, indent: usize) -> Result<usize, String> {
 /// only: Rust's own reading would take a plus sign.
 pub fn read_number(name: &str, word: &str, range: RangeInclusive<u32>) -> Result<u32, String> {
     if word.is_empty() || !word.bytes().all(|byte| byte.is_ascii_digit()) {
-        return Err(format!("{name} {word:?} is not a number"));
+        return Err(format!("{name} {} is not a number", quote(word)));
     }
     // What is too long to be read is out of every range.
     let number = word.parse().ok().filter(|number| WORDS.contains(number));
     let (least, most) = (range.start(), range.end());
-    number.ok_or_else(|| format!("{name} {word} is not in {least} to {most}"))
+    number.ok_or_else(|| format!("{name} {} is not in {least} to {most}", short(word)))
 }
 
 #[cfg(test)]
@@ -113,6 +141,10 @@ mod tests {
     use crate::tree::tests::{case_e, random_tree};
 
     const E: &str = include_str!("../samples/e.txt");
+
+    fn read(text: &str) -> Result<Tree, String> {
+        super::read(text).map(|text| text.tree)
+    }
 
     fn fault(text: &str) -> String {
         read(text).expect_err(text)
@@ -217,6 +249,22 @@ mod tests {
         );
         // Only the first sign of a text is a byte-order mark.
         assert!(fault("limit 5\n\u{feff}1 1\n").starts_with("line 2: weight"));
+    }
+
+    #[test]
+    fn each_node_has_its_line() {
+        let noted = "\u{feff}# shift 7\n\nlimit 5\n5 1\n\t\n  2 2 # lot\n#\n  1 3";
+        let lines = super::read(noted).expect("a tree").lines;
+        assert_eq!((lines.limit, lines.nodes), (3, vec![4, 6, 8]));
+    }
+
+    #[test]
+    fn long_words_are_cut() {
+        let (x, nine) = ("x".repeat(61), "9".repeat(61));
+        let wanted = format!("line 2: weight \"{}\".. is not a number", &x[1..]);
+        assert_eq!(fault(&format!("limit 5\n{x} 1")), wanted);
+        let wanted = format!("line 1: limit {}.. is not in 1 to 1024", &nine[1..]);
+        assert_eq!(fault(&format!("limit {nine}\n1 1")), wanted);
     }
 
     /// More nodes than a table has are for the library to refuse; more than a word counts are not.

@@ -1,6 +1,8 @@
 //! The words of a command line: which command, its operands and its options. What is not known is
 //! named.
 
+use crate::quote::short;
+use crate::same_file::{are_one, overwrites};
 use crate::stop::Stop;
 
 /// What an option's value names.
@@ -78,37 +80,50 @@ impl Usage {
         line
     }
 
-    /// Reads the words after the command's name.
-    pub fn read(&self, words: &[String]) -> Result<Asked, Stop> {
-        if words.iter().any(|word| word == "--help" || word == "-h") {
+    /// How it is called, and what it does.
+    pub fn help_text(&self) -> String {
+        format!("balduqen {}\n\n{}", self.line(), self.help)
+    }
+
+    /// Reads the words after the command's name. Behind '--' all of them are operands.
+    pub fn read(&self, words: &[&str]) -> Result<Asked, Stop> {
+        let end = words.iter().position(|&word| word == "--");
+        let (words, operands) = match end {
+            Some(end) => (&words[..end], &words[end + 1..]),
+            None => (words, &[][..]),
+        };
+        if words.iter().any(|&word| word == "--help" || word == "-h") {
             return Ok(Asked::Help);
         }
         let mut given = Given {
             operands: vec![],
             chosen: vec![],
         };
-        let mut words = words.iter();
+        let mut words = words.iter().copied();
         while let Some(word) = words.next() {
             if word == "-" || !word.starts_with('-') {
-                given.operands.push(word.clone());
+                given.operands.push(word.to_string());
                 continue;
             }
             let (name, value) = match word.split_once('=') {
-                Some((name, value)) => (name, Some(value.to_string())),
-                None => (word.as_str(), None),
+                Some((name, value)) => (name, Some(value)),
+                None => (word, None),
             };
             let choice = self.choice(name)?;
             // What begins as an option does is none's value, unless it stands behind '='.
-            let is_value = |word: &&String| *word == "-" || !word.starts_with('-');
-            let value = value.or_else(|| words.next().filter(is_value).cloned());
+            let is_value = |word: &&str| *word == "-" || !word.starts_with('-');
+            let value = value.or_else(|| words.next().filter(is_value));
             let value = value.ok_or_else(|| {
                 self.trouble(format!("{name} needs a value: {name} {}", choice.value))
             })?;
             if given.chosen(choice.name).is_some() {
                 return Err(self.trouble(format!("{name} is given twice")));
             }
-            given.chosen.push((choice.name, value));
+            given.chosen.push((choice.name, value.to_string()));
         }
+        given
+            .operands
+            .extend(operands.iter().map(|word| word.to_string()));
         self.check(&given)?;
         Ok(Asked::Run(given))
     }
@@ -116,12 +131,15 @@ impl Usage {
     fn choice(&self, name: &str) -> Result<&'static Choice, Stop> {
         let names: Vec<&str> = self.choices.iter().map(|choice| choice.name).collect();
         let known = self.choices.iter().find(|choice| choice.name == name);
-        known.ok_or_else(|| self.trouble(format!("unknown option '{name}'{}", near(name, &names))))
+        known.ok_or_else(|| {
+            let (shown, near) = (short(name), near(name, &names));
+            self.trouble(format!("unknown option '{shown}'{near}"))
+        })
     }
 
     fn check(&self, given: &Given) -> Result<(), Stop> {
         if let Some(more) = given.operands.get(self.operands.len()) {
-            return Err(self.trouble(format!("one word too many: '{more}'")));
+            return Err(self.trouble(format!("one word too many: '{}'", short(more))));
         }
         if let Some(missing) = self.operands.get(given.operands.len()) {
             return Err(self.trouble(format!("{missing} is missing")));
@@ -149,16 +167,20 @@ impl Usage {
         if inputs.iter().filter(|&&name| name == "-").count() > 1 {
             return Err(self.trouble("standard input can be read once only".to_string()));
         }
-        let mut outputs: Vec<&str> = chosen(Role::Output).collect();
-        outputs.sort_unstable();
-        if let Some(two) = outputs.windows(2).find(|two| two[0] == two[1]) {
-            return Err(self.trouble(format!("'{}' is named for two outputs", two[0])));
+        let outputs: Vec<&str> = chosen(Role::Output).collect();
+        for (index, &output) in outputs.iter().enumerate() {
+            if let Some(input) = inputs.iter().find(|input| overwrites(output, input)) {
+                let file = both(output, input, "standard input");
+                let fault = format!("{file} is read, and would be overwritten");
+                return Err(self.trouble(fault));
+            }
+            if let Some(other) = outputs[..index].iter().find(|other| are_one(output, other)) {
+                let file = both(output, other, "standard output");
+                let fault = format!("{file} is named for two outputs");
+                return Err(self.trouble(fault));
+            }
         }
-        let mut both = outputs.iter().filter(|name| inputs.contains(name));
-        match both.find(|name| **name != "-") {
-            Some(name) => Err(self.trouble(format!("'{name}' is read, and would be overwritten"))),
-            None => Ok(()),
-        }
+        Ok(())
     }
 
     /// A fault of the command line, and where to find how it should be.
@@ -171,11 +193,22 @@ impl Usage {
     }
 }
 
-/// A known word that is much like this one, as the end of a sentence.
+/// A file by its name, and by its other name where it was given two; and what '-' is there.
+fn both(output: &str, other: &str, standard: &str) -> String {
+    match other {
+        _ if output == other => format!("'{output}'"),
+        "-" => format!("'{output}', which is {standard},"),
+        _ => format!("'{output}', which is '{other}',"),
+    }
+}
+
+/// A known word that is much like this one, or that this one begins, as the end of a sentence.
 pub fn near(word: &str, known: &[&str]) -> String {
     let nearest = known.iter().min_by_key(|name| distance(word, name));
-    match nearest {
-        Some(name) if distance(word, name) <= 2 => format!("; is it '{name}'?"),
+    let like = nearest.filter(|name| distance(word, name) <= 2);
+    let mut longer = known.iter().filter(|name| name.starts_with(word));
+    match like.or_else(|| longer.next()) {
+        Some(name) if !word.is_empty() => format!("; is it '{name}'?"),
         _ => String::new(),
     }
 }
@@ -210,5 +243,8 @@ mod tests {
         assert_eq!(near("wite", &["plan", "write"]), "; is it 'write'?");
         assert_eq!(near("x", &["plan", "write"]), "");
         assert_eq!(near("x", &[]), "");
+        assert_eq!(near("", &["plan", "write"]), "");
+        let known = ["--svg", "--marks-out"];
+        assert_eq!(near("--marks", &known), "; is it '--marks-out'?");
     }
 }

@@ -3,8 +3,7 @@
 
 use balduqen::{Edition, Planner};
 use balduqen_tools::commands::{run, Made};
-use balduqen_tools::input::read_table;
-use balduqen_tools::plan::read_marks;
+use balduqen_tools::input::{read_marks, read_tree};
 use balduqen_tools::stop::Stop;
 use balduqen_tools::table;
 use std::fs;
@@ -64,7 +63,7 @@ fn accepts(words: &[&str]) -> bool {
     match run(&words) {
         Ok(Made { .. }) => true,
         Err(Stop::Refused { why, .. }) => {
-            assert!(why.starts_with("refused"), "{why}");
+            assert!(why.contains(": refused"), "{why}");
             false
         }
         Err(Stop::Trouble(why)) => panic!("{words:?}: {why}"),
@@ -76,7 +75,7 @@ fn look_at_tree(folder: &Folder, content: &[u8], seen: &mut [usize; 2]) {
     let tree = folder.file("tree", content);
     let marks = folder.file("marks", &MARKS);
     let (svg, out) = (format!("{tree}.svg"), format!("{tree}.out"));
-    let table = read_table(&tree);
+    let table = read_tree(&tree).map(|tree| tree.table);
     let is_form = table.as_ref().is_ok_and(|table| table::read(table).is_ok());
     let is_tree = table
         .as_ref()
@@ -136,12 +135,13 @@ fn damaged_marks() {
     for content in [&MARKS[..], b"1 1 2 1 2 2\n", LISTING] {
         for_each_damage(content, |content| {
             let marks = folder.file("marks", content);
-            let is_plan = match read_marks(&sound, content) {
-                Ok(marks) => balduqen::judge(TABLE, &marks).is_ok(),
+            let is_plan = match read_marks(&sound, &marks) {
+                Ok(read) => balduqen::judge(TABLE, &read.marks).is_ok(),
                 Err(_) => false,
             };
             seen[usize::from(is_plan)] += 1;
             assert_eq!(accepts(&["judge", &tree, &marks]), is_plan);
+            assert_eq!(accepts(&["plan", &tree, "--marks", &marks]), is_plan);
             assert_eq!(accepts(&["sheet", &tree, "--marks", &marks]), is_plan);
             assert_eq!(accepts(&["price", &tree, "--marks", &marks]), is_plan);
             let write = ["write", &tree, "--marks", &marks, "-o", &out];

@@ -111,9 +111,9 @@ macro_rules! sessions {
     };
 }
 
-sessions! { convert dump judge plan price read saving sheet svg table text usage verify write }
+sessions! { convert dump files judge plan price read saving sheet svg table text usage verify write }
 
-/// No session is left out, and each command has one.
+/// No session is left out, and each command has one. Two are of what all commands do alike.
 #[test]
 fn every_command_has_its_session() {
     let entries = fs::read_dir(SESSIONS).expect("the sessions");
@@ -130,7 +130,7 @@ fn every_command_has_its_session() {
         .lines()
         .filter_map(|line| line.strip_prefix("  balduqen "));
     let mut listed: Vec<&str> = listed.filter_map(|line| line.split(' ').next()).collect();
-    listed.push("usage");
+    listed.extend(["files", "usage"]);
     listed.sort_unstable();
     assert_eq!(listed, NAMES);
 }
@@ -153,7 +153,10 @@ fn readme_tour() {
         }
     }
     assert!(run("readme_tour", &session) >= 14, "{session}");
-    for name in NAMES.iter().filter(|name| **name != "usage") {
+    let commands = NAMES
+        .iter()
+        .filter(|name| !["files", "usage"].contains(name));
+    for name in commands {
         let call = format!("$ ./balduqen {name} ");
         assert!(session.contains(&call), "the tour leaves out {name}");
     }
