@@ -3,7 +3,7 @@
 use balduqen_tools::commands;
 use balduqen_tools::output::write_all;
 use balduqen_tools::quote::short;
-use balduqen_tools::stop::Stop;
+use balduqen_tools::stop::{status_of, Stop};
 use std::env;
 use std::io::{self, ErrorKind, Write};
 use std::panic;
@@ -13,7 +13,7 @@ fn main() -> ExitCode {
     panic::set_hook(Box::new(|fault| {
         tell(&format!("balduqen: a fault of the program: {fault}"));
     }));
-    ExitCode::from(panic::catch_unwind(status).unwrap_or(2))
+    ExitCode::from(status_of(status))
 }
 
 /// Runs the command, and tells the exit status.

@@ -1,6 +1,12 @@
 //! What keeps a command from its end.
 
+use std::panic::{catch_unwind, UnwindSafe};
 use std::{fmt, io};
+
+/// The exit status of a run, which is 2 also where the program itself is at fault.
+pub fn status_of(run: impl FnOnce() -> u8 + UnwindSafe) -> u8 {
+    catch_unwind(run).unwrap_or(2)
+}
 
 #[derive(Clone, Debug, PartialEq, Eq)]
 pub enum Stop {
@@ -50,5 +56,16 @@ pub fn name(file: &str) -> &str {
         "-" => "standard input",
         "" => "''",
         _ => file,
+    }
+}
+
+#[cfg(test)]
+mod tests {
+    use super::*;
+
+    #[test]
+    fn a_fault_of_the_program_has_a_status() {
+        assert_eq!([0, 1, 2].map(|status| status_of(|| status)), [0, 1, 2]);
+        assert_eq!(status_of(|| panic!("a fault, on purpose")), 2);
     }
 }
