@@ -31,7 +31,7 @@ pub fn run(words: &[String]) -> Result<Made, Stop> {
         [] => Err(Stop::trouble(help_of_all())),
         ["help" | "--help" | "-h"] => Ok(report(help_of_all())),
         ["help" | "--help" | "-h", name] => Ok(report(command(name)?.0.help_text())),
-        ["--version" | "-V"] => Ok(report(format!("balduqen {}\n", env!("CARGO_PKG_VERSION")))),
+        ["--version" | "-V"] => Ok(report(format!("balduqen {}\n", balduqen::VERSION))),
         ["help" | "--help" | "-h" | "--version" | "-V", .., more] => {
             let more = short(more);
             Err(Stop::trouble(format!("one word too many: '{more}'")))
