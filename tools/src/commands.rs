@@ -28,8 +28,13 @@ pub struct Made {
 pub fn run(words: &[String]) -> Result<Made, Stop> {
     let words: Vec<&str> = words.iter().map(String::as_str).collect();
     match words[..] {
-        [] => Err(Stop::trouble(help_of_all())),
-        ["help" | "--help" | "-h"] => Ok(report(help_of_all())),
+        [] => Err(Stop::trouble(format!(
+            "a command is missing\n\n{}",
+            help_of_all()
+        ))),
+        ["help" | "--help" | "-h"] | ["help", "help" | "--help" | "-h"] => {
+            Ok(report(help_of_all()))
+        }
         ["help" | "--help" | "-h", name] => Ok(report(command(name)?.0.help_text())),
         ["--version" | "-V"] => Ok(report(format!("balduqen {}\n", balduqen::VERSION))),
         ["help" | "--help" | "-h" | "--version" | "-V", .., more] => {
@@ -194,7 +199,11 @@ fn chosen_planner(usage: &Usage, given: &Given) -> Result<Planner, Stop> {
         (None, _) => Ok(Planner::Best),
         (Some(named), None) => named.parse().map_err(|fault| {
             let names = Planner::ALL.map(Planner::name);
-            usage.trouble(format!("{fault}{}", near(named, &names)))
+            let hint = match near(named, &names) {
+                none if none.is_empty() => format!("; there are {}", names.join(", ")),
+                near => near,
+            };
+            usage.trouble(format!("{fault}{hint}"))
         }),
     }
 }
@@ -255,14 +264,11 @@ pub fn read(_: &Usage, given: &Given) -> Result<Made, Stop> {
     let file = read_film(given.operand(0))?;
     let archive = &file.archive;
     let film = balduqen::read_archive(archive).map_err(of_film(&file))?;
-    let edition = words::edition(film.edition);
-    let nodes = film.marks.len();
-    let mut list = film::listing(archive);
-    list += &format!("{edition}, {nodes} nodes, {} bytes\n", archive.len());
     let tree = sound(&film.table);
-    if let Some(node) = tree.numbers().find(|&number| tree.node(number).label == 0) {
-        list += &format!("node {node} has label 0, a lot that nobody had filed\n");
-    }
+    let mut list = film::listing(archive);
+    list += &plan::told_of_film(film.edition, tree.count(), film.verdict.pages);
+    list += "\n";
+    list += &told_of_labels(&tree);
     let to = given.chosen("-o");
     Ok(report(list)
         .and(to, || {
@@ -274,6 +280,20 @@ pub fn read(_: &Usage, given: &Given) -> Result<Made, Stop> {
         .and(given.chosen("--marks-out"), || {
             plan::write_marks(&film.marks).into()
         }))
+}
+
+/// What film from before label 0 was refused can have.
+fn told_of_labels(tree: &Tree) -> String {
+    let is_unfiled = |number: &usize| tree.node(*number).label == 0;
+    let unfiled: Vec<usize> = tree.numbers().filter(is_unfiled).collect();
+    match unfiled[..] {
+        [] => String::new(),
+        [node] => format!("node {node} has label 0, a lot that nobody had filed\n"),
+        [node, ..] => {
+            let count = unfiled.len();
+            format!("{count} nodes, from {node} on, have label 0, lots that nobody had filed\n")
+        }
+    }
 }
 
 pub fn convert(_: &Usage, given: &Given) -> Result<Made, Stop> {
@@ -309,9 +329,8 @@ pub fn saving(_: &Usage, given: &Given) -> Result<Made, Stop> {
 
 /// What the checks of the rule sheet do not cover, as its sections 11 and 18 tell it.
 const UNSEEN: &str = "\
-No check finds a wrong label, another K that no page exceeds, or every wrong parent. Read K, the
-labels and the parents twice, and compare another copy if there is one: sections 11 and 18 of
-docs/RULE-SHEET.txt.
+A label, K or a parent can be wrong and all checks hold. Read these twice, and compare another
+copy if there is one: sections 11 and 18 of docs/RULE-SHEET.txt.
 ";
 
 pub fn verify(_: &Usage, given: &Given) -> Result<Made, Stop> {

@@ -51,8 +51,8 @@ pub enum Content {
 pub fn content(bytes: &[u8]) -> Content {
     match bytes {
         // Byte-order marks of signs of two bytes. No table begins like this.
-        [0xff, 0xfe, signs @ ..] => Content::Text(pairs(signs, u16::from_le_bytes)),
-        [0xfe, 0xff, signs @ ..] => Content::Text(pairs(signs, u16::from_be_bytes)),
+        [0xff, 0xfe, signs @ ..] => whole(pairs(signs, u16::from_le_bytes)),
+        [0xfe, 0xff, signs @ ..] => whole(pairs(signs, u16::from_be_bytes)),
         _ if is_text(bytes) => Content::Text(String::from_utf8_lossy(bytes).into_owned()),
         _ => match spoiled(bytes) {
             Some(fault) => Content::Spoiled(fault),
@@ -72,10 +72,34 @@ fn is_control(byte: &u8) -> bool {
     byte.is_ascii_control() && !byte.is_ascii_whitespace()
 }
 
+/// A text that says itself that it is one, and so is spoiled by any control sign.
+fn whole(text: String) -> Content {
+    match control_sign(text.as_bytes()) {
+        Some(fault) => Content::Spoiled(fault),
+        None => Content::Text(text),
+    }
+}
+
+/// The first control sign, and its line.
+fn control_sign(text: &[u8]) -> Option<String> {
+    let at = text.iter().position(is_control)?;
+    let line = 1 + text[..at].iter().filter(|&&byte| byte == b'\n').count();
+    let byte = text[at];
+    Some(format!(
+        "line {line}: a byte {byte}, which is no sign of a text"
+    ))
+}
+
+/// What stands for a sign that is none.
+const HALF: u16 = 0xfffd;
+
 /// Signs of two bytes. Half a sign at the end is one that is no number.
 fn pairs(bytes: &[u8], word: fn([u8; 2]) -> u16) -> String {
     let words = bytes.chunks(2);
-    let words = words.map(|pair| word([pair[0], pair.get(1).copied().unwrap_or(0)]));
+    let words = words.map(|pair| match *pair {
+        [first, second] => word([first, second]),
+        _ => HALF,
+    });
     String::from_utf16_lossy(&words.collect::<Vec<u16>>())
 }
 
@@ -89,14 +113,10 @@ fn spoiled(bytes: &[u8]) -> Option<String> {
     let controls = bytes.iter().filter(|byte| is_control(byte)).count();
     let is_text = std::str::from_utf8(bytes).is_ok() && 8 * controls <= bytes.len();
     // What begins with a control sign can be a table or marks.
-    if !is_text || bytes.first().is_none_or(is_control) {
-        return None;
+    match is_text && !bytes.first().is_none_or(is_control) {
+        true => control_sign(bytes),
+        false => None,
     }
-    let (at, byte) = (0..).zip(bytes).find(|(_, byte)| is_control(byte))?;
-    let line = 1 + bytes[..at].iter().filter(|&&byte| byte == b'\n').count();
-    Some(format!(
-        "line {line}: a byte {byte}, which is no sign of a text"
-    ))
 }
 
 /// Whether the bytes begin with signs of two bytes, as many as 'limit' has. No tree's table and no
@@ -229,6 +249,9 @@ mod tests {
             fault(b"limit 5\x1b\n"),
             "line 1: a byte 27, which is no sign of a text"
         );
+        // Signs of four bytes, as their mark is read.
+        let four = b"\xff\xfe\0\0l\0\0\0";
+        assert_eq!(fault(four), "line 1: a byte 0, which is no sign of a text");
         // Bytes of which many are control signs, or that are no signs at all.
         assert_eq!(content(b"ELF\0\0\x01\x01\x02"), Content::Bytes);
         assert_eq!(content(b"limit 5 \xff\xff\xff \0"), Content::Bytes);

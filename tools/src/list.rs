@@ -19,7 +19,7 @@ pub fn help_of_all() -> String {
 
 const MORE: &str = "\
 'balduqen help COMMAND' and 'balduqen COMMAND --help' tell more of a command, 'balduqen --version'
-tells the version. Behind '--' no word is an option.
+tells the version. Behind '--' no word is an option, and '-o=-x' is a value that begins with a dash.
 ";
 
 const FILES: &str = "\

@@ -5,7 +5,9 @@ use balduqen_tools::output::write_all;
 use balduqen_tools::quote::short;
 use balduqen_tools::stop::{status_of, Stop};
 use std::env;
+use std::fs::File;
 use std::io::{self, ErrorKind, Write};
+use std::os::fd::AsFd;
 use std::panic;
 use std::process::ExitCode;
 
@@ -22,7 +24,9 @@ fn status() -> u8 {
     let words: Result<Vec<String>, _> = words.collect();
     let words = words.map_err(|word| {
         let word = short(&format!("{word:?}"));
-        Stop::trouble(format!("{word} is no text in UTF-8"))
+        Stop::trouble(format!(
+            "the word {word} is not in UTF-8, as names have to be"
+        ))
     });
     match words.and_then(|words| run(&words)) {
         Ok(()) => 0,
@@ -45,10 +49,11 @@ fn run(words: &[String]) -> Result<(), Stop> {
     put(&made.report).map_err(|error| Stop::of_file("standard output", &error))
 }
 
-/// Whoever reads may stop early.
+/// Whoever reads may stop early. Written as a file: what Rust has for standard output takes what
+/// cannot be written at all for written.
 fn put(bytes: &[u8]) -> io::Result<()> {
-    let mut out = io::stdout().lock();
-    match out.write_all(bytes).and_then(|()| out.flush()) {
+    let mut out = File::from(io::stdout().as_fd().try_clone_to_owned()?);
+    match out.write_all(bytes) {
         Err(error) if error.kind() == ErrorKind::BrokenPipe => Ok(()),
         done => done,
     }

@@ -1,8 +1,10 @@
 //! A plan and its pages. It comes as a mark a node, or as the pages are listed.
 
+use crate::element::counted;
 use crate::quote::quote;
 use crate::text::{lines, read_number};
 use crate::tree::{Tree, WORDS};
+use balduqen::Edition;
 
 /// A page: its run from first node to last sibling, and the weight of all its nodes.
 #[derive(Clone, Debug, PartialEq, Eq)]
@@ -25,7 +27,8 @@ impl Plan {
     pub fn new(tree: &Tree, marks: Vec<u8>) -> Result<Plan, String> {
         if marks.len() != tree.count() {
             let (given, wanted) = (marks.len(), tree.count());
-            return Err(format!("{given} marks for a tree of {wanted} nodes"));
+            let (given, wanted) = (counted(given, "mark"), counted(wanted, "node"));
+            return Err(format!("{given} for a tree of {wanted}"));
         }
         let mut plan = Plan {
             marks,
@@ -134,36 +137,57 @@ pub fn write_marks(marks: &[u8]) -> String {
 fn read_listing(tree: &Tree, text: &str) -> Result<Plan, String> {
     let mut marks = vec![0; tree.count()];
     let mut listed = vec![];
+    let mut film = None;
     let mut head = None;
     for (place, line) in lines(text) {
         let at = |fault| format!("line {place}: {fault}");
-        if head.is_none() {
-            head = Some((
-                place,
-                read_figures(line, ["pages", "root", "limit"]).map_err(at)?,
-            ));
-        } else if is_of_film(tree, line) {
-            continue;
-        } else {
-            let figures = read_figures(line, ["page", "first", "last", "weight"]).map_err(at)?;
-            let [_, first, last, _] = figures;
-            mark_run(tree, &mut marks, first as usize, last as usize).map_err(at)?;
-            listed.push((place, figures));
+        let words: Vec<&str> = line.split_whitespace().collect();
+        match words[..] {
+            _ if head.is_none() => {
+                head = Some((
+                    place,
+                    read_figures(line, ["pages", "root", "limit"]).map_err(at)?,
+                ));
+            }
+            // What 'read' says of the film beside its pages.
+            ["edition", ..] => film = Some((place, line)),
+            ["node", ..] | [_, "nodes,", ..] if line.contains("label 0,") => {}
+            _ => {
+                let names = ["page", "first", "last", "weight"];
+                let figures = read_figures(line, names).map_err(at)?;
+                let [_, first, last, _] = figures;
+                mark_run(tree, &mut marks, first as usize, last as usize).map_err(at)?;
+                listed.push((place, figures));
+            }
         }
     }
+    let (place, head) = head.unwrap_or_default();
+    if head[0] as usize != listed.len() {
+        let (said, listed) = (counted(head[0] as usize, "page"), listed.len());
+        return Err(format!("line {place}: {said}, and {listed} are listed"));
+    }
     let plan = Plan::new(tree, marks)?;
-    compare(tree, &plan, head.unwrap_or_default(), &listed)?;
-    Ok(plan)
+    compare(tree, &plan, (place, head), &listed)?;
+    match film {
+        Some((place, line)) if !is_told(tree, &plan, line) => {
+            let fault = "is said of other film than this tree's";
+            Err(format!("line {place}: {} {fault}", quote(line)))
+        }
+        _ => Ok(plan),
+    }
 }
 
-/// Whether a line is what 'read' says of the film beside its pages, of as many nodes.
-fn is_of_film(tree: &Tree, line: &str) -> bool {
-    let words: Vec<&str> = line.split_whitespace().collect();
-    match words[..] {
-        ["edition", _, nodes, "nodes,", _, "bytes"] => nodes == tree.count().to_string(),
-        ["node", _, "has", "label", "0,", ..] => true,
-        _ => false,
-    }
+/// Whether a line is what 'read' says of film of this tree and plan.
+fn is_told(tree: &Tree, plan: &Plan, line: &str) -> bool {
+    let mut editions = Edition::ALL.into_iter();
+    editions.any(|edition| line.trim() == told_of_film(edition, tree.count(), plan.pages.len()))
+}
+
+/// What 'read' says of film beside its pages.
+pub fn told_of_film(edition: Edition, nodes: usize, pages: usize) -> String {
+    let length = balduqen::archive_length(edition, pages, nodes);
+    let (number, nodes) = (edition.number(), counted(nodes, "node"));
+    format!("edition {number}, {nodes}, {length} bytes")
 }
 
 /// The numbers of a line that has a number after each of these names.
@@ -284,12 +308,33 @@ mod tests {
         let unfiled = "node 3 has label 0, a lot that nobody had filed\n";
         let listing = format!("{E}{told}{unfiled}");
         assert_eq!(read(&case_e(), &listing), read(&case_e(), E));
+        let several = "2 nodes, from 3 on, have label 0, lots that nobody had filed\n";
+        assert!(read(&case_e(), &format!("{E}{told}{several}")).is_ok());
+        for other in [
+            "edition 1, 7 nodes, 78 bytes",
+            "edition 2, 6 nodes, 78 bytes",
+        ] {
+            let wanted = format!("line 5: \"{other}\" is said of other film than this tree's");
+            assert_eq!(fault(&format!("{E}{other}\n")), wanted);
+        }
+    }
+
+    #[test]
+    fn listings_cut_short() {
+        for (lines, listed) in [(1, 0), (3, 2)] {
+            let cut: String = E.split_inclusive('\n').take(lines).collect();
+            let wanted = format!("line 1: 3 pages, and {listed} are listed");
+            assert_eq!(fault(&cut), wanted);
+        }
+        let one = "line 1: 1 page, and 0 are listed";
+        assert_eq!(fault("pages 1 root 5 limit 5\n"), one);
+    }
+
+    #[test]
+    fn lines_of_no_listing() {
         let form = "is not of the form 'page .. first .. last .. weight ..'";
-        let fault = fault(&format!("{E}edition 1, 7 nodes, 78 bytes\n"));
-        assert_eq!(
-            fault,
-            format!("line 5: \"edition 1, 7 nodes, 78 bytes\" {form}")
-        );
+        let fault = fault(&format!("{E}film\n"));
+        assert_eq!(fault, format!("line 5: \"film\" {form}"));
     }
 
     #[test]
@@ -346,11 +391,12 @@ mod tests {
         let head = "line 1: for this tree it is 'pages 3 root 5 limit 5'";
         assert_eq!(changed("limit 5", "limit 6"), head);
         assert_eq!(changed("root 5", "root 4"), head);
-        assert_eq!(changed("pages 3", "pages 4"), head);
+        let more = "line 1: 4 pages, and 3 are listed";
+        assert_eq!(changed("pages 3", "pages 4"), more);
         let second = "line 3: for this tree it is 'page 2 first 2 last 6 weight 4'";
         assert_eq!(changed("last 6 weight 4", "last 6 weight 5"), second);
         assert_eq!(changed("page 2", "page 3"), second);
-        let short = "line 1: for this tree it is 'pages 2 root 5 limit 5'";
+        let short = "line 1: 3 pages, and 2 are listed";
         assert_eq!(changed("page 3 first 4 last 5 weight 4\n", ""), short);
     }
 }

@@ -254,8 +254,8 @@ fn read_head(edition: Edition, archive: &[u8], notes: &mut Notes) -> Result<Head
     let right = edition.pick(6 + 8 * p + 8 * n, 8 + 10 * p + 8 * n);
     let sum = || {
         edition.pick(
-            format!("6 + 8 x {p} + 8 x {n}"),
-            format!("8 + 10 x {p} + 8 x {n}"),
+            format!("6 + 8 x {} + 8 x {}", comma(p), comma(n)),
+            format!("8 + 10 x {} + 8 x {}", comma(p), comma(n)),
         )
     };
     check(5, Place::None, length == right, || {

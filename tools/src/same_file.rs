@@ -1,5 +1,6 @@
 //! Which names are one file, whatever their spelling: by device and inode or, where nothing is
-//! there yet, by the folder's and the name in it. And which is standard output.
+//! there yet, by the folder's and the name in it. '-' is standard input, and as an output standard
+//! output.
 
 use std::ffi::OsString;
 use std::fs::{self, File, Metadata};
@@ -11,46 +12,75 @@ use std::path::{Path, PathBuf};
 /// More links one after the other than a system follows.
 const MOST_LINKS: usize = 40;
 
-/// A file by what the system knows it by. Two that are equal are one.
+/// Device and inode.
+type Place = (u64, u64);
+
+/// An output by what the system knows it by. Two that are equal are one.
 #[derive(Debug, PartialEq, Eq)]
 enum Identity {
-    There(u64, u64),
-    New { folder: (u64, u64), name: OsString },
+    There(Place),
+    New { folder: Place, name: OsString },
 }
 
-/// Whether an output would be written over a file that is read. '-' is standard input and, as an
-/// output, standard output, which the caller's shell has opened.
+/// Whether an output would be written over a file that is read.
 pub fn overwrites(output: &str, input: &str) -> bool {
-    if is_standard_output(output) {
-        return false;
-    }
-    let input = match input {
-        "-" => data_of(stdin().as_fd()).and_then(kept),
-        _ => identity(input),
-    };
+    let input = input_data(input).filter(keeps);
+    let input = input.map(|data| Identity::There(place(&data)));
     input.is_some() && identity(output) == input
 }
 
-/// Whether two outputs would be one.
+/// Whether two inputs are one that can be read once only, as a pipe.
+pub fn are_one_stream(input: &str, other: &str) -> bool {
+    let stream = |input| {
+        let data = input_data(input)?;
+        let is_stream = data.file_type().is_fifo() || data.file_type().is_socket();
+        is_stream.then(|| place(&data))
+    };
+    let both_standard = [input, other] == ["-", "-"];
+    both_standard || stream(input).is_some_and(|one| stream(other) == Some(one))
+}
+
+/// Whether two outputs would be one. What keeps nothing, as a terminal, may be written twice.
 pub fn are_one(output: &str, other: &str) -> bool {
-    match is_standard_output(output) {
-        true => is_standard_output(other),
-        false => identity(output).is_some_and(|one| identity(other) == Some(one)),
+    let standard = [output, other].map(is_standard_output);
+    let counts = |data: &Metadata| match standard.contains(&true) {
+        true => keeps(data),
+        false => !data.file_type().is_char_device(),
+    };
+    let is_one = || identity(output).is_some_and(|one| identity(other) == Some(one));
+    standard == [true, true] || (output_data(output).is_none_or(|data| counts(&data)) && is_one())
+}
+
+/// Whether an output is standard output: '-', or a name that leads to it.
+pub fn is_standard_output(output: &str) -> bool {
+    output == "-" || descriptor(output) == Some(1)
+}
+
+/// The number of an open file, where a name leads to one: 3 for '/dev/fd/3'.
+pub fn descriptor(file: &str) -> Option<u32> {
+    let open = fs::canonicalize("/proc/self/fd").ok()?;
+    let mut path = PathBuf::from(file);
+    for _ in 0..MOST_LINKS {
+        if fs::canonicalize(folder_of(&path)).ok()? == open {
+            return path.file_name()?.to_str()?.parse().ok();
+        }
+        path = next_of(&path).ok()?;
+    }
+    None
+}
+
+fn input_data(input: &str) -> Option<Metadata> {
+    match input {
+        "-" => data_of(stdin().as_fd()),
+        _ => fs::metadata(input).ok(),
     }
 }
 
-/// Whether an output's name is standard output: '-', or what standard output leads to. Where that is
-/// the null device, nothing tells them apart.
-pub fn is_standard_output(file: &str) -> bool {
-    let same = |output: Metadata| match fs::metadata(file) {
-        Ok(data) => place(&data) == place(&output) && !is_null(&data),
-        Err(_) => false,
-    };
-    file == "-" || data_of(stdout().as_fd()).is_some_and(same)
-}
-
-fn is_null(data: &Metadata) -> bool {
-    fs::metadata("/dev/null").is_ok_and(|null| place(&null) == place(data))
+fn output_data(output: &str) -> Option<Metadata> {
+    match output {
+        "-" => data_of(stdout().as_fd()),
+        _ => fs::metadata(output).ok(),
+    }
 }
 
 fn data_of(file: BorrowedFd) -> Option<Metadata> {
@@ -58,23 +88,21 @@ fn data_of(file: BorrowedFd) -> Option<Metadata> {
     file.metadata().ok()
 }
 
-fn place(data: &Metadata) -> (u64, u64) {
+/// Whether what is written there stays there, and can be lost.
+fn keeps(data: &Metadata) -> bool {
+    data.is_file() || data.file_type().is_block_device()
+}
+
+fn place(data: &Metadata) -> Place {
     (data.dev(), data.ino())
 }
 
-/// What keeps nothing, as a terminal, is not one file with anything.
-fn kept(data: Metadata) -> Option<Identity> {
-    let (device, inode) = place(&data);
-    let keeps = !data.file_type().is_char_device();
-    keeps.then_some(Identity::There(device, inode))
-}
-
 /// None where nothing can be written, since there is no such folder.
-fn identity(file: &str) -> Option<Identity> {
-    if let Ok(data) = fs::metadata(file) {
-        return kept(data);
+fn identity(output: &str) -> Option<Identity> {
+    if let Some(data) = output_data(output) {
+        return Some(Identity::There(place(&data)));
     }
-    let path = end_of_links(Path::new(file)).ok()?;
+    let path = end_of_links(Path::new(output)).ok()?;
     let folder = fs::metadata(folder_of(&path)).ok()?;
     Some(Identity::New {
         folder: place(&folder),
@@ -90,12 +118,17 @@ pub fn folder_of(path: &Path) -> &Path {
     }
 }
 
+/// Where a link leads to.
+fn next_of(link: &Path) -> io::Result<PathBuf> {
+    Ok(folder_of(link).join(fs::read_link(link)?))
+}
+
 /// Where links lead to in the end, be a file there or not.
 pub fn end_of_links(path: &Path) -> io::Result<PathBuf> {
     let mut path = path.to_path_buf();
     for _ in 0..MOST_LINKS {
-        match fs::read_link(&path) {
-            Ok(next) => path = folder_of(&path).join(next),
+        match next_of(&path) {
+            Ok(next) => path = next,
             Err(_) => return Ok(path),
         }
     }

@@ -1,5 +1,6 @@
 //! What keeps a command from its end.
 
+use crate::quote::shown;
 use std::panic::{catch_unwind, UnwindSafe};
 use std::{fmt, io};
 
@@ -51,11 +52,11 @@ impl Stop {
 }
 
 /// A file as it is called in words.
-pub fn name(file: &str) -> &str {
+pub fn name(file: &str) -> String {
     match file {
-        "-" => "standard input",
-        "" => "''",
-        _ => file,
+        "-" => "standard input".to_string(),
+        "" => "''".to_string(),
+        _ => shown(file),
     }
 }
 

@@ -48,7 +48,7 @@ fn read_head(table: &[u8]) -> Result<(usize, u32), String> {
     }
     let (count, limit) = (word(table, 0) as usize, word(table, 1));
     if count == 0 || count > MAX_NODES {
-        return Err(format!("{count} nodes; a table has 1 to {MAX_NODES}"));
+        return Err(format!("{count} nodes; a tree has 1 to {MAX_NODES}"));
     }
     if limit == 0 || limit as usize > MAX_LIMIT {
         return Err(format!("limit {limit} is not in 1 to {MAX_LIMIT}"));
@@ -146,11 +146,8 @@ mod tests {
     #[test]
     fn bad_heads() {
         assert_eq!(fault(&[0, 1]), "2 bytes are too few for a table");
-        assert_eq!(fault(&[0, 0, 0, 5]), "0 nodes; a table has 1 to 2048");
-        assert_eq!(
-            fault(&changed(0, 2049)),
-            "2049 nodes; a table has 1 to 2048"
-        );
+        assert_eq!(fault(&[0, 0, 0, 5]), "0 nodes; a tree has 1 to 2048");
+        assert_eq!(fault(&changed(0, 2049)), "2049 nodes; a tree has 1 to 2048");
         assert_eq!(fault(&changed(1, 0)), "limit 0 is not in 1 to 1024");
         assert_eq!(fault(&changed(1, 1025)), "limit 1025 is not in 1 to 1024");
         assert_eq!(fault(&E[..51]), "51 bytes; a table of 6 nodes has 52");

@@ -34,11 +34,10 @@ pub fn lines(text: &str) -> impl Iterator<Item = (usize, &str)> {
 /// A limit or a count that no table has is read, as far as a table has room for it, for the library
 /// to refuse.
 pub fn read(text: &str) -> Result<Text, String> {
-    let end = text.lines().count() + 1;
     let mut lines = lines(text);
     let at = |place: usize| move |fault: String| format!("line {place}: {fault}");
     let Some((first, line)) = lines.next() else {
-        return Err(at(end)("'limit K' is missing".to_string()));
+        return Err("'limit K' is missing".to_string());
     };
     let mut tree = Tree::new(read_limit(line).map_err(at(first))?);
     let mut nodes = vec![];
@@ -47,7 +46,7 @@ pub fn read(text: &str) -> Result<Text, String> {
         nodes.push(place);
     }
     match nodes.is_empty() {
-        true => Err(at(end)("the root is missing".to_string())),
+        true => Err("the root is missing".to_string()),
         false => Ok(Text {
             tree,
             lines: Lines {
@@ -70,32 +69,47 @@ pub fn write(tree: &Tree) -> String {
 
 /// The words of a line, and how far it is indented.
 fn read_words(line: &str) -> Result<(usize, Vec<&str>), String> {
-    if line.contains('\t') {
-        return Err("a tab; indent and separate with spaces".to_string());
+    if let Some(blank) = line.chars().find(|&sign| sign != ' ' && is_blank(sign)) {
+        return Err(match blank {
+            '\t' => "a tab; indent and separate with spaces".to_string(),
+            '\r' => "a carriage return; end each line with a newline".to_string(),
+            _ => {
+                let number = u32::from(blank);
+                format!("a blank of number {number:04X}; indent and separate with spaces")
+            }
+        });
     }
     let words = line.split(' ').filter(|word| !word.is_empty());
     let indent = line.len() - line.trim_start_matches(' ').len();
     Ok((indent, words.collect()))
 }
 
+/// Whether a sign looks like a space, or like nothing.
+fn is_blank(sign: char) -> bool {
+    sign.is_whitespace() || ('\u{200b}'..='\u{200d}').contains(&sign) || sign == '\u{feff}'
+}
+
 fn read_limit(line: &str) -> Result<u32, String> {
     let (indent, words) = read_words(line)?;
     match words[..] {
         ["limit", limit] if indent == 0 => read_number("limit", limit, 1..=MAX_LIMIT as u32),
-        _ => Err("the first line is 'limit K', with no indent".to_string()),
+        _ => Err(format!(
+            "{} is not 'limit K', which comes first",
+            quote(line)
+        )),
     }
 }
 
 fn add_node(tree: &mut Tree, line: &str) -> Result<(), String> {
     let (indent, words) = read_words(line)?;
-    let depth = read_depth(tree, indent)?;
     let [weight, label] = words[..] else {
         return Err("a node is two numbers, 'weight label'".to_string());
     };
     let weight = read_number("weight", weight, WORDS)?;
     let label = read_number("label", label, WORDS)?;
+    let depth = read_depth(tree, indent)?;
     if tree.count() as u32 == *WORDS.end() {
-        return Err(format!("too many nodes; a table has at most {MAX_NODES}"));
+        return Err(format!("too many nodes; a tree has at most {MAX_NODES}"));
     }
     tree.add(depth, weight, label);
     Ok(())
@@ -182,17 +196,17 @@ mod tests {
 
     #[test]
     fn bad_limits() {
-        assert_eq!(fault(""), "line 1: 'limit K' is missing");
+        assert_eq!(fault(""), "'limit K' is missing");
         assert_eq!(
             fault("limit 65536\n1 1"),
             "line 1: limit 65536 is not in 1 to 1024"
         );
         assert_eq!(read("limit 0\n1 1").map(|tree| tree.limit), Ok(0));
         assert_eq!(fault("limit x"), "line 1: limit \"x\" is not a number");
-        let first = "line 1: the first line is 'limit K', with no indent";
-        assert_eq!(fault("5 1\nlimit 5"), first);
-        assert_eq!(fault("  limit 5"), first);
-        assert_eq!(fault("limit 5 5"), first);
+        for first in ["5 1", "  limit 5", "limit 5 5", "limit"] {
+            let wanted = format!("line 1: \"{first}\" is not 'limit K', which comes first");
+            assert_eq!(fault(&format!("{first}\nlimit 5\n")), wanted);
+        }
     }
 
     #[test]
@@ -234,7 +248,14 @@ mod tests {
             "line 4: a second root; every node but the first is indented"
         );
         assert_eq!(fault("limit 5\n  1 1"), "line 2: the root has no indent");
-        assert_eq!(fault("limit 5\n"), "line 2: the root is missing");
+        assert_eq!(fault("limit 5\n"), "the root is missing");
+        let blank = "line 4: a blank of number 00A0; indent and separate with spaces";
+        assert_eq!(node("\u{a0}\u{a0}1 2"), blank);
+        assert_eq!(node("  1\u{a0}2"), blank);
+        let nothing = "line 4: a blank of number 200B; indent and separate with spaces";
+        assert_eq!(node("  1 2\u{200b}"), nothing);
+        let ends = "line 1: a carriage return; end each line with a newline";
+        assert_eq!(fault("limit 5\r5 1\r"), ends);
     }
 
     #[test]
@@ -242,13 +263,13 @@ mod tests {
         let noted = "\u{feff}# the shift of case E\nlimit 5 # a page\n5 1#root\n  2 2\n  1 3\n#\n\n    2 4\n\
                      \x20   2 5 # 9 9\n  1 6\n";
         assert_eq!(read(noted), Ok(case_e()));
-        assert_eq!(fault("# limit 5\n"), "line 2: 'limit K' is missing");
+        assert_eq!(fault("# limit 5\n"), "'limit K' is missing");
         assert_eq!(
             fault("limit 5\n1 # 1\n"),
             "line 2: a node is two numbers, 'weight label'"
         );
         // Only the first sign of a text is a byte-order mark.
-        assert!(fault("limit 5\n\u{feff}1 1\n").starts_with("line 2: weight"));
+        assert!(fault("limit 5\n\u{feff}1 1\n").starts_with("line 2: a blank of number FEFF"));
     }
 
     #[test]
@@ -272,7 +293,7 @@ mod tests {
     fn node_limit() {
         let most = format!("limit 5\n1 1\n{}", "  1 1\n".repeat(65534));
         assert_eq!(read(&most).map(|tree| tree.count()), Ok(65535));
-        let wanted = "line 65537: too many nodes; a table has at most 2048";
+        let wanted = "line 65537: too many nodes; a tree has at most 2048";
         assert_eq!(fault(&(most + "  1 1\n")), wanted);
     }
 }

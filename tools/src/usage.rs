@@ -1,9 +1,9 @@
 //! The words of a command line: which command, its operands and its options. What is not known is
 //! named.
 
-use crate::quote::short;
-use crate::same_file::{are_one, overwrites};
-use crate::stop::Stop;
+use crate::quote::{short, shown};
+use crate::same_file::{are_one, are_one_stream, is_standard_output, overwrites};
+use crate::stop::{name, Stop};
 
 /// What an option's value names.
 #[derive(Clone, Copy, Debug, PartialEq, Eq)]
@@ -164,10 +164,19 @@ impl Usage {
         };
         let operands = given.operands.iter().map(String::as_str);
         let inputs: Vec<&str> = operands.chain(chosen(Role::Input)).collect();
-        if inputs.iter().filter(|&&name| name == "-").count() > 1 {
-            return Err(self.trouble("standard input can be read once only".to_string()));
+        for (index, input) in inputs.iter().enumerate() {
+            if inputs[..index]
+                .iter()
+                .any(|other| are_one_stream(input, other))
+            {
+                return Err(self.trouble(format!("{} can be read once only", name(input))));
+            }
         }
-        let outputs: Vec<&str> = chosen(Role::Output).collect();
+        let mut outputs: Vec<&str> = chosen(Role::Output).collect();
+        // The report is one more, where none takes its place.
+        if !outputs.iter().any(|output| is_standard_output(output)) {
+            outputs.insert(0, "-");
+        }
         for (index, &output) in outputs.iter().enumerate() {
             if let Some(input) = inputs.iter().find(|input| overwrites(output, input)) {
                 let file = both(output, input, "standard input");
@@ -193,19 +202,27 @@ impl Usage {
     }
 }
 
-/// A file by its name, and by its other name where it was given two; and what '-' is there.
+/// An output by its name, and by its other name where it was given two; and what '-' is there.
 fn both(output: &str, other: &str, standard: &str) -> String {
-    match other {
-        _ if output == other => format!("'{output}'"),
-        "-" => format!("'{output}', which is {standard},"),
-        _ => format!("'{output}', which is '{other}',"),
+    let output = match output {
+        "-" => "standard output".to_string(),
+        _ => format!("'{}'", shown(output)),
+    };
+    let other = match other {
+        "-" => standard.to_string(),
+        _ => format!("'{}'", shown(other)),
+    };
+    match output == other {
+        true => output,
+        false => format!("{output}, which is {other},"),
     }
 }
 
 /// A known word that is much like this one, or that this one begins, as the end of a sentence.
 pub fn near(word: &str, known: &[&str]) -> String {
     let nearest = known.iter().min_by_key(|name| distance(word, name));
-    let like = nearest.filter(|name| distance(word, name) <= 2);
+    // A short word is like any other short one.
+    let like = nearest.filter(|name| distance(word, name) <= 2.min(word.len() / 2));
     let mut longer = known.iter().filter(|name| name.starts_with(word));
     match like.or_else(|| longer.next()) {
         Some(name) if !word.is_empty() => format!("; is it '{name}'?"),
@@ -242,6 +259,7 @@ mod tests {
         assert_eq!(distance("judge", "plan"), 5);
         assert_eq!(near("wite", &["plan", "write"]), "; is it 'write'?");
         assert_eq!(near("x", &["plan", "write"]), "");
+        assert_eq!(near("-v", &["plan", "svg"]), "");
         assert_eq!(near("x", &[]), "");
         assert_eq!(near("", &["plan", "write"]), "");
         let known = ["--svg", "--marks-out"];

@@ -1,6 +1,7 @@
 //! Refusals in words: number and place as the page program writes them, what was found there, and
 //! on a second line what to do.
 
+use crate::element::counted;
 use crate::input::{content, Content, FilmFile, MarksFile, TreeFile};
 use crate::plan::Plan;
 use crate::rule_sheet;
@@ -40,7 +41,7 @@ impl Lent<'_> {
     }
 
     /// The file that a refusal is of and, where it is a text, the line.
-    fn blamed(&self, cause: Cause, place: usize) -> (&str, Option<usize>) {
+    fn blamed(&self, cause: Cause, place: usize) -> (String, Option<usize>) {
         let at = |lines: &[usize]| place.checked_sub(1).and_then(|at| lines.get(at).copied());
         let is_of_marks = [Cause::BadMarks, Cause::BadMark, Cause::HeavyPage].contains(&cause);
         match (self.marks, self.tree, self.film) {
@@ -59,7 +60,7 @@ impl Lent<'_> {
                 });
                 (name(&tree.name), line)
             }
-            (_, None, film) => (film.map_or("", |film| name(&film.name)), None),
+            (_, None, film) => (film.map_or(String::new(), |film| name(&film.name)), None),
         }
     }
 
@@ -80,10 +81,7 @@ impl Lent<'_> {
         match refusal.cause {
             Cause::HeavyNode => self.heavy_node(place),
             Cause::NoLabel => self.no_label(place),
-            Cause::BadMarks => (
-                format!("{} marks for a tree of {place} nodes", self.marks().len()),
-                "Give one mark for each node, in the order of the nodes.".to_string(),
-            ),
+            Cause::BadMarks => self.bad_marks(place),
             Cause::BadMark => (self.plan().err().unwrap_or_default(), MARKS.to_string()),
             Cause::HeavyPage => self.heavy_page(place),
             Cause::NoArchive => self.no_archive(),
@@ -99,6 +97,19 @@ impl Lent<'_> {
                 "This is a fault of the program.".to_string(),
             ),
         }
+    }
+
+    fn bad_marks(&self, nodes: usize) -> (String, String) {
+        let marks = self.marks();
+        let advice = if balduqen::read_archive(marks).is_ok() {
+            "This is film: 'balduqen read' with '--marks-out FILE' writes its marks."
+        } else if table::read(marks).is_ok() {
+            "This is a tree as a table."
+        } else {
+            "Give one mark for each node, in the order of the nodes."
+        };
+        let (marks, nodes) = (counted(marks.len(), "mark"), counted(nodes, "node"));
+        (format!("{marks} for a tree of {nodes}"), advice.to_string())
     }
 
     fn no_label(&self, node: usize) -> (String, String) {

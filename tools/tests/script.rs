@@ -175,6 +175,24 @@ fn says_what_is_in_the_way() {
     assert!(said(&root).ends_with("/target/tools/release/balduqen cannot be run\n"));
 }
 
+/// What the command itself cannot see or keep from happening.
+#[test]
+fn streams_and_limits() {
+    let root = Root::new("streams", RT, CARGO);
+    assert_eq!(root.run().0, Some(1));
+    let closed = root.call("../balduqen plan 'a b' >&-");
+    assert_eq!(closed.status.code(), Some(2));
+    assert_eq!(closed.stderr, b"balduqen: standard output is closed\n");
+    // A file that would be too long is a failure, and no signal.
+    let program = root.0.join("target/tools/release/balduqen");
+    let writes = "#!/bin/sh\nhead -c 4096 /dev/zero > long\nexit 2\n";
+    fs::write(&program, writes).expect("a program");
+    let long = root.call("ulimit -f 1; ../balduqen write");
+    assert_eq!(long.status.code(), Some(2));
+    let said = String::from_utf8_lossy(&long.stderr);
+    assert!(said.contains("File too large"), "{said}");
+}
+
 /// The build goes on, and the exit status is the same.
 #[test]
 fn standard_error_may_be_full_or_closed() {
