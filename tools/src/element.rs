@@ -1,6 +1,7 @@
 //! The elements of an SVG that the picture and the legend are made of.
 
 use crate::colour::dark;
+use crate::letters::Letters;
 
 pub const INK: &str = "#222222";
 pub const FAINT: &str = "#8a8a8a";
@@ -30,10 +31,8 @@ pub fn tag((x, y): (i32, i32), height: i32, page: usize, over: bool) -> String {
         false => dark(page),
     };
     let width = tag_width(height, page, over);
-    let size = (height + 6) / 2;
-    let style = format!(
-        "fill=\"#ffffff\" font-size=\"{size}\" font-weight=\"bold\" text-anchor=\"middle\""
-    );
+    let letters = tag_letters(height).style();
+    let style = format!("fill=\"#ffffff\" {letters} text-anchor=\"middle\"");
     let middle = (x + width / 2, y + (height + 8) / 2);
     rect(
         (x, y),
@@ -44,7 +43,11 @@ pub fn tag((x, y): (i32, i32), height: i32, page: usize, over: bool) -> String {
 }
 
 pub fn tag_width(height: i32, page: usize, over: bool) -> i32 {
-    height - 6 + 7 * tag_text(page, over).len() as i32
+    height - 7 + tag_letters(height).width(&tag_text(page, over))
+}
+
+fn tag_letters(height: i32) -> Letters {
+    Letters::bold((height + 6) / 2)
 }
 
 fn tag_text(page: usize, over: bool) -> String {

@@ -1,9 +1,10 @@
 //! The legend: what the signs mean, and each page's first node, last sibling and weight.
 
 use crate::colour::{dark, light};
-use crate::element::{path, rect, tag, text, ALARM, FAINT, TAG};
+use crate::element::{path, rect, tag, tag_width, text, ALARM, FAINT, TAG};
+use crate::letters::Letters;
 use crate::picture::{bar, figures, node_box, BOX_HEIGHT, CUT, KEPT};
-use crate::plan::Plan;
+use crate::plan::{Page, Plan};
 
 const ROW: i32 = 24;
 const SPACE: i32 = 44;
@@ -11,16 +12,18 @@ const KEY_WIDTH: i32 = 260;
 /// The width of the key's signs, and where its words begin.
 const SIGN: i32 = 40;
 const WORDS: i32 = 56;
-/// Right ends of the columns of first, last and weight.
-const ENDS: [i32; 3] = [90, 140, 204];
-const LIST_WIDTH: i32 = 216;
+/// Right ends of the columns of first, last and weight, at the least.
+const LEAST_ENDS: [i32; 3] = [90, 140, 204];
+/// Between the texts of a row, and at its right end.
+const GAP: i32 = 12;
 /// A tree up to this width has its legend beside it, a wider one below.
 const NARROW: i32 = 560;
 /// The list goes down so many rows, at the least, before it takes another column.
 const LEAST_ROWS: usize = 8;
 
-const HEAD_STYLE: &str = "font-size=\"12\"";
-const END_STYLE: &str = "font-size=\"12\" text-anchor=\"end\"";
+const FIGURES: Letters = Letters::plain(12);
+const FLAG: Letters = Letters::bold(13);
+const NAMES: [&str; 3] = ["first", "last", "weight"];
 
 /// A sign of the key, in the colours of page 1, from the middle of its left side.
 type Sign = fn((i32, i32)) -> String;
@@ -40,6 +43,8 @@ pub struct Legend<'a> {
     key: (i32, i32),
     list: (i32, i32),
     rows: usize,
+    /// Right ends of the columns of first, last and weight.
+    ends: [i32; 3],
 }
 
 impl<'a> Legend<'a> {
@@ -51,6 +56,7 @@ impl<'a> Legend<'a> {
             key: corner,
             list: corner,
             rows: LEAST_ROWS,
+            ends: ends(plan, limit),
         };
         match size.0 <= NARROW {
             true => legend.beside(size),
@@ -101,12 +107,21 @@ impl<'a> Legend<'a> {
         self.plan.pages.len().div_ceil(self.rows)
     }
 
+    fn list_width(&self) -> i32 {
+        self.ends[2] + GAP
+    }
+
     fn column_width(&self) -> i32 {
         let flag = match self.any_over() {
-            true => 70 + 9 * self.heaviest().to_string().len() as i32,
+            true => 8 + FLAG.width(&self.flag(self.heaviest())),
             false => 0,
         };
-        LIST_WIDTH + flag + SPACE / 2
+        self.list_width() + flag + SPACE / 2
+    }
+
+    /// What is said of a page of this weight, which is over the limit.
+    fn flag(&self, weight: u32) -> String {
+        format!("over by {}", weight - self.limit)
     }
 
     fn any_over(&self) -> bool {
@@ -146,9 +161,9 @@ impl<'a> Legend<'a> {
     fn head(&self, column: usize) -> String {
         let (x, y) = self.list;
         let (x, y) = (x + column as i32 * self.column_width(), y + 13);
-        let names = ["first", "last", "weight"].iter().zip(ENDS);
-        let names = names.map(|(name, end)| text((x + end, y), END_STYLE, name));
-        text((x + 2, y), HEAD_STYLE, "page") + &names.collect::<String>()
+        let names = NAMES.iter().zip(self.ends);
+        let names = names.map(|(name, end)| text((x + end, y), &end_style(), name));
+        text((x + 2, y), &FIGURES.style(), "page") + &names.collect::<String>()
     }
 
     fn row(&self, number: usize) -> String {
@@ -159,19 +174,51 @@ impl<'a> Legend<'a> {
         let over = page.weight > self.limit;
         let (light, dark) = (light(number), dark(number));
         let style = format!("fill=\"{light}\" stroke=\"{dark}\" stroke-width=\"0.5\"");
-        let mut out = rect((x, y), (LIST_WIDTH, ROW - 4), 4, &style);
+        let mut out = rect((x, y), (self.list_width(), ROW - 4), 4, &style);
         out += &tag((x + 4, y + 2), TAG, number, over);
-        let figures = [page.first as u32, page.last as u32, page.weight];
-        for (figure, end) in figures.into_iter().zip(ENDS) {
-            out += &text((x + end, y + 15), END_STYLE, &figure.to_string());
+        for (figure, end) in figures_of(page).iter().zip(self.ends) {
+            out += &text((x + end, y + 15), &end_style(), figure);
         }
         if over {
-            let flag = format!("over by {}", page.weight - self.limit);
-            let style = format!("fill=\"{ALARM}\" font-weight=\"bold\"");
-            out += &text((x + LIST_WIDTH + 8, y + 15), &style, &flag);
+            let style = format!("fill=\"{ALARM}\" {}", FLAG.style());
+            let at = (x + self.list_width() + 8, y + 15);
+            out += &text(at, &style, &self.flag(page.weight));
         }
         out
     }
+}
+
+fn end_style() -> String {
+    format!("{} text-anchor=\"end\"", FIGURES.style())
+}
+
+/// First node, last sibling and weight of a page.
+fn figures_of(page: &Page) -> [String; 3] {
+    let Page {
+        first,
+        last,
+        weight,
+    } = page;
+    [first.to_string(), last.to_string(), weight.to_string()]
+}
+
+/// Right ends of the columns of the list, with room for each page's tag and figures.
+fn ends(plan: &Plan, limit: u32) -> [i32; 3] {
+    let tags = plan.pages.iter().zip(1..);
+    let tags = tags.map(|(page, number)| 4 + tag_width(TAG, number, page.weight > limit));
+    let mut end = tags.max().unwrap_or(0);
+    let mut ends = LEAST_ENDS;
+    for (column, name) in NAMES.iter().enumerate() {
+        let figures = plan
+            .pages
+            .iter()
+            .map(|page| figures_of(page)[column].clone());
+        let widths = figures.map(|figure| FIGURES.width(&figure));
+        let widest = widths.max().unwrap_or(0).max(FIGURES.width(name));
+        end = LEAST_ENDS[column].max(end + GAP + widest);
+        ends[column] = end;
+    }
+    ends
 }
 
 fn tag_sign((x, y): (i32, i32)) -> String {

@@ -23,6 +23,7 @@ mod element;
 mod fold;
 mod layout;
 mod legend;
+mod letters;
 mod list;
 mod picture;
 mod stacks;

@@ -4,6 +4,7 @@ use crate::colour::{dark, light};
 use crate::element::{self, path, rect, text, ALARM, FAINT, LABEL, TAG};
 use crate::fold::{Kind, Shown};
 use crate::layout;
+use crate::letters::Letters;
 use crate::tree::Tree;
 
 pub const BOX_HEIGHT: i32 = 54;
@@ -14,6 +15,11 @@ const GAP: i32 = 22;
 const LEAST_DROP: i32 = 52;
 const MOST_DROP: i32 = 180;
 const BAR: i32 = 14;
+
+/// The letters of a node's number, weight and label.
+const NUMBER: Letters = Letters::bold(15);
+const WEIGHT: Letters = Letters::plain(12);
+const LABELS: Letters = Letters::plain(11);
 
 pub const KEPT: &str = "fill=\"none\" stroke-width=\"3.5\"";
 pub const CUT: &str = "fill=\"none\" stroke-width=\"1.3\" stroke-dasharray=\"5 4\"";
@@ -137,10 +143,8 @@ pub fn title(shown: &Shown, number: usize) -> String {
 fn box_width(shown: &Shown) -> i32 {
     let lines = shown.tree.numbers().map(|number| lines(shown, number));
     let widths = lines.map(|[name, weight, label]| {
-        let letters = |text: &str| text.chars().count() as i32;
-        (9 * letters(&name))
-            .max(8 * letters(&weight))
-            .max(7 * letters(&label))
+        let small = WEIGHT.width(&weight).max(LABELS.width(&label));
+        NUMBER.width(&name).max(small)
     });
     LEAST_BOX_WIDTH.max(14 + widths.max().unwrap_or(0))
 }
@@ -182,9 +186,16 @@ pub fn node_box(at: (i32, i32), width: i32, page: usize, over: bool) -> String {
 /// A node's number over its weight and its label, from the middle of the box's upper side.
 pub fn figures((x, y): (i32, i32), number: &str, weight: &str, label: &str) -> String {
     let middle = "text-anchor=\"middle\"";
-    let bold = format!("{middle} font-weight=\"bold\" font-size=\"15\"");
-    let small = format!("{middle} font-size=\"11\" font-style=\"italic\" fill=\"{LABEL}\"");
+    let bold = format!(
+        "{middle} font-weight=\"bold\" font-size=\"{}\"",
+        NUMBER.size
+    );
+    let weight_style = format!("{middle} {}", WEIGHT.style());
+    let small = format!(
+        "{middle} {} font-style=\"italic\" fill=\"{LABEL}\"",
+        LABELS.style()
+    );
     text((x, y + 17), &bold, number)
-        + &text((x, y + 33), &format!("{middle} font-size=\"12\""), weight)
+        + &text((x, y + 33), &weight_style, weight)
         + &text((x, y + 48), &small, label)
 }

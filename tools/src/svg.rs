@@ -5,6 +5,7 @@ use crate::cards::{Card, Deck, Detail};
 use crate::element::{counted, rect, text, INK};
 use crate::fold::Shown;
 use crate::legend::Legend;
+use crate::letters::Letters;
 use crate::picture::Picture;
 use crate::plan::{Page, Plan};
 use crate::stacks::Stacks;
@@ -13,6 +14,7 @@ use crate::tree::Tree;
 const MARGIN: i32 = 28;
 /// Room for the heading.
 const TOP: i32 = 74;
+const HEADING: Letters = Letters::bold(16);
 /// A tree of more nodes is folded.
 const FEW: usize = 200;
 /// A tree that needs more is shown as cards.
@@ -88,17 +90,12 @@ fn draw_cards(deck: &Deck, groups: &[(&str, Vec<Card>)], heading: &str) -> Strin
 
 /// A picture with its heading, as far as this lower right corner.
 fn page(heading: &str, (right, low): (i32, i32), content: String) -> String {
-    // Ten units are the most that a letter of the heading takes.
-    let right = right.max(MARGIN + 10 * heading.len() as i32);
+    let right = right.max(MARGIN + HEADING.width(heading));
     let (width, height) = (right + MARGIN, low + MARGIN);
     let body = [
         format!("<title>{heading}</title>\n"),
         rect((0, 0), (width, height), 0, "fill=\"#ffffff\""),
-        text(
-            (MARGIN, 40),
-            "font-size=\"16\" font-weight=\"bold\"",
-            heading,
-        ),
+        text((MARGIN, 40), &HEADING.style(), heading),
         content,
     ];
     format!(
