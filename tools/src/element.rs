@@ -21,6 +21,14 @@ pub fn text((x, y): (i32, i32), style: &str, content: &str) -> String {
     format!("<text x=\"{x}\" y=\"{y}\" {style}>{content}</text>\n")
 }
 
+/// What tells this where one points at it, if it tells anything.
+pub fn titled(title: &str, content: String) -> String {
+    match title.is_empty() {
+        true => content,
+        false => format!("<g><title>{title}</title>\n{content}</g>\n"),
+    }
+}
+
 /// The height of a page's tag.
 pub const TAG: i32 = 16;
 
@@ -55,6 +63,28 @@ fn tag_text(page: usize, over: bool) -> String {
         true => format!("{page}!"),
         false => page.to_string(),
     }
+}
+
+const LEVEL: Letters = Letters::plain(9);
+
+/// A level in a frame, where the indents of a card begin anew.
+pub fn level_mark((x, y): (i32, i32), height: i32, level: usize) -> String {
+    let width = level_width(level);
+    let style = format!("{} text-anchor=\"middle\"", LEVEL.style());
+    rect(
+        (x, y),
+        (width, height),
+        2,
+        &format!("fill=\"#ffffff\" stroke=\"{INK}\" stroke-width=\"0.8\""),
+    ) + &text(
+        (x + width / 2, y + height / 2 + 3),
+        &style,
+        &level.to_string(),
+    )
+}
+
+pub fn level_width(level: usize) -> i32 {
+    6 + LEVEL.width(&level.to_string())
 }
 
 /// A number of things, as a text.

@@ -98,6 +98,16 @@ impl Shown {
         range(first, last)
     }
 
+    /// The first node and the last sibling of a page's run. Of a chain only the upper end is in it.
+    pub fn run(&self, page: usize) -> (usize, usize) {
+        let run = self.plan.page(page);
+        let last = self.fold(run.last);
+        match last.kind {
+            Kind::Chain => (self.fold(run.first).first, last.first),
+            _ => (self.fold(run.first).first, last.last),
+        }
+    }
+
     /// What a fold folds: '13 leaves', or nothing for a node by itself.
     pub fn folded_as(&self, shown: usize) -> String {
         let fold = self.fold(shown);
@@ -187,7 +197,8 @@ mod tests {
         assert_eq!(depths, [0, 1, 2, 3, 3]);
     }
 
-    /// Whatever the tree and the plan, each node is in one fold, and pages keep numbers and weights.
+    /// Whatever the tree and the plan, each node is in one fold, and pages keep numbers, runs and
+    /// weights.
     #[test]
     fn folds_keep_the_pages() {
         for seed in 0..300 {
@@ -202,6 +213,9 @@ mod tests {
             let weights =
                 |plan: &Plan| -> Vec<u32> { plan.pages.iter().map(|page| page.weight).collect() };
             assert_eq!(weights(&shown.plan), weights(&plan));
+            for (page, number) in plan.pages.iter().zip(1..) {
+                assert_eq!(shown.run(number), (page.first, page.last));
+            }
             let mut next = 1;
             for number in shown.tree.numbers() {
                 let fold = shown.fold(number);

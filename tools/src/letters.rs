@@ -72,8 +72,8 @@ impl Letters {
 mod tests {
     use super::*;
 
-    /// As the fonts' own tables have them, of 2,048 parts of the size: digits 1,303 and in bold 1,425,
-    /// 'W' 2,025 and 2,259, 'i' 569 and 702, the space 651 and 713, the en dash 1,024.
+    /// As the fonts' own tables have them, in parts of the size of which there are 2,048. What is
+    /// rounded up to thousandths is at most three parts wider.
     #[test]
     fn known_widths() {
         let (plain, bold) = (Letters::plain(2048), Letters::bold(2048));

@@ -1,316 +1,179 @@
-//! Cards below one another, in columns. A card that is longer than its column goes on in the next.
+//! Cards below one another, in columns.
 
-use crate::cards::{Card, Deck, Row, Sign};
+use crate::cards::{Card, Deck};
 use crate::colour::{dark, light};
-use crate::element::{counted, rect, tag, tag_width, text, ALARM, FAINT, LABEL, TAG};
-use crate::fold::{range, Kind};
-use crate::picture::title;
+use crate::element::{rect, text, FAINT};
+use crate::fill::{self, height, Part, HEAD, SPACE};
+use crate::letters::Letters;
+use crate::line::{Columns, Head, Line, ROW};
 
-const WIDTH: i32 = 296;
-const SPACE: i32 = 14;
-const HEAD: i32 = 22;
-const ROW: i32 = 16;
-/// The height of a tag in a row.
-const SMALL: i32 = 14;
-/// Below the last row of a card.
-const FOOT: i32 = 6;
-/// A level within a page is this much to the right of the one above it, and after so many the
-/// levels begin at the left again.
-const INDENT: i32 = 8;
-const LEVELS: usize = 7;
-/// Right ends of weights and labels.
-const WEIGHT: i32 = 204;
-const LABELS: i32 = WIDTH - 8;
-/// A column is at least so high, and a card that is begun in one has at least so many rows there.
+/// Between columns.
+const BESIDE: i32 = 10;
+/// A column is at least so high, if there is so much to show.
 const LEAST_HEIGHT: i32 = 420;
-const LEAST_ROWS: i32 = 5;
 
-fn height(card: &Card) -> i32 {
-    height_of(card.page, card.rows.len())
+const HEADING: Letters = Letters::bold(13);
+
+/// Cards with a heading, or an empty one, in columns of their own.
+pub struct Group {
+    pub heading: String,
+    pub cards: Vec<Card>,
 }
 
-/// The height of a card with so many rows. The key has no names of columns above them.
-fn height_of(page: usize, rows: usize) -> i32 {
-    HEAD + ROW * (rows + usize::from(page != 0)) as i32 + FOOT
+/// How high columns are, so that all of them are about four wide to three high, and about even.
+fn column_height(deck: &Deck, groups: &[Group]) -> i32 {
+    let cards = || groups.iter().flat_map(|group| &group.cards);
+    let area = cards().map(|card| {
+        let height = height(card.rows.len()) + SPACE;
+        f64::from(height) * f64::from(card_width(deck, card) + BESIDE)
+    });
+    let tall = (area.sum::<f64>() * 0.75).sqrt() as i32;
+    let highest = cards().map(|card| height(card.rows.len())).max();
+    let tall = tall.max(LEAST_HEIGHT.min(highest.unwrap_or(0)));
+    let columns = |tall: i32| -> usize {
+        let groups = groups.iter();
+        groups
+            .map(|group| fill::columns(&group.cards, tall).len())
+            .sum()
+    };
+    let most = columns(tall);
+    let lower = (0..).map(|step| tall - step * ROW);
+    let lower = lower.take_while(|&tall| tall >= LEAST_HEIGHT && columns(tall) <= most);
+    lower.last().unwrap_or(tall)
 }
 
-/// How high columns are, so that all of them are about four wide to three high.
-fn column_height(groups: &[(&str, Vec<Card>)]) -> i32 {
-    let heights = groups.iter().flat_map(|group| &group.1).map(height);
-    let total: i32 = heights.clone().map(|height| height + SPACE).sum();
-    let tall = (f64::from(total) * f64::from(WIDTH + SPACE) * 0.75).sqrt() as i32;
-    tall.max(LEAST_HEIGHT.min(heights.max().unwrap_or(0)))
+fn card_width(deck: &Deck, card: &Card) -> i32 {
+    let lines = deck.lines(&card.rows);
+    let lines: Vec<&Line> = lines.iter().collect();
+    Columns::of(&lines, deck.head(card.page, true).width()).width
 }
 
-/// Whether a card is begun where so much room is left: it fits, or is so long that it is better
-/// divided.
-fn is_begun(card: &Card, room: i32, tall: i32) -> bool {
-    let is_long = height(card) >= tall / 2 && room >= HEAD + ROW * LEAST_ROWS;
-    height(card) <= room || is_long
-}
-
-/// A part of a card in its column.
-struct Part<'a> {
+/// A part of a card as it is drawn.
+struct Piece {
     page: usize,
-    at: (i32, i32),
-    rows: &'a [Row],
-    is_first: bool,
+    down: i32,
+    head: Head,
+    lines: Vec<Line>,
 }
 
-/// Cards in groups, each with its heading and from a column of its own on.
-pub struct Stacks<'a> {
-    deck: &'a Deck<'a>,
-    parts: Vec<Part<'a>>,
-    headings: Vec<((i32, i32), &'a str)>,
-    end: (i32, i32),
-}
-
-impl<'a> Stacks<'a> {
-    pub fn new(
-        deck: &'a Deck<'a>,
-        groups: &'a [(&'a str, Vec<Card>)],
-        corner: (i32, i32),
-    ) -> Stacks<'a> {
-        let tall = column_height(groups);
-        let mut stacks = Stacks {
-            deck,
-            parts: vec![],
-            headings: vec![],
-            end: corner,
-        };
-        let mut x = corner.0;
-        for (heading, cards) in groups {
-            let top = match heading.is_empty() {
-                true => corner.1,
-                false => corner.1 + ROW + SPACE,
-            };
-            stacks.headings.push(((x, corner.1 + ROW), heading));
-            x = stacks.fill(cards, (x, top), tall) + WIDTH + SPACE;
-        }
-        stacks
-    }
-
-    /// Puts cards below one another, in as many columns as it takes, and tells where the last one is.
-    fn fill(&mut self, cards: &'a [Card], (x, top): (i32, i32), tall: i32) -> i32 {
-        let (mut x, mut y) = (x, top);
-        for card in cards {
-            if y > top && !is_begun(card, top + tall - y, tall) {
-                (x, y) = (x + WIDTH + SPACE, top);
-            }
-            (x, y) = self.put(card, (x, y), (top, top + tall));
-        }
-        x
-    }
-
-    /// Puts a card from here on, in columns that go from top to low, and tells where the next begins.
-    fn put(&mut self, card: &'a Card, (x, y): (i32, i32), (top, low): (i32, i32)) -> (i32, i32) {
-        let (mut x, mut y) = (x, y);
-        let mut rows = &card.rows[..];
-        loop {
-            let fitting = ((low - y - HEAD - FOOT) / ROW - 1).max(1) as usize;
-            let (here, rest) = rows.split_at(fitting.min(rows.len()));
-            self.parts.push(Part {
-                page: card.page,
-                at: (x, y),
-                rows: here,
-                is_first: rows.len() == card.rows.len(),
-            });
-            let end = y + height_of(card.page, here.len());
-            self.end = (self.end.0.max(x + WIDTH), self.end.1.max(end));
-            if rest.is_empty() {
-                return (x, end + SPACE);
-            }
-            (x, y) = (x + WIDTH + SPACE, top);
-            rows = rest;
+impl Piece {
+    fn new(deck: &Deck, part: &Part) -> Piece {
+        Piece {
+            page: part.page,
+            down: part.down,
+            head: deck.head(part.page, part.is_first),
+            lines: deck.lines(part.rows),
         }
     }
 
-    /// The lower right corner.
-    pub fn end(&self) -> (i32, i32) {
-        self.end
+    fn height(&self) -> i32 {
+        height(self.lines.len())
     }
 
-    pub fn draw(&self) -> String {
-        let bold = "font-weight=\"bold\"";
-        let headings = self.headings.iter();
-        let headings = headings.map(|(at, heading)| match heading.is_empty() {
-            true => String::new(),
-            false => text(*at, bold, heading),
-        });
-        let parts = self.parts.iter().map(|part| self.draw_part(part));
-        headings.chain(parts).collect()
-    }
-
-    fn draw_part(&self, part: &Part) -> String {
-        let (x, y) = part.at;
-        let height = height_of(part.page, part.rows.len());
-        let (fill, stroke) = match part.page {
+    /// From the upper left corner of its column.
+    fn draw(&self, (x, y): (i32, i32), columns: &Columns) -> String {
+        let y = y + self.down;
+        let (fill, stroke) = match self.page {
             0 => ("#ffffff".to_string(), FAINT.to_string()),
             page => (light(page), dark(page)),
         };
         let style = format!("fill=\"{fill}\" stroke=\"{stroke}\" stroke-width=\"1\"");
-        let mut out = rect((x, y), (WIDTH, height), 6, &style);
-        out += &self.draw_head(part);
-        if part.page == 0 {
-            let rows = part.rows.iter().zip(1..);
-            let rows =
-                rows.map(|(row, index)| self.draw_row(row, (x, y + HEAD + ROW * index - ROW)));
-            return out + &rows.collect::<String>();
-        }
-        let style = format!("font-size=\"10\" fill=\"{LABEL}\"");
-        let names = [
-            (8, "start", "node"),
-            (WEIGHT, "end", "weight"),
-            (LABELS, "end", "label"),
-        ];
-        for (at, anchor, name) in names {
-            let style = format!("{style} text-anchor=\"{anchor}\"");
-            out += &text((x + at, y + HEAD + 11), &style, name);
-        }
-        for (row, index) in part.rows.iter().zip(1..) {
-            out += &self.draw_row(row, (x, y + HEAD + ROW * index));
+        let mut out = rect((x, y), (columns.width, self.height()), 6, &style);
+        out += &self.head.draw((x, y), columns.width);
+        for (line, index) in self.lines.iter().zip(0..) {
+            out += &line.draw((x, y + HEAD + ROW * index), columns);
         }
         out
     }
+}
 
-    fn draw_head(&self, part: &Part) -> String {
-        let (x, y) = part.at;
-        let small = "font-size=\"11\"";
-        let end = format!("{small} text-anchor=\"end\"");
-        if part.page == 0 {
-            return text(
-                (x + 8, y + 15),
-                small,
-                "a card a page: where it is cut, weight of limit",
-            );
+/// A column of cards, all as wide as its widest line needs, below the names of what they show.
+struct Stack {
+    x: i32,
+    names: Line,
+    pieces: Vec<Piece>,
+    columns: Columns,
+}
+
+impl Stack {
+    fn new(deck: &Deck, x: i32, parts: &[Part]) -> Stack {
+        let names = Line::names();
+        let pieces: Vec<Piece> = parts.iter().map(|part| Piece::new(deck, part)).collect();
+        let heads = pieces.iter().map(|piece| piece.head.width());
+        let least = heads.max().unwrap_or(0);
+        let lines = pieces.iter().flat_map(|piece| &piece.lines);
+        let lines: Vec<&Line> = lines.chain([&names]).collect();
+        let columns = Columns::of(&lines, least);
+        Stack {
+            x,
+            names,
+            pieces,
+            columns,
         }
-        let page = self.deck.shown.plan.page(part.page);
-        let limit = self.deck.tree.limit;
-        let over = page.weight > limit;
-        let mut out = tag((x + 5, y + 3), TAG, part.page, over);
-        let after = 10 + tag_width(TAG, part.page, over);
-        let from = match (part.is_first, part.page) {
-            (false, _) => "continued".to_string(),
-            (true, 1) => "the root page".to_string(),
-            (true, number) => {
-                let first = self.deck.shown.fold(page.first).first;
-                let parent = self.deck.tree.node(first).parent;
-                format!("below node {parent} on page {}", self.deck.above(number))
+    }
+
+    fn right(&self) -> i32 {
+        self.x + self.columns.width
+    }
+
+    fn height(&self) -> i32 {
+        let last = self.pieces.last();
+        last.map_or(0, |piece| piece.down + piece.height())
+    }
+
+    fn draw(&self, top: i32) -> String {
+        let names = self.names.draw((self.x, top - ROW - 1), &self.columns);
+        let pieces = self.pieces.iter();
+        let pieces = pieces.map(|piece| piece.draw((self.x, top), &self.columns));
+        names + &pieces.collect::<String>()
+    }
+}
+
+pub struct Stacks<'a> {
+    stacks: Vec<Stack>,
+    /// Headings, and where each begins.
+    headings: Vec<(i32, &'a str)>,
+    /// The upper end of the cards, and the right end of all.
+    top: i32,
+    right: i32,
+}
+
+impl<'a> Stacks<'a> {
+    /// The cards of these groups, from this corner on.
+    pub fn new(deck: &Deck, groups: &'a [Group], (x, y): (i32, i32)) -> Stacks<'a> {
+        let tall = column_height(deck, groups);
+        let has_headings = groups.iter().any(|group| !group.heading.is_empty());
+        let mut all = Stacks {
+            stacks: vec![],
+            headings: vec![],
+            top: y + ROW * (1 + 2 * i32::from(has_headings)),
+            right: x - BESIDE,
+        };
+        for group in groups {
+            let from = all.right + BESIDE;
+            for parts in fill::columns(&group.cards, tall) {
+                let stack = Stack::new(deck, all.right + BESIDE, &parts);
+                all.right = stack.right();
+                all.stacks.push(stack);
             }
-        };
-        out += &text((x + after, y + 15), small, &from);
-        let (style, weight) = match over {
-            true => (
-                format!("{end} fill=\"{ALARM}\" font-weight=\"bold\""),
-                format!("{} over {limit}", page.weight),
-            ),
-            false => (end, format!("{} of {limit}", page.weight)),
-        };
-        out + &text((x + LABELS, y + 15), &style, &weight)
+            all.headings.push((from, &group.heading));
+            all.right = all.right.max(from + HEADING.width(&group.heading));
+        }
+        all
     }
 
-    fn draw_row(&self, row: &Row, (x, y): (i32, i32)) -> String {
-        match row {
-            Row::Node { shown, level } => self.draw_node(*shown, *level, (x, y)),
-            Row::Cut { page, level } => self.draw_cut(*page, *level, (x, y)),
-            Row::Note(note) => text(
-                (x + 8, y + 12),
-                &format!("font-size=\"11\" fill=\"{LABEL}\""),
-                note,
-            ),
-            Row::Sign(sign) => draw_sign(*sign, (x, y)),
-        }
+    /// The lower right corner.
+    pub fn end(&self) -> (i32, i32) {
+        let low = self.stacks.iter().map(|stack| self.top + stack.height());
+        (self.right, low.max().unwrap_or(self.top))
     }
 
-    fn draw_node(&self, number: usize, level: usize, (x, y): (i32, i32)) -> String {
-        let shown = self.deck.shown;
-        let indent = 8 + INDENT * (level % LEVELS) as i32;
-        let mut out = format!("<g><title>{}</title>\n", title(shown, number));
-        // Where the levels begin anew, the row says at which.
-        if level >= LEVELS && level % LEVELS == 0 {
-            let style = format!("font-size=\"9\" fill=\"{LABEL}\" text-anchor=\"end\"");
-            out += &text((x + WEIGHT - 40, y + 12), &style, &format!("level {level}"));
-        }
-        let name = self.name(number);
-        let weight = shown.tree.node(number).weight.to_string();
-        out += &figures((x, y), indent, [&name, &weight, &self.labels(number)]);
-        out + "</g>\n"
-    }
-
-    /// A cut page by its tag and its run, and all of it where it has no card of its own.
-    fn draw_cut(&self, page: usize, level: usize, (x, y): (i32, i32)) -> String {
-        let shown = self.deck.shown;
-        let run = shown.plan.page(page);
-        let over = run.weight > self.deck.tree.limit;
-        let indent = 8 + INDENT * (level % LEVELS) as i32;
-        let (first, last) = (shown.fold(run.first), shown.fold(run.last));
-        let after = indent + tag_width(SMALL, page, over) + 6;
-        let (name, labels) = match self.deck.is_row(page) {
-            true => (self.name(run.first), self.labels(run.first)),
-            false => (
-                range(first.first, last.last),
-                counted(self.deck.count(page), "node"),
-            ),
-        };
-        let row = tag((x + indent, y + 1), SMALL, page, over)
-            + &figures((x, y), after, [&name, &run.weight.to_string(), &labels]);
-        match self.deck.is_row(page) {
-            true => format!("<g><title>{}</title>\n{row}</g>\n", title(shown, run.first)),
-            false => row,
-        }
-    }
-
-    /// A node's number, or the numbers of a fold and what it folds.
-    fn name(&self, number: usize) -> String {
-        let shown = self.deck.shown;
-        match shown.fold(number).kind {
-            Kind::One => shown.name(number),
-            _ => format!("{}: {}", shown.name(number), shown.folded_as(number)),
-        }
-    }
-
-    /// The label, or the first and the last of those that are folded.
-    fn labels(&self, number: usize) -> String {
-        let fold = self.deck.shown.fold(number);
-        let label = |number: usize| self.deck.tree.node(number).label;
-        match fold.kind {
-            Kind::One => label(fold.first).to_string(),
-            _ => format!("{} .. {}", label(fold.first), label(fold.last)),
-        }
-    }
-}
-
-/// Name, weight and label of a row.
-fn figures((x, y): (i32, i32), indent: i32, [name, weight, label]: [&str; 3]) -> String {
-    let small = "font-size=\"11\"";
-    text((x + indent, y + 12), small, name)
-        + &text(
-            (x + WEIGHT, y + 12),
-            &format!("{small} text-anchor=\"end\""),
-            weight,
-        )
-        + &text(
-            (x + LABELS, y + 12),
-            &format!("{small} text-anchor=\"end\" font-style=\"italic\" fill=\"{LABEL}\""),
-            label,
-        )
-}
-
-fn draw_sign(sign: Sign, (x, y): (i32, i32)) -> String {
-    match sign {
-        Sign::Node => figures((x, y), 8, ["node, right of its parent", "weight", "label"]),
-        Sign::Fold => figures(
-            (x, y),
-            8,
-            ["3\u{2013}9: 7 leaves, or a chain", "sum", "first .. last"],
-        ),
-        Sign::Cut => {
-            tag((x + 8, y + 1), SMALL, 2, false)
-                + &figures(
-                    (x, y),
-                    29,
-                    ["page that is cut here", "weight", "nodes or label"],
-                )
-        }
+    pub fn draw(&self) -> String {
+        let headings = self.headings.iter();
+        let headings = headings.filter(|(_, heading)| !heading.is_empty());
+        let headings =
+            headings.map(|(x, heading)| text((*x, self.top - ROW - 8), &HEADING.style(), heading));
+        let stacks = self.stacks.iter().map(|stack| stack.draw(self.top));
+        headings.chain(stacks).collect()
     }
 }

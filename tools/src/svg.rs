@@ -7,8 +7,8 @@ use crate::fold::Shown;
 use crate::legend::Legend;
 use crate::letters::Letters;
 use crate::picture::Picture;
-use crate::plan::{Page, Plan};
-use crate::stacks::Stacks;
+use crate::plan::Plan;
+use crate::stacks::{Group, Stacks};
 use crate::tree::Tree;
 
 const MARGIN: i32 = 28;
@@ -20,19 +20,27 @@ const FEW: usize = 200;
 /// A tree that needs more is shown as cards.
 const WIDEST: i32 = 2400;
 const HIGHEST: i32 = 1600;
-/// So many rows are shown of each page that is cut from the one that is drawn.
-const ROWS: usize = 6;
+/// So many rows are shown of a page that is drawn, so many pages that are cut from it, and so many
+/// rows of each of these.
+const ROWS: usize = 200;
+const PAGES: usize = 30;
+const ROWS_BELOW: usize = 6;
 
 pub fn draw(tree: &Tree, plan: &Plan) -> String {
-    let is_large = tree.count() > FEW;
-    let shown = match is_large {
-        false => Shown::whole(tree, plan),
-        true => Shown::folded(tree, plan),
+    let shown = match tree.count() {
+        count if count <= FEW => Shown::whole(tree, plan),
+        _ => Shown::folded(tree, plan),
     };
     let heading = heading(tree, plan);
     draw_tree(tree, plan, &shown, &heading).unwrap_or_else(|| {
-        let deck = Deck::new(tree, &shown, is_large);
-        draw_cards(&deck, &[("", deck.cards())], &heading)
+        let deck = Deck::new(tree, &shown, true);
+        let mut cards = deck.cards();
+        cards.insert(0, deck.key(&cards));
+        let group = Group {
+            heading: String::new(),
+            cards,
+        };
+        draw_cards(&deck, &[group], &heading)
     })
 }
 
@@ -43,30 +51,45 @@ pub fn draw_page(tree: &Tree, plan: &Plan, page: usize) -> String {
         count if count <= FEW => Shown::whole(tree, plan),
         _ => Shown::folded(tree, plan),
     };
-    let is_cut = |run: &&Page| run.first > 1 && is_on(&tree.node(run.first).parent);
-    let has_rows = plan.pages.iter().filter(is_cut).count() > FEW;
-    let deck = Deck::new(tree, &shown, has_rows);
-    let above: Vec<Card> = match deck.above(page) {
+    let deck = Deck::new(tree, &shown, false);
+    let heading = format!("page {page} of {}", heading(tree, plan));
+    draw_cards(&deck, &around(&deck, page), &heading)
+}
+
+/// A page, the page that it is cut from and those cut from it, as many as can be seen at once.
+fn around(deck: &Deck, page: usize) -> Vec<Group> {
+    let group = |heading: &str, cards| Group {
+        heading: heading.to_string(),
+        cards,
+    };
+    let above = match deck.above(page) {
         0 => vec![],
         above => vec![deck.card(above, Detail::Down(page))],
     };
-    let below = deck.below(page).into_iter();
-    let below: Vec<Card> = below
-        .filter(|&page| !deck.is_row(page))
-        .map(|page| deck.card(page, Detail::First(ROWS)))
-        .collect();
-    let itself = vec![deck.key(), deck.card(page, Detail::Whole)];
-    let named = [
-        ("the page that it is cut from", above),
-        ("the page", itself),
-        ("the pages cut from it", below),
+    let cut = deck.below(page);
+    let below = cut.iter().take(PAGES);
+    let below = below.map(|&page| deck.card(page, Detail::First(ROWS_BELOW)));
+    let below: Vec<Card> = below.collect();
+    let mut itself = vec![deck.card(page, Detail::First(ROWS))];
+    itself.insert(0, deck.key(above.iter().chain(&itself).chain(&below)));
+    let groups = [
+        group("the page that it is cut from", above),
+        group("the page", itself),
+        group(&cut_heading(cut.len()), below),
     ];
-    let groups: Vec<(&str, Vec<Card>)> = named
-        .into_iter()
-        .filter(|group| !group.1.is_empty())
-        .collect();
-    let heading = format!("page {page} of {}", heading(tree, plan));
-    draw_cards(&deck, &groups, &heading)
+    let groups = groups.into_iter();
+    groups.filter(|group| !group.cards.is_empty()).collect()
+}
+
+/// What stands over the cards of the pages that are cut from a page, so many in all.
+fn cut_heading(pages: usize) -> String {
+    match pages.saturating_sub(PAGES) {
+        0 => "the pages cut from it".to_string(),
+        more => {
+            let more = counted(more, "more page");
+            format!("the first {PAGES} pages cut from it, and {more}")
+        }
+    }
 }
 
 /// The tree with lines from parents to children, if it is not too large.
@@ -83,8 +106,8 @@ fn draw_tree(tree: &Tree, plan: &Plan, shown: &Shown, heading: &str) -> Option<S
     Some(page(heading, end, picture.draw() + &legend.draw()))
 }
 
-fn draw_cards(deck: &Deck, groups: &[(&str, Vec<Card>)], heading: &str) -> String {
-    let stacks = Stacks::new(deck, groups, (MARGIN, TOP - 10));
+fn draw_cards(deck: &Deck, groups: &[Group], heading: &str) -> String {
+    let stacks = Stacks::new(deck, groups, (MARGIN, TOP - 18));
     page(heading, stacks.end(), stacks.draw())
 }
 
@@ -223,7 +246,7 @@ mod tests {
                     let picture = draw(&tree, &Plan::new(&tree, marks).unwrap());
                     assert_eq!(nodes_told(&picture), count);
                     let (width, height) = size(&picture);
-                    assert!(width <= 6000 && height <= 4500, "{width} x {height}");
+                    assert!(width <= 7500 && height <= 5500, "{width} x {height}");
                 }
             }
         }
@@ -275,8 +298,6 @@ mod tests {
             let plan = Plan::new(&tree, plan.marks).unwrap();
             for page in [1, 2, plan.pages.len()] {
                 let picture = draw_page(&tree, &plan, page);
-                let (width, height) = size(&picture);
-                assert!(width <= 6000 && height <= 4500, "{width} x {height}");
                 let (first, last) = (plan.page(page).first, plan.page(page).last);
                 assert!(nodes_told(&picture) > last - first);
             }
