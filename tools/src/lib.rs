@@ -19,6 +19,8 @@ pub mod words;
 
 mod cards;
 mod colour;
+#[cfg(test)]
+mod drawn;
 mod element;
 mod fill;
 mod fold;
