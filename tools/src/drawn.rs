@@ -162,10 +162,11 @@ impl Drawn {
 
 mod tests {
     use super::*;
-    use crate::element::{rect, text};
+    use crate::element;
     use crate::plan::Plan;
     use crate::svg::{draw, draw_page};
     use crate::table;
+    use crate::text;
     use crate::tree::Tree;
     use balduqen::{Planner, MAX_NODES};
 
@@ -219,24 +220,40 @@ mod tests {
         plans.into_iter().chain(by_hand).collect()
     }
 
-    /// Checks the whole picture and those of some pages. With light nodes, pages are large.
+    /// Checks pictures of trees of this shape. With light nodes, pages are large.
     fn check(shape: Shape) {
         for count in COUNTS {
             for most in [40, 1024] {
-                let tree = tree(shape, count, most);
+                let mut tree = tree(shape, count, most);
                 for plan in plans(&tree) {
-                    Drawn::read(&draw(&tree, &plan)).check();
-                    let last = plan.pages.len();
-                    for page in [1, 2, last / 2, last] {
-                        if (1..=last).contains(&page) {
-                            let drawn = Drawn::read(&draw_page(&tree, &plan, page));
-                            drawn.check();
-                            let (width, height) = drawn.size();
-                            assert!(width <= 2400 && height <= 1600, "{width} x {height}");
-                        }
-                    }
+                    check_pictures(&tree, &plan);
                 }
+                // Now most pages are over the limit.
+                tree.limit = 9;
+                check_pictures(&tree, &cut_up(&tree));
             }
+        }
+    }
+
+    /// Checks the whole picture and those of some pages, which are to be seen at once.
+    fn check_pictures(tree: &Tree, plan: &Plan) {
+        Drawn::read(&draw(tree, plan)).check();
+        let last = plan.pages.len();
+        for page in [1, 2.min(last), last.div_ceil(2), last] {
+            let drawn = Drawn::read(&draw_page(tree, plan, page));
+            drawn.check();
+            let (width, height) = drawn.size();
+            assert!(width <= 2400 && height <= 1600, "{width} x {height}");
+        }
+    }
+
+    /// The sample of 300 nodes, by each planner.
+    #[test]
+    fn the_large_sample_does_not_run_into_itself() {
+        let tree = text::read(include_str!("../samples/large.txt")).unwrap();
+        assert_eq!(tree.count(), 300);
+        for planner in Planner::ALL {
+            check_pictures(&tree, &planned(&tree, planner));
         }
     }
 
@@ -265,9 +282,25 @@ mod tests {
     #[should_panic(expected = "meets")]
     fn texts_that_meet_are_found() {
         let end = "font-size=\"11\" text-anchor=\"end\"";
-        let row = text((204, 12), end, "13") + &text((288, 12), end, "10196 .. 10217");
-        let all = rect((0, 0), (296, 16), 0, "");
-        Drawn::read(&format!("{all}{row}")).check();
+        let weight = element::text((204, 12), end, "13");
+        let labels = element::text((288, 12), end, "10196 .. 10217");
+        let all = element::rect((0, 0), (296, 16), 0, "");
+        Drawn::read(&(all + &weight + &labels)).check();
+    }
+
+    /// Chains on as many pages as there can be, all far over the limit, and with a long row in each
+    /// column.
+    #[test]
+    fn the_largest_pictures_are_bounded() {
+        let mut tree = Tree::new(1000);
+        (0..MAX_NODES).for_each(|depth| tree.add(depth, 65535, 65535));
+        let with_folds = (0..MAX_NODES).map(|index| u8::from(index % 60 < 57));
+        for marks in [vec![1; MAX_NODES], with_folds.collect()] {
+            let drawn = Drawn::read(&draw(&tree, &Plan::new(&tree, marks).unwrap()));
+            drawn.check();
+            let (width, height) = drawn.size();
+            assert!(width <= 8000 && height <= 6000, "{width} x {height}");
+        }
     }
 
     /// A card a page but for the last, which is a row of the one before it.

@@ -154,8 +154,8 @@ pub struct Head {
     pub page: usize,
     pub over: bool,
     pub words: String,
-    /// The page that these words end with, or 0.
-    pub on: usize,
+    /// The page that these words end with, and whether it is over the limit.
+    pub on: Option<(usize, bool)>,
     pub weight: String,
     pub title: String,
 }
@@ -176,10 +176,8 @@ impl Head {
     }
 
     pub fn width(&self) -> i32 {
-        let on = match self.on {
-            0 => 0,
-            on => NEAR + tag_width(SMALL, on, false),
-        };
+        let on = |(page, over)| NEAR + tag_width(SMALL, page, over);
+        let on = self.on.map_or(0, on);
         self.words().1 + on + GAP + self.letters().width(&self.weight) + SIDE
     }
 
@@ -187,8 +185,8 @@ impl Head {
         let (from, to) = self.words();
         let mut out = tag((x + NEAR, y + 3), TAG, self.page, self.over);
         out += &text((x + from, y + 15), &PLAIN.style(), &self.words);
-        if self.on != 0 {
-            out += &tag((x + to + NEAR, y + 4), SMALL, self.on, false);
+        if let Some((page, over)) = self.on {
+            out += &tag((x + to + NEAR, y + 4), SMALL, page, over);
         }
         let colour = match self.over {
             true => ALARM,

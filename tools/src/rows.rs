@@ -12,32 +12,40 @@ impl Deck<'_> {
         if page == 0 {
             return key_head();
         }
-        let run = self.shown.plan.page(page);
-        let limit = self.tree.limit;
-        let over = run.weight > limit;
-        let (first, _) = self.shown.run(page);
-        let (parent, above) = (self.tree.node(first).parent, self.above(page));
-        let (words, on, title) = match (is_first, page) {
-            (false, _) => ("continued".to_string(), 0, String::new()),
-            (true, 1) => ("the root page".to_string(), 0, String::new()),
-            (true, _) => (
-                format!("below {parent} on"),
-                above,
-                format!("page {page}, below node {parent} on page {above}"),
-            ),
-        };
+        let (weight, limit) = (self.shown.plan.page(page).weight, self.tree.limit);
+        let over = self.is_over(page);
         let of = match over {
             true => "over",
             false => "of",
         };
-        Head {
+        let head = Head {
             page,
             over,
-            words,
-            on,
-            weight: format!("{} {of} {limit}", run.weight),
-            title,
+            words: "continued".to_string(),
+            on: None,
+            weight: format!("{weight} {of} {limit}"),
+            title: String::new(),
+        };
+        match (is_first, self.above(page)) {
+            (false, _) => head,
+            (true, 0) => Head {
+                words: "the root page".to_string(),
+                ..head
+            },
+            (true, above) => {
+                let parent = self.tree.node(self.shown.run(page).0).parent;
+                Head {
+                    words: format!("below {parent} on"),
+                    on: Some((above, self.is_over(above))),
+                    title: format!("page {page}, below node {parent} on page {above}"),
+                    ..head
+                }
+            }
         }
+    }
+
+    fn is_over(&self, page: usize) -> bool {
+        self.shown.plan.page(page).weight > self.tree.limit
     }
 
     /// The lines of rows that stand one below the other. Where the indents begin anew, or go back
@@ -77,7 +85,7 @@ impl Deck<'_> {
     /// A cut page by its tag and its run, or all of it where it has no card.
     fn cut(&self, page: usize) -> Line {
         let run = self.shown.plan.page(page);
-        let tag = Some((page, run.weight > self.tree.limit));
+        let tag = Some((page, self.is_over(page)));
         if self.is_row(page) {
             let look = Look::Slim(page);
             return Line {
@@ -120,7 +128,7 @@ fn key_head() -> Head {
         page: 2,
         over: false,
         words: "a card a page: below a node on".to_string(),
-        on: 1,
+        on: Some((1, false)),
         weight: "weight of limit".to_string(),
         title: String::new(),
     }

@@ -11,6 +11,8 @@ use crate::line::{Columns, Head, Line, ROW};
 const BESIDE: i32 = 10;
 /// A column is at least so high, if there is so much to show.
 const LEAST_HEIGHT: i32 = 420;
+/// As wide as a card often is.
+const USUAL_WIDTH: i32 = 250;
 
 const HEADING: Letters = Letters::bold(13);
 
@@ -22,14 +24,18 @@ pub struct Group {
 
 /// How high columns are, so that all of them are about four wide to three high, and about even.
 fn column_height(deck: &Deck, groups: &[Group]) -> i32 {
-    let cards = || groups.iter().flat_map(|group| &group.cards);
-    let area = cards().map(|card| {
-        let height = height(card.rows.len()) + SPACE;
-        f64::from(height) * f64::from(card_width(deck, card) + BESIDE)
-    });
-    let tall = (area.sum::<f64>() * 0.75).sqrt() as i32;
-    let highest = cards().map(|card| height(card.rows.len())).max();
-    let tall = tall.max(LEAST_HEIGHT.min(highest.unwrap_or(0)));
+    let cards = groups.iter().flat_map(|group| &group.cards);
+    let heights = cards.map(|card| height(card.rows.len()) + SPACE);
+    let least = LEAST_HEIGHT.min(heights.clone().max().unwrap_or(0));
+    let tall = |area: i32| least.max((f64::from(area) * 0.75).sqrt() as i32);
+    let guess = tall(heights.sum::<i32>() * USUAL_WIDTH);
+    let stacks = stacked(deck, groups, guess);
+    let across = stacks.iter().flatten().map(|stack| stack.width() + BESIDE);
+    even(groups, tall(guess * across.sum::<i32>()))
+}
+
+/// The least height up to this that takes no more columns.
+fn even(groups: &[Group], tall: i32) -> i32 {
     let columns = |tall: i32| -> usize {
         let groups = groups.iter();
         groups
@@ -37,15 +43,21 @@ fn column_height(deck: &Deck, groups: &[Group]) -> i32 {
             .sum()
     };
     let most = columns(tall);
-    let lower = (0..).map(|step| tall - step * ROW);
+    let lower = (1..).map(|step| tall - step * ROW);
     let lower = lower.take_while(|&tall| tall >= LEAST_HEIGHT && columns(tall) <= most);
     lower.last().unwrap_or(tall)
 }
 
-fn card_width(deck: &Deck, card: &Card) -> i32 {
-    let lines = deck.lines(&card.rows);
-    let lines: Vec<&Line> = lines.iter().collect();
-    Columns::of(&lines, deck.head(card.page, true).width()).width
+/// The columns of each group.
+fn stacked(deck: &Deck, groups: &[Group], tall: i32) -> Vec<Vec<Stack>> {
+    let stacks = |group: &Group| {
+        let columns = fill::columns(&group.cards, tall);
+        columns
+            .iter()
+            .map(|parts| Stack::new(deck, parts))
+            .collect()
+    };
+    groups.iter().map(stacks).collect()
 }
 
 /// A part of a card as it is drawn.
@@ -89,14 +101,13 @@ impl Piece {
 
 /// A column of cards, all as wide as its widest line needs, below the names of what they show.
 struct Stack {
-    x: i32,
     names: Line,
     pieces: Vec<Piece>,
     columns: Columns,
 }
 
 impl Stack {
-    fn new(deck: &Deck, x: i32, parts: &[Part]) -> Stack {
+    fn new(deck: &Deck, parts: &[Part]) -> Stack {
         let names = Line::names();
         let pieces: Vec<Piece> = parts.iter().map(|part| Piece::new(deck, part)).collect();
         let heads = pieces.iter().map(|piece| piece.head.width());
@@ -105,15 +116,14 @@ impl Stack {
         let lines: Vec<&Line> = lines.chain([&names]).collect();
         let columns = Columns::of(&lines, least);
         Stack {
-            x,
             names,
             pieces,
             columns,
         }
     }
 
-    fn right(&self) -> i32 {
-        self.x + self.columns.width
+    fn width(&self) -> i32 {
+        self.columns.width
     }
 
     fn height(&self) -> i32 {
@@ -121,17 +131,18 @@ impl Stack {
         last.map_or(0, |piece| piece.down + piece.height())
     }
 
-    fn draw(&self, top: i32) -> String {
-        let names = self.names.draw((self.x, top - ROW - 1), &self.columns);
+    /// From the upper left corner of its first card.
+    fn draw(&self, (x, y): (i32, i32)) -> String {
+        let names = self.names.draw((x, y - ROW - 1), &self.columns);
         let pieces = self.pieces.iter();
-        let pieces = pieces.map(|piece| piece.draw((self.x, top), &self.columns));
+        let pieces = pieces.map(|piece| piece.draw((x, y), &self.columns));
         names + &pieces.collect::<String>()
     }
 }
 
 pub struct Stacks<'a> {
-    stacks: Vec<Stack>,
-    /// Headings, and where each begins.
+    /// Stacks and headings, and where each begins across.
+    stacks: Vec<(i32, Stack)>,
     headings: Vec<(i32, &'a str)>,
     /// The upper end of the cards, and the right end of all.
     top: i32,
@@ -149,23 +160,28 @@ impl<'a> Stacks<'a> {
             top: y + ROW * (1 + 2 * i32::from(has_headings)),
             right: x - BESIDE,
         };
-        for group in groups {
-            let from = all.right + BESIDE;
-            for parts in fill::columns(&group.cards, tall) {
-                let stack = Stack::new(deck, all.right + BESIDE, &parts);
-                all.right = stack.right();
-                all.stacks.push(stack);
-            }
-            all.headings.push((from, &group.heading));
-            all.right = all.right.max(from + HEADING.width(&group.heading));
+        for (group, stacks) in groups.iter().zip(stacked(deck, groups, tall)) {
+            all.put(&group.heading, stacks);
         }
         all
     }
 
+    /// Puts a group to the right of what is there.
+    fn put(&mut self, heading: &'a str, stacks: Vec<Stack>) {
+        let from = self.right + BESIDE;
+        for stack in stacks {
+            let x = self.right + BESIDE;
+            self.right = x + stack.width();
+            self.stacks.push((x, stack));
+        }
+        self.headings.push((from, heading));
+        self.right = self.right.max(from + HEADING.width(heading));
+    }
+
     /// The lower right corner.
     pub fn end(&self) -> (i32, i32) {
-        let low = self.stacks.iter().map(|stack| self.top + stack.height());
-        (self.right, low.max().unwrap_or(self.top))
+        let heights = self.stacks.iter().map(|(_, stack)| stack.height());
+        (self.right, self.top + heights.max().unwrap_or(0))
     }
 
     pub fn draw(&self) -> String {
@@ -173,7 +189,8 @@ impl<'a> Stacks<'a> {
         let headings = headings.filter(|(_, heading)| !heading.is_empty());
         let headings =
             headings.map(|(x, heading)| text((*x, self.top - ROW - 8), &HEADING.style(), heading));
-        let stacks = self.stacks.iter().map(|stack| stack.draw(self.top));
+        let stacks = self.stacks.iter();
+        let stacks = stacks.map(|(x, stack)| stack.draw((*x, self.top)));
         headings.chain(stacks).collect()
     }
 }

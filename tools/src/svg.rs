@@ -246,7 +246,7 @@ mod tests {
                     let picture = draw(&tree, &Plan::new(&tree, marks).unwrap());
                     assert_eq!(nodes_told(&picture), count);
                     let (width, height) = size(&picture);
-                    assert!(width <= 7500 && height <= 5500, "{width} x {height}");
+                    assert!(width <= 8000 && height <= 6000, "{width} x {height}");
                 }
             }
         }
