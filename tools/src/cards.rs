@@ -195,23 +195,25 @@ impl<'a> Deck<'a> {
     /// The key of some cards, as a card: a line for each sign that they have.
     pub fn key<'b>(&self, cards: impl IntoIterator<Item = &'b Card>) -> Card {
         let rows: Vec<&Row> = cards.into_iter().flat_map(|card| &card.rows).collect();
-        let is_fold = |shown: usize| self.shown.fold(shown).kind != Kind::One;
-        let has = |sign: Sign| {
-            rows.iter().any(|row| match (sign, row) {
-                (Sign::Node, Row::Node { .. }) => true,
-                (Sign::Fold, Row::Node { shown, .. }) => is_fold(*shown),
-                (Sign::Fold, Row::Cut { page, .. }) => {
-                    self.is_row(*page) && is_fold(self.shown.plan.page(*page).first)
-                }
-                (Sign::Cut, Row::Cut { page, .. }) => !self.is_row(*page),
-                (Sign::Slim, Row::Cut { page, .. }) => self.is_row(*page),
-                (Sign::Level, row) => row.level() >= Some(LEVELS),
-                _ => false,
-            })
-        };
-        let signs = Sign::ALL.into_iter().filter(|sign| has(*sign));
+        let is_there = |sign: &Sign| rows.iter().any(|row| self.has_sign(row, *sign));
+        let signs = Sign::ALL.into_iter().filter(is_there);
         let rows = signs.map(Row::Sign).collect();
         Card { page: 0, rows }
+    }
+
+    fn has_sign(&self, row: &Row, sign: Sign) -> bool {
+        let is_fold = |shown: usize| self.shown.fold(shown).kind != Kind::One;
+        match (sign, row) {
+            (Sign::Node, Row::Node { .. }) => true,
+            (Sign::Fold, Row::Node { shown, .. }) => is_fold(*shown),
+            (Sign::Fold, Row::Cut { page, .. }) => {
+                self.is_row(*page) && is_fold(self.shown.plan.page(*page).first)
+            }
+            (Sign::Cut, Row::Cut { page, .. }) => !self.is_row(*page),
+            (Sign::Slim, Row::Cut { page, .. }) => self.is_row(*page),
+            (Sign::Level, row) => row.level() >= Some(LEVELS),
+            _ => false,
+        }
     }
 }
 
