@@ -250,7 +250,9 @@ mod tests {
     /// The sample of 300 nodes, by each planner.
     #[test]
     fn the_large_sample_does_not_run_into_itself() {
-        let tree = text::read(include_str!("../samples/large.txt")).unwrap();
+        let tree = text::read(include_str!("../samples/large.txt"))
+            .unwrap()
+            .tree;
         assert_eq!(tree.count(), 300);
         for planner in Planner::ALL {
             check_pictures(&tree, &planned(&tree, planner));
