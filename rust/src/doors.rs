@@ -397,3 +397,23 @@ converter!(
     /// exactly `archive_length` bytes. Refuses 13, then 15 where nodes are over 1024, then 12.
     convert_to_1, balduqen_convert_to_1
 );
+
+// The compiler finds an answer that is not looked at.
+#[cfg(doctest)]
+/// ```
+/// #![deny(unused_must_use)]
+/// let _ = balduqen::doors::judge(&[], &[]);
+/// ```
+/// ```compile_fail
+/// #![deny(unused_must_use)]
+/// balduqen::doors::judge(&[], &[]);
+/// ```
+/// ```compile_fail
+/// #![deny(unused_must_use)]
+/// balduqen::doors::price(&[], &[]);
+/// ```
+/// ```compile_fail
+/// #![deny(unused_must_use)]
+/// balduqen::doors::saving(&[], &mut [], &mut []);
+/// ```
+struct EveryAnswer;

@@ -7,11 +7,18 @@ use std::fmt;
 const SIGNS: usize = 60;
 
 /// A name as it is quoted: where it is longer, its beginning and two dots, so that an error never
-/// repeats megabytes.
+/// repeats megabytes; and a control sign by its number, so that none reaches a terminal.
 fn quoted(name: &str) -> String {
-    match name.char_indices().nth(SIGNS) {
-        None => name.to_string(),
-        Some((end, _)) => format!("{}..", &name[..end]),
+    let mut quoted = String::new();
+    for sign in name.chars().take(SIGNS) {
+        match sign.is_control() {
+            true => quoted.extend(sign.escape_default()),
+            false => quoted.push(sign),
+        }
+    }
+    match name.chars().nth(SIGNS) {
+        None => quoted,
+        Some(_) => quoted + "..",
     }
 }
 

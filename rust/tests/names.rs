@@ -27,7 +27,7 @@ fn every_name_is_read_back() {
 
 #[test]
 fn unknown_names_are_quoted() {
-    for name in ["greedy", "", "Best", " best", "best\n", "depth first"] {
+    for name in ["greedy", "", "Best", " best", "depth first"] {
         let wanted = format!("there is no planner '{name}'");
         assert_eq!(error_of::<Planner>(name), wanted);
     }
@@ -36,6 +36,9 @@ fn unknown_names_are_quoted() {
         assert_eq!(error_of::<Edition>(name), wanted);
     }
     assert_ne!("3".parse::<Edition>(), "4".parse::<Edition>());
+    // No control sign reaches a terminal.
+    let wanted = "there is no planner 'best\\n\\u{1b}[31m'";
+    assert_eq!(error_of::<Planner>("best\n\u{1b}[31m"), wanted);
 }
 
 /// A name is quoted up to 60 signs, be they of one byte or of more.

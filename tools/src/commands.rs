@@ -14,7 +14,7 @@ use crate::table;
 use crate::text;
 use crate::tree::Tree;
 use crate::usage::{near, Asked, Given, Usage};
-use crate::words::{self, Lent};
+use crate::words::Lent;
 use balduqen::{Cause, Edition, Planner, Refusal, UnknownEdition, MAX_NODES};
 
 /// What a command makes: a report for standard output, and files.
@@ -256,7 +256,7 @@ pub fn write(usage: &Usage, given: &Given) -> Result<Made, Stop> {
 fn told(archive: &[u8]) -> String {
     let list = film::listing(archive);
     let verdict = list.lines().next().unwrap_or_default();
-    let edition = words::edition(Edition::of(archive));
+    let edition = film::edition(Edition::of(archive));
     format!("{verdict}\n{edition}, {} bytes\n", archive.len())
 }
 
@@ -266,9 +266,9 @@ pub fn read(_: &Usage, given: &Given) -> Result<Made, Stop> {
     let film = balduqen::read_archive(archive).map_err(of_film(&file))?;
     let tree = sound(&film.table);
     let mut list = film::listing(archive);
-    list += &plan::told_of_film(film.edition, tree.count(), film.verdict.pages);
+    list += &film::told(film.edition, tree.count(), film.verdict.pages);
     list += "\n";
-    list += &told_of_labels(&tree);
+    list += &film::told_of_labels(&tree);
     let to = given.chosen("-o");
     Ok(report(list)
         .and(to, || {
@@ -280,20 +280,6 @@ pub fn read(_: &Usage, given: &Given) -> Result<Made, Stop> {
         .and(given.chosen("--marks-out"), || {
             plan::write_marks(&film.marks).into()
         }))
-}
-
-/// What film from before label 0 was refused can have.
-fn told_of_labels(tree: &Tree) -> String {
-    let is_unfiled = |number: &usize| tree.node(*number).label == 0;
-    let unfiled: Vec<usize> = tree.numbers().filter(is_unfiled).collect();
-    match unfiled[..] {
-        [] => String::new(),
-        [node] => format!("node {node} has label 0, a lot that nobody had filed\n"),
-        [node, ..] => {
-            let count = unfiled.len();
-            format!("{count} nodes, from {node} on, have label 0, lots that nobody had filed\n")
-        }
-    }
 }
 
 pub fn convert(_: &Usage, given: &Given) -> Result<Made, Stop> {
@@ -329,8 +315,9 @@ pub fn saving(_: &Usage, given: &Given) -> Result<Made, Stop> {
 
 /// What the checks of the rule sheet do not cover, as its sections 11 and 18 tell it.
 const UNSEEN: &str = "\
-A label, K or a parent can be wrong and all checks hold. Read these twice, and compare another
-copy if there is one: sections 11 and 18 of docs/RULE-SHEET.txt.
+A label, K or a parent can be wrong and all checks hold, and several wrong words can make up for
+one another. Read K, the labels and the parents twice, and compare another copy if there is one:
+sections 11 and 18 of docs/RULE-SHEET.txt.
 ";
 
 pub fn verify(_: &Usage, given: &Given) -> Result<Made, Stop> {

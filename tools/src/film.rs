@@ -1,7 +1,9 @@
 //! The words of an archive and what each means, as section 12 of the rule sheet shows them; and the
 //! pages as film lists them.
 
+use crate::element::counted;
 use crate::rule_sheet::{comma, Edition};
+use crate::tree::Tree;
 use balduqen::{Refusal, ARCHIVE_NODES, MAX_NODES};
 
 /// So many words after the last record are told.
@@ -192,6 +194,45 @@ fn node_meaning(field: usize, word: usize) -> String {
     }
 }
 
+/// The edition in words.
+pub fn edition(edition: balduqen::Edition) -> String {
+    format!("edition {}", edition.number())
+}
+
+/// What 'read' says of film beside its pages.
+pub fn told(of: balduqen::Edition, nodes: usize, pages: usize) -> String {
+    let length = balduqen::archive_length(of, pages, nodes);
+    let nodes = counted(nodes, "node");
+    format!("{}, {nodes}, {length} bytes", edition(of))
+}
+
+/// What it says of labels 0, which film from before they were refused can have; with a line end.
+pub fn told_of_labels(tree: &Tree) -> String {
+    let is_unfiled = |number: &usize| tree.node(*number).label == 0;
+    let unfiled: Vec<usize> = tree.numbers().filter(is_unfiled).collect();
+    match unfiled[..] {
+        [] => String::new(),
+        [node] => format!("node {node} has {UNFILED}\n"),
+        [node, ..] => format!(
+            "{} nodes, from {node} on, have {ALL_UNFILED}\n",
+            unfiled.len()
+        ),
+    }
+}
+
+const UNFILED: &str = "label 0, a lot that nobody had filed";
+const ALL_UNFILED: &str = "label 0, lots that nobody had filed";
+
+/// Whether a line says that of some film.
+pub fn is_of_labels(line: &str) -> bool {
+    let words: Vec<&str> = line.split_whitespace().collect();
+    match words[..] {
+        ["node", _, "has", ref rest @ ..] => rest.join(" ") == UNFILED,
+        [_, "nodes,", "from", _, "on,", "have", ref rest @ ..] => rest.join(" ") == ALL_UNFILED,
+        _ => false,
+    }
+}
+
 /// The verdict and the pages that an archive lists, as the page program writes them.
 pub fn listing(archive: &[u8]) -> String {
     let film = Film::new(archive);
@@ -256,7 +297,7 @@ mod tests {
     #[test]
     fn case_e_listed() {
         let plan = include_str!("../samples/e.plan");
-        for edition in [balduqen::Edition::First, balduqen::Edition::Second] {
+        for edition in balduqen::Edition::ALL {
             assert_eq!(listing(&film(edition)), plan);
         }
     }

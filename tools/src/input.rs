@@ -266,7 +266,7 @@ mod tests {
             assert_eq!(content(&marks), Content::Bytes);
             let table = table::write(&tree);
             assert_eq!(content(&table), Content::Bytes);
-            for edition in [Edition::First, Edition::Second] {
+            for edition in Edition::ALL {
                 if let Ok(film) = balduqen::write_archive(edition, &table, &marks) {
                     assert_eq!(content(&film), Content::Bytes);
                 }

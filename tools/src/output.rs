@@ -1,6 +1,6 @@
 //! Files written whole or not at all: first each beside its place, then all of them put there.
 
-use crate::same_file::{descriptor, end_of_links, folder_of};
+use crate::same_file::{descriptor, duplicate, end_of_links, folder_of};
 use crate::stop::Stop;
 use std::fs::{self, File};
 use std::io::{self, ErrorKind, Write};
@@ -41,7 +41,10 @@ pub fn write_all(outputs: &[Output]) -> Result<(), Stop> {
         fs::rename(path, place).map_err(|error| Stop::of_file(file, &error))?;
     }
     for Output { file, bytes } in open {
-        let opened = File::options().append(true).open(file);
+        let opened = match descriptor(file) {
+            Some(descriptor) => duplicate(descriptor),
+            None => File::options().append(true).open(file),
+        };
         let put = opened.and_then(|mut file| file.write_all(bytes));
         put.map_err(|error| Stop::of_file(file, &error))?;
     }

@@ -1,6 +1,7 @@
 //! A plan and its pages. It comes as a mark a node, or as the pages are listed.
 
 use crate::element::counted;
+use crate::film;
 use crate::quote::quote;
 use crate::text::{lines, read_number};
 use crate::tree::{Tree, WORDS};
@@ -92,7 +93,7 @@ impl Plan {
 }
 
 pub const FORM: &str =
-    "A plan is a mark a node, 0, 1 or 2, or the pages as 'balduqen plan' lists them.";
+    "A plan is a mark a node, 0, 1 or 2, or the pages as 'plan' and 'read' list them.";
 
 /// The marks that a text tells, each with its line. That each is allowed is not looked at, but where
 /// the pages are listed: a listing that is no plan's tells none.
@@ -117,7 +118,7 @@ pub fn read_marks(tree: &Tree, text: &str) -> Result<(Vec<u8>, Vec<usize>), Stri
 
 fn read_mark(word: &str) -> Result<u8, String> {
     let mark = read_number("mark", word, 0..=2)?;
-    u8::try_from(mark).map_err(|_| format!("mark {word} is not in 0 to 2"))
+    u8::try_from(mark).map_err(|_| format!("mark {mark} is not in 0 to 2"))
 }
 
 /// So many marks stand in a line of a text.
@@ -132,43 +133,57 @@ pub fn write_marks(marks: &[u8]) -> String {
     marks.chunks(MARKS_A_LINE).map(line).collect()
 }
 
+/// A listing as it is read: its head, its pages and what 'read' says of the film, each with its line.
+#[derive(Default)]
+struct Listing<'a> {
+    head: Option<(usize, [u32; 3])>,
+    pages: Vec<(usize, [u32; 4])>,
+    film: Option<(usize, &'a str)>,
+}
+
+impl<'a> Listing<'a> {
+    fn add(&mut self, place: usize, line: &'a str) -> Result<(), String> {
+        let words: Vec<&str> = line.split_whitespace().collect();
+        match words[..] {
+            _ if self.head.is_none() => {
+                self.head = Some((place, read_figures(line, ["pages", "root", "limit"])?));
+            }
+            _ if self.film.is_some() && film::is_of_labels(line) => {}
+            _ if self.film.is_some() => {
+                return Err(format!("{} is no end of a listing", quote(line)));
+            }
+            ["edition", ..] => self.film = Some((place, line)),
+            _ => {
+                let figures = read_figures(line, ["page", "first", "last", "weight"])?;
+                self.pages.push((place, figures));
+            }
+        }
+        Ok(())
+    }
+}
+
 /// The runs give the marks, and the marks the plan. The listing must then be that plan's, since one
 /// made for another tree would draw a wrong picture.
 fn read_listing(tree: &Tree, text: &str) -> Result<Plan, String> {
-    let mut marks = vec![0; tree.count()];
-    let mut listed = vec![];
-    let mut film = None;
-    let mut head = None;
+    let mut listing = Listing::default();
     for (place, line) in lines(text) {
-        let at = |fault| format!("line {place}: {fault}");
-        let words: Vec<&str> = line.split_whitespace().collect();
-        match words[..] {
-            _ if head.is_none() => {
-                head = Some((
-                    place,
-                    read_figures(line, ["pages", "root", "limit"]).map_err(at)?,
-                ));
-            }
-            // What 'read' says of the film beside its pages.
-            ["edition", ..] => film = Some((place, line)),
-            ["node", ..] | [_, "nodes,", ..] if line.contains("label 0,") => {}
-            _ => {
-                let names = ["page", "first", "last", "weight"];
-                let figures = read_figures(line, names).map_err(at)?;
-                let [_, first, last, _] = figures;
-                mark_run(tree, &mut marks, first as usize, last as usize).map_err(at)?;
-                listed.push((place, figures));
-            }
-        }
+        let added = listing.add(place, line);
+        added.map_err(|fault| format!("line {place}: {fault}"))?;
     }
-    let (place, head) = head.unwrap_or_default();
-    if head[0] as usize != listed.len() {
-        let (said, listed) = (counted(head[0] as usize, "page"), listed.len());
+    let (place, head) = listing.head.unwrap_or_default();
+    let (said, listed) = (head[0] as usize, listing.pages.len());
+    if said != listed {
+        let said = counted(said, "page");
         return Err(format!("line {place}: {said}, and {listed} are listed"));
     }
+    let mut marks = vec![0; tree.count()];
+    for (place, [_, first, last, _]) in &listing.pages {
+        let marked = mark_run(tree, &mut marks, *first as usize, *last as usize);
+        marked.map_err(|fault| format!("line {place}: {fault}"))?;
+    }
     let plan = Plan::new(tree, marks)?;
-    compare(tree, &plan, (place, head), &listed)?;
-    match film {
+    compare(tree, &plan, (place, head), &listing.pages)?;
+    match listing.film {
         Some((place, line)) if !is_told(tree, &plan, line) => {
             let fault = "is said of other film than this tree's";
             Err(format!("line {place}: {} {fault}", quote(line)))
@@ -179,15 +194,9 @@ fn read_listing(tree: &Tree, text: &str) -> Result<Plan, String> {
 
 /// Whether a line is what 'read' says of film of this tree and plan.
 fn is_told(tree: &Tree, plan: &Plan, line: &str) -> bool {
+    let (nodes, pages) = (tree.count(), plan.pages.len());
     let mut editions = Edition::ALL.into_iter();
-    editions.any(|edition| line.trim() == told_of_film(edition, tree.count(), plan.pages.len()))
-}
-
-/// What 'read' says of film beside its pages.
-pub fn told_of_film(edition: Edition, nodes: usize, pages: usize) -> String {
-    let length = balduqen::archive_length(edition, pages, nodes);
-    let (number, nodes) = (edition.number(), counted(nodes, "node"));
-    format!("edition {number}, {nodes}, {length} bytes")
+    editions.any(|edition| line.trim() == film::told(edition, nodes, pages))
 }
 
 /// The numbers of a line that has a number after each of these names.
@@ -333,8 +342,21 @@ mod tests {
     #[test]
     fn lines_of_no_listing() {
         let form = "is not of the form 'page .. first .. last .. weight ..'";
-        let fault = fault(&format!("{E}film\n"));
-        assert_eq!(fault, format!("line 5: \"film\" {form}"));
+        assert_eq!(
+            fault(&format!("{E}film\n")),
+            format!("line 5: \"film\" {form}")
+        );
+        // What is said of the film comes last, once, and in full.
+        let told = "edition 1, 6 nodes, 78 bytes";
+        for line in [told, "node 3 label 0, nonsense", "page 1"] {
+            let said = fault(&format!("{E}{told}\n{line}\n"));
+            assert_eq!(said, format!("line 6: {line:?} is no end of a listing"));
+        }
+        let unfiled = "node 3 has label 0, a lot that nobody had filed";
+        assert_eq!(
+            fault(&format!("{E}{unfiled}\n")),
+            format!("line 5: {unfiled:?} {form}")
+        );
     }
 
     #[test]

@@ -5,7 +5,7 @@
 use std::ffi::OsString;
 use std::fs::{self, File, Metadata};
 use std::io::{self, stdin, stdout};
-use std::os::fd::{AsFd, BorrowedFd};
+use std::os::fd::{AsFd, BorrowedFd, RawFd};
 use std::os::unix::fs::{FileTypeExt, MetadataExt};
 use std::path::{Path, PathBuf};
 
@@ -57,16 +57,29 @@ pub fn is_standard_output(output: &str) -> bool {
 }
 
 /// The number of an open file, where a name leads to one: 3 for '/dev/fd/3'.
-pub fn descriptor(file: &str) -> Option<u32> {
-    let open = fs::canonicalize("/proc/self/fd").ok()?;
+pub fn descriptor(file: &str) -> Option<RawFd> {
+    let open = ["/proc/self/fd", "/proc/thread-self/fd"].map(|path| fs::canonicalize(path).ok());
     let mut path = PathBuf::from(file);
     for _ in 0..MOST_LINKS {
-        if fs::canonicalize(folder_of(&path)).ok()? == open {
-            return path.file_name()?.to_str()?.parse().ok();
+        if open.contains(&Some(fs::canonicalize(folder_of(&path)).ok()?)) {
+            let number = path.file_name()?.to_str()?;
+            return number
+                .parse()
+                .ok()
+                .filter(|&open: &RawFd| number == open.to_string());
         }
         path = next_of(&path).ok()?;
     }
     None
+}
+
+/// An open file by its number, to be written on from where it is.
+pub fn duplicate(descriptor: RawFd) -> io::Result<File> {
+    // Opened anew by its name, it would have a place of its own, and who writes on it next would
+    // write over what is put here. SAFETY: it is open, as its name was there, and nothing here closes
+    // what it has not opened; if it is not, duplicating it fails.
+    let open = unsafe { BorrowedFd::borrow_raw(descriptor) };
+    open.try_clone_to_owned().map(File::from)
 }
 
 fn input_data(input: &str) -> Option<Metadata> {

@@ -8,7 +8,7 @@ use crate::rule_sheet;
 use crate::stop::{name, Stop};
 use crate::table;
 use crate::text;
-use balduqen::{Cause, Edition, Refusal, ARCHIVE_NODES, MAX_LIMIT, MAX_NODES};
+use balduqen::{Cause, Refusal, ARCHIVE_NODES, MAX_LIMIT, MAX_NODES};
 
 const MARKS: &str =
     "0 stays with its parent, 1 begins a run, 2 continues that of the sibling just before.";
@@ -105,6 +105,8 @@ impl Lent<'_> {
             "This is film: 'balduqen read' with '--marks-out FILE' writes its marks."
         } else if table::read(marks).is_ok() {
             "This is a tree as a table."
+        } else if marks.iter().any(|mark| *mark > 2) {
+            "These bytes are no marks: each would be 0, 1 or 2."
         } else {
             "Give one mark for each node, in the order of the nodes."
         };
@@ -224,14 +226,10 @@ fn in_words(refusal: Refusal) -> String {
     words.map_or(String::new(), |(_, words)| words.to_string())
 }
 
-/// The edition in words.
-pub fn edition(edition: Edition) -> String {
-    format!("edition {}", edition.number())
-}
-
 #[cfg(test)]
 mod tests {
     use super::*;
+    use balduqen::Edition;
 
     const TABLE: &[u8] = include_bytes!("../samples/e.table");
     const MARKS: [u8; 6] = [1, 1, 2, 1, 2, 2];
@@ -354,7 +352,7 @@ mod tests {
     /// the library refuses.
     #[test]
     fn damaged_film() {
-        for edition in [Edition::First, Edition::Second] {
+        for edition in Edition::ALL {
             let archive = balduqen::write_archive(edition, TABLE, &MARKS).expect("an archive");
             for at in 0..archive.len() {
                 for byte in 0..=255 {

@@ -156,7 +156,7 @@ fn damaged_marks() {
 #[test]
 fn damaged_film() {
     let folder = Folder::new("film");
-    for edition in [Edition::First, Edition::Second] {
+    for edition in Edition::ALL {
         let archive = balduqen::write_archive(edition, TABLE, &MARKS).expect("an archive");
         let mut seen = [0; 2];
         for_each_damage(&archive, |archive| {

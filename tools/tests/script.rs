@@ -163,6 +163,12 @@ fn says_what_is_in_the_way() {
     );
     assert_eq!(said(&root), wanted);
 
+    let root = Root::new("no_log", RT, CARGO);
+    fs::create_dir_all(root.0.join("target/balduqen.log")).expect("a folder");
+    let log = "/target/balduqen.log cannot be written, to which all that is built is told\n";
+    assert!(said(&root).ends_with(log));
+    assert_eq!(root.calls(), "");
+
     let root = Root::new("no_target", RT, CARGO);
     root.put("target", "");
     assert!(said(&root).ends_with("/target cannot be made, and what it is for has to be built\n"));
