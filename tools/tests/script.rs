@@ -156,12 +156,8 @@ fn says_what_is_in_the_way() {
     };
     let root = Root::new("no_lock", RT, CARGO);
     fs::create_dir_all(root.0.join("target/balduqen.lock")).expect("a folder");
-    let lock = root.0.join("target/balduqen.lock");
-    let wanted = format!(
-        "balduqen: {} cannot be written, and the library or the commands have to be built\n",
-        lock.display()
-    );
-    assert_eq!(said(&root), wanted);
+    let lock = "/target/balduqen.lock cannot be written, and the library or the commands have to be built\n";
+    assert!(said(&root).ends_with(lock));
 
     let root = Root::new("no_log", RT, CARGO);
     fs::create_dir_all(root.0.join("target/balduqen.log")).expect("a folder");
