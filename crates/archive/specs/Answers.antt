@@ -14,7 +14,7 @@ use Rattle.model.specs.Table.{Bytes, tableBytes}
 use Rattle.model.specs.Plan.{verdictOf}
 use Rattle.model.specs.Archive.{archiveOf, nodesIn, tableIn, marksIn}
 use Rattle.model.specs.Refusals.{feasibleFilm, refused, answerOf, Written, isArchive, Restored}
-use Rattle.model.specs.Refusals.{readArchive}
+use Rattle.model.specs.Refusals.{filmRules, writeBy, readArchive}
 use Rattle.model.specs.Demand.{ReadPromise}
 use Rattle.model.specs.declared.Answer.{Answer}
 use Rattle.model.specs.declared.Edition.{Edition}
@@ -23,7 +23,7 @@ use Rattle.theory.specs.JudgeAnswers.{pageCount-le}
 use Rattle.theory.specs.Outputs.{written}
 use Rattle.theory.specs.ArchiveWords.{Described, length-archive, archive-nodes}
 use Rattle.theory.specs.ArchiveBack.{sameList-true, write-read}
-use Rattle.theory.specs.ArchiveAnswers.{writeWith, WriteDone, writer-done, writer-refused}
+use Rattle.theory.specs.ArchiveAnswers.{WriteDone, writer-done, writer-refused}
 use Rattle.theory.specs.PromiseArchive.{read-promise}
 use Rattle.records.specs.Size.{longestArchive, InRoom, fits-longest}
 use Rattle.film.specs.Decoded.{Decoded, too-many}
@@ -80,18 +80,18 @@ module _ {e : Edition} (room : InRoom e) (a t m : List ℕ) where
       ))
 
   -- the answer and the output of the writer that film is held against, compared with the archive
-  module _ (start out : List ℕ) (r : Answer) (w : written r out ≡ writeWith (e .filed) e t m start) where
-    number-is : r .number ≡ writeWith (e .filed) e t m start .answer .number
+  module _ (start out : List ℕ) (r : Answer) (w : written r out ≡ writeBy (filmRules e) e t m start) where
+    number-is : r .number ≡ writeBy (filmRules e) e t m start .answer .number
     number-is = ap (λ (x : Written). x .answer .number) w
 
     pub copy-stopped : (r .number ≡ 0 → ⊥) → nodesIn e a ≤ e .most → length start ≡ length a
         → (feasibleFilm e t m && sameList (archiveOf e t m) a) ≡ false
     unfolding feasibleFilm
-    copy-stopped h few long = writer-refused (e .filed) e t m start (room .is) (λ z. h (number-is ∙ z)) a few long
+    copy-stopped h few long = writer-refused (filmRules e) e t m start (room .is) (λ z. h (number-is ∙ z)) a few long
 
     module _ (z : r .number ≡ 0) where
-      done : WriteDone (e .filed) e t m start
-      done = writer-done (e .filed) e t m start (sym number-is ∙ z)
+      done : WriteDone (filmRules e) e t m start
+      done = writer-done (filmRules e) e t m start (sym number-is ∙ z)
 
       out-is : out ≡ archiveOf e t m
       out-is = ap (λ (x : Written). x .output) (w ∙ done .wrote)

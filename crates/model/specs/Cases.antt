@@ -99,7 +99,7 @@ unfolding Basics.pick Basics.when Basics.atPlace Basics.sumTo Basics.countTo Bas
     Refusals.backChecks
     Refusals.formChecks Refusals.treeChecks Refusals.planChecks Refusals.judgeChecks Refusals.writeChecks
     Refusals.printChecks
-    Refusals.passes Refusals.without Refusals.soundForm Refusals.acceptedTree Refusals.refusedForWeight
+    Refusals.passes Refusals.asked Refusals.soundForm Refusals.acceptedTree Refusals.refusedForWeight
     Refusals.feasiblePlan Refusals.feasibleFilm Refusals.firstOf Refusals.readTree Refusals.judgePlan
     Refusals.planned Refusals.writeChecked Refusals.writeArchive Refusals.writeFilm Refusals.isArchive
     Refusals.readChecks Refusals.readArchive Refusals.convertChecks Refusals.convertArchive Refusals.printSheets

@@ -16,6 +16,7 @@ use Rattle.model.specs.Archive.{archiveOf, archiveBytes, nodesIn, tableI
 use Rattle.model.specs.Sheets.{sheetBytes, sheetCount, sheetsOf}
 use Rattle.model.specs.Prices.{totalCents, savingOf}
 use Rattle.model.specs.declared.Place.{Place}
+use Rattle.model.specs.declared.Place.the-variants.{Nowhere}
 use Rattle.model.specs.declared.Cause.the-variants.{BadMark, HeavyPage}
 use Rattle.model.specs.declared.Verdict.{Verdict}
 use Rattle.model.specs.declared.Verdict.the-variants.{Feasible, Failed}
@@ -23,6 +24,24 @@ use Rattle.model.specs.declared.Beside.the-variants.{Given, Nothing}
 use Rattle.model.specs.declared.Answer.{Answer}
 use Rattle.model.specs.declared.Edition.{Edition}
 use Rattle.model.specs.declared.Price.{Price}
+
+-- ---- Rules: what is asked of a tree and a plan beyond what all are held to
+
+pub record Rules : Type 0 where
+  -- no label is 0 (14)
+  pub filed : Bool
+
+-- of what is handed in
+abbrev pub plainRules : Rules
+plainRules = record { filed = true }
+
+-- of film of an edition: where the edition is not filed, film written before 14 was given may have labels 0
+abbrev pub filmRules : Edition → Rules
+filmRules e = record { filed = e .filed }
+
+-- of the edition's writer, which never writes a label 0
+abbrev pub writerRules : Edition → Rules
+writerRules e = record { filed = true }
 
 -- ---- Answers
 
@@ -52,6 +71,10 @@ accepted = record { number = 0; place = 0; beside = Nothing }
 pub record Check : Type 0 where
   pub answer : ℕ → Answer
   pub place : Place
+
+-- a check that a rule asks for: where it does not, the check applies nowhere
+unfoldable pub asked : Bool → Check → Check
+asked rule c = record { answer = c .answer; place = pick rule (c .place) Nowhere }
 
 -- ---- The list
 
@@ -130,8 +153,8 @@ unfoldable pub headChecks : List ℕ → List Check
 headChecks t = shortTable t ∷ badCount t ∷ badLimit t ∷ badLength t ∷ []
 
 -- the nodes and their links
-unfoldable pub nodeChecks : List ℕ → List Check
-nodeChecks t = noLabel t ∷ badWalk t ∷ []
+unfoldable pub nodeChecks : Bool → List ℕ → List Check
+nodeChecks filed t = asked filed (noLabel t) ∷ badWalk t ∷ []
 
 -- the nodes' weights against the limit
 unfoldable pub weightChecks : List ℕ → List Check
@@ -157,56 +180,51 @@ sheetChecks t m out = badOutput (sheetBytes * sheetCount (pageCount t m)) out �
 unfoldable pub backChecks : ℕ → List ℕ → List ℕ → List Check
 backChecks n t m = badOutput (tableBytes n) t ∷ badMarks n m ∷ []
 
-unfoldable pub formChecks : List ℕ → List Check
-formChecks t = headChecks t ++ nodeChecks t
+unfoldable pub formChecks : Bool → List ℕ → List Check
+formChecks filed t = headChecks t ++ nodeChecks filed t
 
-unfoldable pub treeChecks : List ℕ → List Check
-treeChecks t = formChecks t ++ weightChecks t
+unfoldable pub treeChecks : Bool → List ℕ → List Check
+treeChecks filed t = formChecks filed t ++ weightChecks t
 
 unfoldable pub planChecks : List ℕ → List ℕ → List ℕ → List Check
-planChecks t m s = treeChecks t ++ lentChecks t m s
+planChecks t m s = treeChecks true t ++ lentChecks t m s
 
-unfoldable pub judgeChecks : List ℕ → List ℕ → List Check
-judgeChecks t m = treeChecks t ++ markChecks t m
+unfoldable pub judgeChecks : Rules → List ℕ → List ℕ → List Check
+judgeChecks r t m = treeChecks (r .filed) t ++ markChecks t m
 
-unfoldable pub writeChecks : Edition → List ℕ → List ℕ → List ℕ → List Check
-writeChecks e t m out = judgeChecks t m ++ filmChecks e t m out
+unfoldable pub writeChecks : Rules → Edition → List ℕ → List ℕ → List ℕ → List Check
+writeChecks r e t m out = judgeChecks r t m ++ filmChecks e t m out
 
 unfoldable pub printChecks : List ℕ → List ℕ → List ℕ → List Check
-printChecks t m out = judgeChecks t m ++ sheetChecks t m out
+printChecks t m out = judgeChecks plainRules t m ++ sheetChecks t m out
 
 -- no check of the list applies
 unfoldable pub passes : List Check → Bool
 passes [] = true
 passes (c ∷ cs) = atPlace (c .place) (λ p. false) (passes cs)
 
--- the list without those of its checks that give the number n
-unfoldable pub without : ℕ → List Check → List Check
-without n [] = []
-without n (c ∷ cs) = pick (eqb (c .answer 0 .number) n) (without n cs) (c ∷ without n cs)
-
 -- A tree is of sound form when nothing that is checked before 7 applies to it, accepted when 7 does not apply to it
 -- either, and refused for weight means 7.
 unfoldable pub soundForm : List ℕ → Bool
-soundForm t = passes (formChecks t)
+soundForm t = passes (formChecks true t)
 
 unfoldable pub acceptedTree : List ℕ → Bool
-acceptedTree t = passes (treeChecks t)
+acceptedTree t = passes (treeChecks true t)
 
 unfoldable pub refusedForWeight : List ℕ → Bool
 refusedForWeight t = soundForm t && not (acceptedTree t)
 
+-- the judge under these rules finds nothing
+abbrev pub feasibleBy : Rules → List ℕ → List ℕ → Bool
+feasibleBy r t m = passes (judgeChecks r t m)
+
 -- a plan of an accepted tree is feasible when the judge finds nothing
 unfoldable pub feasiblePlan : List ℕ → List ℕ → Bool
-feasiblePlan t m = passes (judgeChecks t m)
+feasiblePlan t m = feasibleBy plainRules t m
 
--- Film written before 14 was given may have labels 0. What film of an edition is held against has all checks where the
--- edition is filed, and is else without 14: here, that judge finds nothing.
-abbrev pub checksWith : Bool → List Check → List Check
-checksWith filed cs = pick filed cs (without 14 cs)
-
+-- and on film of an edition when the judge that film is held against does not
 unfoldable pub feasibleFilm : Edition → List ℕ → List ℕ → Bool
-feasibleFilm e t m = passes (checksWith (e .filed) (judgeChecks t m))
+feasibleFilm e t m = feasibleBy (filmRules e) t m
 
 -- ---- The entries
 
@@ -217,11 +235,14 @@ firstOf (c ∷ cs) a = atPlace (c .place) (c .answer) (firstOf cs a)
 
 -- the tree reader
 unfoldable pub readTree : List ℕ → Answer
-readTree t = firstOf (treeChecks t) accepted
+readTree t = firstOf (treeChecks true t) accepted
 
--- the judge of plans
+-- the judge of plans, under rules, and of plans that are handed in
+abbrev pub judgeBy : Rules → List ℕ → List ℕ → Answer
+judgeBy r t m = firstOf (judgeChecks r t m) (answerOf (verdictOf t m))
+
 unfoldable pub judgePlan : List ℕ → List ℕ → Answer
-judgePlan t m = firstOf (judgeChecks t m) (answerOf (verdictOf t m))
+judgePlan t m = judgeBy plainRules t m
 
 -- a planner: its answer, and the marks and the scratch that it leaves
 pub record Planned : Type 0 where
@@ -264,15 +285,18 @@ unfoldable pub writeChecked : List Check → Verdict → List ℕ → List ℕ �
 writeChecked cs verdict bytes out =
     record { answer = firstOf cs (answerOf verdict); output = pick (passes cs) bytes out }
 
+-- the writer of an edition under rules
+abbrev pub writeBy : Rules → Edition → List ℕ → List ℕ → List ℕ → Written
+writeBy r e t m out = writeChecked (writeChecks r e t m out) (verdictOf t m) (archiveOf e t m) out
+
 -- the archive writer
 unfoldable pub writeArchive : Edition → List ℕ → List ℕ → List ℕ → Written
-writeArchive e t m out = writeChecked (writeChecks e t m out) (verdictOf t m) (archiveOf e t m) out
+writeArchive e t m out = writeBy (writerRules e) e t m out
 
 -- the writer that an archive which is read is held against: the archive writer where the edition is filed, and else
 -- without 14, which is no entry
 unfoldable pub writeFilm : Edition → List ℕ → List ℕ → List ℕ → Written
-writeFilm e t m out =
-    writeChecked (checksWith (e .filed) (writeChecks e t m out)) (verdictOf t m) (archiveOf e t m) out
+writeFilm e t m out = writeBy (filmRules e) e t m out
 
 -- that writer writes this archive from the tree and the plan that it tells, within the edition's most nodes
 unfoldable pub isArchive : Edition → List ℕ → Bool

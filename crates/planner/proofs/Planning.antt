@@ -29,12 +29,13 @@ module _ (t m s : List ℕ) where
   unfolding readTree planChecks
   tree-refuses h =
       sym
-      (firstOf-stop (treeChecks t) (lentChecks t m s) accepted accepted (refused-fails (treeChecks t) accepted refl h))
+      (firstOf-stop (treeChecks true t) (lentChecks t m s) accepted accepted
+      (refused-fails (treeChecks true t) accepted refl h))
 
   -- else what is lent is checked
   pub tree-goes-on : readTree t .number ≡ 0 → firstOf (lentChecks t m s) accepted ≡ firstOf (planChecks t m s) accepted
   unfolding planChecks acceptedTree
-  tree-goes-on e = sym (firstOf-pass (treeChecks t) (lentChecks t m s) accepted (tree-accepted t e))
+  tree-goes-on e = sym (firstOf-pass (treeChecks true t) (lentChecks t m s) accepted (tree-accepted t e))
 
 -- the number of words fits
 pub words-fit : (n k : ℕ) → n ≤ maxNodes → k ≤ maxLimit → scratchWords n k ≤ scratchWords maxNodes maxLimit
@@ -75,7 +76,7 @@ module _ (t m s : List ℕ) (r : Answer) (is : r ≡ firstOf (planChecks t m s) 
   unfolding readTree acceptedTree
   judge-goes-on e m′ ok a h j =
       let tree = passes-lent t m s (checks-pass e) .tree in
-      j ∙ ap (λ (x : Answer). andThen x (marksAnswer t m′)) (h ∙ sym (firstOf-all (treeChecks t) accepted tree))
+      j ∙ ap (λ (x : Answer). andThen x (marksAnswer t m′)) (h ∙ sym (firstOf-all (treeChecks true t) accepted tree))
       ∙ sym (judge-then t m′)
 
 -- ---- The promises, of what is left

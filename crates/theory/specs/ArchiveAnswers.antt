@@ -1,9 +1,9 @@
--- The answers of the archive's writer, with 14 or without, and of its reader, case by case, and what each tells.
+-- The answers of the archive's writer, under any rules, and of its reader, case by case, and what each tells.
 -- writeFrom is the writer that goes on from the answer of whatever judged the tree: the reader judges its tree as its
 -- edition's film is held, which may be without 14.
--- Defines writeFrom, writeWith, WriteDone. Proves film-answer, film-fifteen, film-few, film-long; write-entry,
--- write-done, write-many, write-fourteen, write-fifteen, write-kept, writer-done, writer-refused; unfiled-stops;
--- read-none, read-table, read-marks, read-done, reader-done, read-thirteen. Assumes nothing.
+-- Defines writeFrom, WriteDone. Proves film-answer, film-fifteen, film-few, film-long; write-entry, write-done,
+-- write-many, write-fourteen, write-fifteen, write-kept, writer-done, writer-refused; unfiled-stops; read-none,
+-- read-table, read-marks, read-done, reader-done, read-thirteen. Assumes nothing.
 use Prim.Native.Nat.{ℕ, _≤_, _<_}
 use native.Mathlib.Omega.{arith}
 use mathlib.Core.Bool.{Bool, true, false, not, _&&_}
@@ -18,18 +18,19 @@ use Rattle.model.specs.Plan.{pageCount, verdictOf}
 use Rattle.model.specs.Archive.{archiveOf, archiveBytes, nodesIn, tableIn, marksIn}
 use Rattle.model.specs.Refusals.{badMarks, badOutput, noArchive, manyNodes, judgeChecks, filmChecks, backChecks}
 use Rattle.model.specs.Refusals.{writeChecks, readChecks, passes, answerOf, refused, firstOf, noLabel, feasibleFilm}
-use Rattle.model.specs.Refusals.{Written, writeChecked, writeArchive, isArchive, readArchive}
+use Rattle.model.specs.Refusals.{Rules, writerRules, feasibleBy, Written, writeChecked, writeBy}
+use Rattle.model.specs.Refusals.{writeArchive, isArchive, readArchive}
 use Rattle.model.specs.declared.Edition.{Edition}
 use Rattle.model.specs.declared.Place.the-variants.{At}
 use Rattle.model.specs.declared.Answer.{Answer}
 use Rattle.theory.specs.Bools.{never-true, both-true}
 use Rattle.theory.specs.Ranges.{when-true, when-false, when-nowhere}
-use Rattle.theory.specs.Checks.{Pass, pass-all, firstOf-all, Never, never-first, accepted-pass, read-plain}
-use Rattle.theory.specs.Checks.{firstOf-append}
+use Rattle.theory.specs.Checks.{Pass, pass-all, firstOf-all, Never, never-first, accepted-pass, film-plain}
+use Rattle.theory.specs.Checks.{firstOf-append, read-plain}
 use Rattle.theory.specs.JudgeAnswers.{treeAnswer}
 use Rattle.theory.specs.Outputs.{outcome, outcome-stop, outcome-next, outcome-none, unequal, equal, outputFrom}
-use Rattle.theory.specs.Outputs.{outputWith, with-entry, with-done, with-wrote, with-passed, with-last, with-kept}
-use Rattle.theory.specs.PlanFeasible.{Judged, feasibleWith, with-judged, film-judged}
+use Rattle.theory.specs.Outputs.{with-entry, with-done, with-wrote, with-passed, with-last, with-kept}
+use Rattle.theory.specs.PlanFeasible.{Judged, with-judged, film-judged}
 use Rattle.theory.specs.PlanFeasible.{judged-zero, label-stops}
 use Rattle.theory.specs.ArchiveWords.{Described, length-archive, archive-nodes}
 use Rattle.theory.specs.ArchiveBack.{sameList-true, read-write}
@@ -41,9 +42,12 @@ module _ (e : Edition) (t m out : List ℕ) where
   abbrev pub writeFrom : Answer → Written
   writeFrom = outputFrom t m (archiveOf e t m) out (filmChecks e t m out)
 
-  film-never : Never 0 (filmChecks e t m out) × Never 14 (filmChecks e t m out)
+  film-never : Never 0 (filmChecks e t m out)
+  film-never = film-plain e t m out .0
+
+  film-fourteen : Never 14 (filmChecks e t m out)
   unfolding every filmChecks manyNodes badOutput
-  film-never = (λ p. refl, λ p. refl)
+  film-fourteen p = refl
 
   abbrev size : ℕ
   size = archiveBytes e (pageCount t m) (nodeCount t)
@@ -97,93 +101,102 @@ module _ (e : Edition) (t m out : List ℕ) where
         (equal (length out) size fits, tt),
       )
 
--- ---- The writer with 14, or without
+-- ---- The writer under rules
 
-module _ (filed : Bool) (e : Edition) (t m out : List ℕ) where
-  abbrev pub writeWith : Written
-  writeWith = outputWith filed t m (archiveOf e t m) out (filmChecks e t m out)
-
+module _ (rules : Rules) (e : Edition) (t m out : List ℕ) where
   -- it goes on from the tree reader's answer
-  pub write-entry : {w : Written} (r : Answer) → w ≡ writeFrom e t m out r → r ≡ treeAnswer filed t → w ≡ writeWith
-  write-entry r h is = with-entry filed t m _ out _ (film-never e t m out) r h is
+  pub write-entry : {w : Written} (r : Answer) → w ≡ writeFrom e t m out r → r ≡ treeAnswer (rules .filed) t
+      → w ≡ writeBy rules e t m out
+  unfolding writeChecks
+  write-entry r h is = with-entry rules t m _ out _ (film-never e t m out) r h is
 
-  pub write-done : feasibleWith filed t m ≡ true → nodeCount t ≤ e .most
+  pub write-done : feasibleBy rules t m ≡ true → nodeCount t ≤ e .most
       → length out ≡ archiveBytes e (pageCount t m) (nodeCount t)
-      → writeWith ≡ record { answer = answerOf (verdictOf t m); output = archiveOf e t m }
-  write-done f few fits = with-done filed t m _ out _ (film-never e t m out) f (film-long e t m out few fits)
+      → writeBy rules e t m out ≡ record { answer = answerOf (verdictOf t m); output = archiveOf e t m }
+  unfolding writeChecks
+  write-done f few fits = with-done rules t m _ out _ f (film-long e t m out few fits)
 
   -- 15: more nodes than the edition takes
-  pub write-many : feasibleWith filed t m ≡ true → e .most < nodeCount t → writeWith .answer ≡ refused 15 (nodeCount t)
-  write-many f many = with-last filed t m _ out _ (film-never e t m out) f ∙ film-many e t m out _ many
+  pub write-many : feasibleBy rules t m ≡ true → e .most < nodeCount t
+      → writeBy rules e t m out .answer ≡ refused 15 (nodeCount t)
+  unfolding writeChecks
+  write-many f many = with-last rules t m _ out _ f ∙ film-many e t m out _ many
 
   -- what the film is refused for, but for its length: no label, and where the edition takes so many nodes nothing else
-  pub write-fourteen : feasibleWith filed t m ≡ true → writeWith .answer .number ≡ 14 → ⊥
+  pub write-fourteen : feasibleBy rules t m ≡ true → writeBy rules e t m out .answer .number ≡ 14 → ⊥
+  unfolding writeChecks
   write-fourteen f h =
-      let last : writeWith .answer ≡ firstOf (filmChecks e t m out) (answerOf (verdictOf t m)) =
-      with-last filed t m _ out _ (film-never e t m out) f in
+      let last : writeBy rules e t m out .answer ≡ firstOf (filmChecks e t m out) (answerOf (verdictOf t m)) =
+      with-last rules t m _ out _ f in
       omega (
         arith,
-        never-first 14 (filmChecks e t m out) _ (film-never e t m out .1)
+        never-first 14 (filmChecks e t m out) _ (film-fourteen e t m out)
             (sym (ap (λ (x : Answer). x .number) last) ∙ h) .1,
-        judged-zero (with-judged filed t m f),
+        judged-zero (with-judged rules t m f),
       )
 
-  pub write-fifteen : feasibleWith filed t m ≡ true → nodeCount t ≤ e .most → writeWith .answer .number ≡ 15 → ⊥
+  pub write-fifteen : feasibleBy rules t m ≡ true → nodeCount t ≤ e .most
+      → writeBy rules e t m out .answer .number ≡ 15 → ⊥
+  unfolding writeChecks
   write-fifteen f few h =
-      let last : writeWith .answer ≡ firstOf (filmChecks e t m out) (answerOf (verdictOf t m)) =
-      with-last filed t m _ out _ (film-never e t m out) f in
+      let last : writeBy rules e t m out .answer ≡ firstOf (filmChecks e t m out) (answerOf (verdictOf t m)) =
+      with-last rules t m _ out _ f in
       omega (
         arith,
         film-fifteen e t m out _ few (sym (ap (λ (x : Answer). x .number) last) ∙ h),
-        judged-zero (with-judged filed t m f),
+        judged-zero (with-judged rules t m f),
       )
 
   -- on refusal the output is as lent
-  pub write-kept : (writeWith .answer .number ≡ 0 → ⊥) → writeWith .output ≡ out
-  write-kept h = with-kept filed t m _ out _ (film-never e t m out) h
+  pub write-kept : (writeBy rules e t m out .answer .number ≡ 0 → ⊥) → writeBy rules e t m out .output ≡ out
+  unfolding writeChecks
+  write-kept h = with-kept rules t m _ out _ (film-never e t m out) h
 
   -- ---- What the writer's answer tells: it wrote an archive, or none of that length is written
 
   pub record WriteDone : Type 0 where
-    pub feasible : feasibleWith filed t m ≡ true
+    pub feasible : feasibleBy rules t m ≡ true
     pub judged : Judged t m
     pub few : nodeCount t ≤ e .most
-    pub wrote : writeWith ≡ record { answer = answerOf (verdictOf t m); output = archiveOf e t m }
+    pub wrote : writeBy rules e t m out ≡ record { answer = answerOf (verdictOf t m); output = archiveOf e t m }
 
-  pub writer-done : writeWith .answer .number ≡ 0 → WriteDone
+  pub writer-done : writeBy rules e t m out .answer .number ≡ 0 → WriteDone
+  unfolding writeChecks
   writer-done z =
       let never = film-never e t m out in
-      let done = with-wrote filed t m _ out _ never z in
+      let done = with-wrote rules t m _ out _ never z in
       record {
         feasible = done .0;
-        judged = with-judged filed t m (done .0);
-        few = film-few e t m out (with-passed filed t m _ out _ never z) .0;
+        judged = with-judged rules t m (done .0);
+        few = film-few e t m out (with-passed rules t m _ out _ never z) .0;
         wrote = done .1;
       }
 
-  pub writer-refused : Described e → (writeWith .answer .number ≡ 0 → ⊥) → (a : List ℕ) → nodesIn e a ≤ e .most
-      → length out ≡ length a → (feasibleWith filed t m && sameList (archiveOf e t m) a) ≡ false
+  pub writer-refused : Described e → (writeBy rules e t m out .answer .number ≡ 0 → ⊥) → (a : List ℕ)
+      → nodesIn e a ≤ e .most → length out ≡ length a
+      → (feasibleBy rules t m && sameList (archiveOf e t m) a) ≡ false
   writer-refused d h a few long =
       never-true _
       (λ y.
-      let both = both-true (feasibleWith filed t m) (sameList (archiveOf e t m) a) y in
+      let both = both-true (feasibleBy rules t m) (sameList (archiveOf e t m) a) y in
       let same : archiveOf e t m ≡ a = sameList-true (archiveOf e t m) a (both .1) in
       h
       (ap (λ (w : Written). w .answer .number)
       (write-done (both .0) (omega (arith, ap (nodesIn e) same, archive-nodes d t m))
       (long ∙ ap length (sym same) ∙ length-archive d t m))
-      ∙ judged-zero (with-judged filed t m (both .0))))
+      ∙ judged-zero (with-judged rules t m (both .0))))
 
 -- the writer of an edition, handed a tree and a plan from film, in which nothing but a label is refused
 pub unfiled-stops : (e f : Edition) (t m out : List ℕ) → feasibleFilm f t m ≡ true → (v : ℕ) → noLabel t .place ≡ At v
     → writeArchive e t m out ≡ record { answer = refused 14 v; output = out }
-unfolding writeArchive writeChecked writeChecks pick
+unfolding writeArchive writeChecked writeChecks
 unfiled-stops e f t m out film v found =
     ap₂ (λ (r : Answer) (a : List ℕ). record { answer = r; output = a }) answer
-    (write-kept true e t m out (λ z. omega (arith, ap (λ (r : Answer). r .number) answer)))
+    (write-kept (writerRules e) e t m out (λ z. omega (arith, ap (λ (r : Answer). r .number) answer)))
   where
-    answer : firstOf (judgeChecks t m ++ filmChecks e t m out) (answerOf (verdictOf t m)) ≡ refused 14 v
-    answer = firstOf-append (judgeChecks t m) (filmChecks e t m out) _ ∙ label-stops f t m film v found _
+    answer : firstOf (judgeChecks (writerRules e) t m ++ filmChecks e t m out) (answerOf (verdictOf t m)) ≡ refused 14 v
+    answer =
+        firstOf-append (judgeChecks (writerRules e) t m) (filmChecks e t m out) _ ∙ label-stops f t m film v found _
 
 -- ---- The reader
 

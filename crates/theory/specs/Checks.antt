@@ -4,17 +4,17 @@
 -- Defines Pass, Never, Plain, andThen. Proves pass-all, passes-append, passes-both, both-pass; firstOf-pass,
 -- firstOf-stop, firstOf-all, firstOf-cons, firstOf-append; never-append, never-first, accepted-pass, refused-fails;
 -- that no check gives 0 or 5, that of the weights alone 7, and that of the judge none 15 (head-plain to convert-plain);
--- then-next, then-stands, then-both, firstOf-then; what lists with 14 and without are, and what 14 adds
--- (passes-without to node-stops). Assumes nothing.
+-- then-next, then-stands, then-both, firstOf-then; of a check that a rule asks for asked-none, asked-less, node-stops.
+-- Assumes nothing.
 use Prim.Native.Nat.{ℕ}
 use mathlib.Core.Path.{_≡_, refl, sym, ap, ap₂, _∙_}
 use mathlib.Core.Bool.{Bool, true, false, not, _&&_, false≢true, true≢false}
 use mathlib.Core.Logic.{_↔_}
 use mathlib.Core.List.{List, [], _∷_, _++_, append-nil}
 use lib.Dec.{eqb}
-use borrow.Author.Tests.{eqb-true, eqb-false, eq-eqb, ne-eqb, not-true}
+use borrow.Author.Tests.{eqb-true, eqb-false, eq-eqb, ne-eqb}
 use Rattle.model.specs.Basics.{pick, atPlace, every}
-use Rattle.model.specs.Refusals.{Check, accepted, refused, firstOf, passes, without, checksWith}
+use Rattle.model.specs.Refusals.{Rules, Check, accepted, refused, firstOf, passes, asked}
 use Rattle.model.specs.Refusals.{shortTable, badCount, badLimit, badLength, badWalk, heavyNode, badMarks}
 use Rattle.model.specs.Refusals.{shortScratch, markRefused, pageRefused, badOutput, noArchive, noLabel, manyNodes}
 use Rattle.model.specs.Refusals.{headChecks, nodeChecks, weightChecks, lentChecks, markChecks, filmChecks, backChecks}
@@ -170,9 +170,9 @@ pub head-plain : (t : List ℕ) → Plain (headChecks t)
 unfolding every headChecks shortTable badCount badLimit badLength
 head-plain t = (λ p. refl, λ p. refl, λ p. refl)
 
-node-plain : (t : List ℕ) → Plain (nodeChecks t)
-unfolding every nodeChecks noLabel badWalk
-node-plain t = (λ p. refl, λ p. refl, λ p. refl)
+node-plain : (filed : Bool) (t : List ℕ) → Plain (nodeChecks filed t)
+unfolding every nodeChecks asked noLabel badWalk
+node-plain filed t = (λ p. refl, λ p. refl, λ p. refl)
 
 weight-never : (t : List ℕ) → Never 0 (weightChecks t) × Never 5 (weightChecks t)
 unfolding every weightChecks heavyNode
@@ -203,30 +203,34 @@ pub sheet-plain : (t m out : List ℕ) → Plain (sheetChecks t m out)
 unfolding every sheetChecks badOutput
 sheet-plain t m out = (λ p. refl, λ p. refl, λ p. refl)
 
-pub form-plain : (t : List ℕ) → Plain (formChecks t)
+pub form-plain : (filed : Bool) (t : List ℕ) → Plain (formChecks filed t)
 unfolding formChecks
-form-plain t = plain-append (headChecks t) (nodeChecks t) (head-plain t) (node-plain t)
+form-plain filed t = plain-append (headChecks t) (nodeChecks filed t) (head-plain t) (node-plain filed t)
 
-pub tree-never : (t : List ℕ) → Never 0 (treeChecks t)
+pub tree-never : (filed : Bool) (t : List ℕ) → Never 0 (treeChecks filed t)
 unfolding treeChecks
-tree-never t = never-append 0 (formChecks t) (weightChecks t) (form-plain t .0) (weight-never t .0)
+tree-never filed t =
+    never-append 0 (formChecks filed t) (weightChecks t) (form-plain filed t .0) (weight-never t .0)
 
-pub tree-never-five : (t : List ℕ) → Never 5 (treeChecks t)
+pub tree-never-five : (filed : Bool) (t : List ℕ) → Never 5 (treeChecks filed t)
 unfolding treeChecks
-tree-never-five t = never-append 5 (formChecks t) (weightChecks t) (form-plain t .2) (weight-never t .1)
+tree-never-five filed t =
+    never-append 5 (formChecks filed t) (weightChecks t) (form-plain filed t .2) (weight-never t .1)
 
 pub plan-never : (t m s : List ℕ) → Never 0 (planChecks t m s)
 unfolding planChecks
-plan-never t m s = never-append 0 (treeChecks t) (lentChecks t m s) (tree-never t) (lent-plain t m s .0)
+plan-never t m s =
+    never-append 0 (treeChecks true t) (lentChecks t m s) (tree-never true t) (lent-plain t m s .0)
 
-pub judge-never : (t m : List ℕ) → Never 0 (judgeChecks t m)
+pub judge-never : (r : Rules) (t m : List ℕ) → Never 0 (judgeChecks r t m)
 unfolding judgeChecks
-judge-never t m = never-append 0 (treeChecks t) (markChecks t m) (tree-never t) (mark-plain t m .0)
+judge-never r t m =
+    never-append 0 (treeChecks (r .filed) t) (markChecks t m) (tree-never (r .filed) t) (mark-plain t m .0)
 
-pub judge-fifteen : (t m : List ℕ) → Never 15 (judgeChecks t m)
+pub judge-fifteen : (r : Rules) (t m : List ℕ) → Never 15 (judgeChecks r t m)
 unfolding every judgeChecks treeChecks formChecks headChecks nodeChecks weightChecks markChecks shortTable badCount
-    badLimit badLength noLabel badWalk heavyNode badMarks markRefused pageRefused
-judge-fifteen t m p = refl
+    badLimit badLength asked noLabel badWalk heavyNode badMarks markRefused pageRefused
+judge-fifteen r t m p = refl
 
 pub read-plain : (e : Edition) (a t m : List ℕ) → Plain (readChecks e a t m)
 unfolding every readChecks backChecks noArchive badOutput badMarks
@@ -274,104 +278,24 @@ firstOf-then cs ds a never = go (passes cs) refl
         firstOf-stop cs ds a accepted e
         ∙ sym (then-stands _ _ (λ z. true≢false (sym (accepted-pass cs accepted never z) ∙ e)))
 
--- ---- A list without the checks of a number
+-- ---- A check that a rule asks for
 
-pass-without : (n : ℕ) (cs : List Check) → Pass cs → Pass (without n cs)
-unfolding Pass pick without
-pass-without n [] p = tt
-pass-without n (c ∷ cs) p = go (eqb (c .answer 0 .number) n) (pass-without n cs (p .1))
-  where
-    go : (b : Bool) → Pass (without n cs) → Pass (pick b (without n cs) (c ∷ without n cs))
-    go true ih = ih
-    go false ih = (p .0, ih)
+-- one that applies nowhere does so under every rule
+pub asked-none : (rule : Bool) (c : Check) → c .place ≡ Nowhere → asked rule c .place ≡ Nowhere
+unfolding asked pick
+asked-none true c e = e
+asked-none false c e = refl
 
-pub passes-without : (n : ℕ) (cs : List Check) → passes cs ≡ true → passes (without n cs) ≡ true
-passes-without n cs e = pass-all (without n cs) .1 (pass-without n cs (pass-all cs .0 e))
+-- under a rule that asks no more it applies nowhere either
+pub asked-less : (rule less : Bool) (c : Check) → (less ≡ true → rule ≡ true) → asked rule c .place ≡ Nowhere
+    → asked less c .place ≡ Nowhere
+unfolding asked pick
+asked-less true less c h e = asked-none less c e
+asked-less false true c h e = absurd (false≢true (h refl))
+asked-less false false c h e = refl
 
-pub never-without : (k n : ℕ) (cs : List Check) → Never k cs → Never k (without n cs)
-unfolding every pick without
-never-without k n [] h p = refl
-never-without k n (c ∷ cs) h p =
-    let here = never-cons k c cs h p in
-    go (eqb (c .answer 0 .number) n) (here .0) (never-without k n cs (here .1) p)
-  where
-    go : (b : Bool) → not (eqb (c .answer p .number) k) ≡ true
-        → every (λ d. not (eqb (d .answer p .number) k)) (without n cs) ≡ true
-        → every (λ d. not (eqb (d .answer p .number) k)) (pick b (without n cs) (c ∷ without n cs)) ≡ true
-    go true e ih = ih
-    go false e ih = and-true _ _ e ih
-
-pub without-append : (n : ℕ) (cs ds : List Check) → without n (cs ++ ds) ≡ without n cs ++ without n ds
-unfolding pick without
-without-append n [] ds = refl
-without-append n (c ∷ cs) ds = go (eqb (c .answer 0 .number) n) (without-append n cs ds)
-  where
-    go : (b : Bool) → without n (cs ++ ds) ≡ without n cs ++ without n ds
-        → pick b (without n (cs ++ ds)) (c ∷ without n (cs ++ ds))
-        ≡ pick b (without n cs) (c ∷ without n cs) ++ without n ds
-    go true ih = ih
-    go false ih = ap (λ (ds : List Check). c ∷ ds) ih
-
--- checks that never give the number all stay
-pub without-never : (n : ℕ) (cs : List Check) → Never n cs → without n cs ≡ cs
-unfolding without every
-without-never n [] h = refl
-without-never n (c ∷ cs) h =
-    let here = never-cons n c cs h 0 in
-    pick-false (eqb (c .answer 0 .number) n) (without n cs) (c ∷ without n cs) (not-true _ (here .0))
-    ∙ ap (λ (ds : List Check). c ∷ ds) (without-never n cs (here .1))
-
--- ---- Lists with 14, or without: it is a check of the nodes
-
--- checks that pass with 14 pass without
-pub passes-unfiled : (filed : Bool) (cs : List Check) → passes (checksWith filed cs) ≡ true
-    → passes (without 14 cs) ≡ true
-unfolding pick
-passes-unfiled true cs e = passes-without 14 cs e
-passes-unfiled false cs e = e
-
-pub passes-filed : (filed : Bool) (cs : List Check) → passes cs ≡ true → passes (checksWith filed cs) ≡ true
-unfolding pick
-passes-filed true cs e = e
-passes-filed false cs e = passes-without 14 cs e
-
-pub never-with : (n : ℕ) (filed : Bool) (cs : List Check) → Never n cs → Never n (checksWith filed cs)
-unfolding pick
-never-with n true cs h = h
-never-with n false cs h = never-without n 14 cs h
-
--- checks after those of the tree, of which none gives 14
-pub with-after : (filed : Bool) (cs ds : List Check) → Never 14 ds
-    → checksWith filed (cs ++ ds) ≡ checksWith filed cs ++ ds
-unfolding pick
-with-after true cs ds h = refl
-with-after false cs ds h =
-    without-append 14 cs ds ∙ ap (λ (es : List Check). without 14 cs ++ es) (without-never 14 ds h)
-
-pub with-form : (filed : Bool) (t : List ℕ)
-    → checksWith filed (formChecks t) ≡ headChecks t ++ checksWith filed (nodeChecks t)
-unfolding pick formChecks headChecks shortTable badCount badLimit badLength every
-with-form true t = refl
-with-form false t =
-    without-append 14 (headChecks t) (nodeChecks t)
-    ∙ ap (λ (cs : List Check). cs ++ without 14 (nodeChecks t)) (without-never 14 (headChecks t) (λ p. refl))
-
-pub with-tree : (filed : Bool) (t : List ℕ)
-    → checksWith filed (treeChecks t) ≡ checksWith filed (formChecks t) ++ weightChecks t
-unfolding treeChecks weightChecks heavyNode every
-with-tree filed t = with-after filed (formChecks t) (weightChecks t) (λ p. refl)
-
-pub with-judge : (filed : Bool) (t m : List ℕ)
-    → checksWith filed (judgeChecks t m) ≡ checksWith filed (treeChecks t) ++ markChecks t m
-unfolding judgeChecks markChecks badMarks markRefused pageRefused every
-with-judge filed t m = with-after filed (treeChecks t) (markChecks t m) (λ p. refl)
-
--- nodes that pass all but 14: with no label 0 they pass, and with one the answer is 14
-module _ (t : List ℕ) (e : passes (without 14 (nodeChecks t)) ≡ true) where
-  pub filed-passes : noLabel t .place ≡ Nowhere → passes (nodeChecks t) ≡ true
-  unfolding Pass pick without nodeChecks noLabel badWalk
-  filed-passes none = pass-all (nodeChecks t) .1 (none, pass-all (without 14 (nodeChecks t)) .0 e)
-
-  pub node-stops : (v : ℕ) → noLabel t .place ≡ At v → (a : Answer) → firstOf (nodeChecks t) a ≡ refused 14 v
-  unfolding firstOf nodeChecks noLabel badWalk
-  node-stops v found a = atPlace-at (noLabel t .place) v (refused 14) _ found
+-- nodes with a label 0, where the rule asks
+pub node-stops : (t : List ℕ) (v : ℕ) → noLabel t .place ≡ At v → (a : Answer)
+    → firstOf (nodeChecks true t) a ≡ refused 14 v
+unfolding firstOf nodeChecks asked pick noLabel badWalk
+node-stops t v found a = atPlace-at (noLabel t .place) v (refused 14) _ found

@@ -1,8 +1,8 @@
 -- The answers of an entry that judges a tree and a plan and then writes bytes into an output, case by case, and what
--- each tells; with 14 or without. What it checks after the judge is a list of its own, which gives neither 0 nor 14.
+-- each tells, under any rules. What it checks after the judge is a list of its own, which never gives 0.
 -- outputFrom is the entry that goes on from the answer of whatever judged the tree.
 -- Defines written, outcome, outputFrom, outputWith. Proves promised, outcome-stop to outcome-after, judged-from,
--- output-refused, output-stopped, output-done; with-entry, with-done, with-wrote, with-passed, with-last, with-kept;
+-- output-refused, output-stopped, output-done; with-entry, with-wrote, with-passed, with-kept, with-done, with-last;
 -- and of the check of a length short-output, long-output. Assumes nothing.
 use Prim.Native.Nat.{ℕ}
 use mathlib.Core.Bool.{Bool, true, false, not, _&&_, true≢false}
@@ -14,7 +14,7 @@ use borrow.Author.Tests.{eq-eqb, ne-eqb}
 use Rattle.model.specs.Basics.{pick, when}
 use Rattle.model.specs.Plan.{verdictOf}
 use Rattle.model.specs.Refusals.{Check, badOutput, markChecks, judgeChecks, passes, answerOf, refused, firstOf}
-use Rattle.model.specs.Refusals.{checksWith, Written, writeChecked}
+use Rattle.model.specs.Refusals.{Rules, feasibleBy, Written, writeChecked}
 use Rattle.model.specs.declared.Place.the-variants.{At, Nowhere}
 use Rattle.model.specs.declared.Answer.{Answer}
 use Rattle.theory.specs.Bools.{never-true}
@@ -22,10 +22,10 @@ use Rattle.theory.specs.Ranges.{when-true, when-false, atPlace-at, atPla
 use Rattle.theory.specs.Checks.{Never, passes-append, passes-both, both-pass, firstOf-pass, firstOf-stop}
 use Rattle.theory.specs.Checks.{firstOf-all}
 use Rattle.theory.specs.Checks.{never-append, accepted-pass, mark-plain, judge-never}
-use Rattle.theory.specs.Checks.{andThen, then-next, then-stands, then-both, never-with, with-after}
+use Rattle.theory.specs.Checks.{andThen, then-next, then-stands, then-both}
 use Rattle.theory.specs.JudgeAnswers.{treeAnswer, marksAnswer, with-then}
 use Rattle.theory.specs.TableFacts.{AcceptedFacts}
-use Rattle.theory.specs.PlanFeasible.{Judged, marks-judged, feasibleWith, with-judged, judged-zero}
+use Rattle.theory.specs.PlanFeasible.{Judged, marks-judged, with-judged, judged-zero}
 
 -- ---- An answer and the output that is left
 
@@ -136,37 +136,30 @@ module _ (t m bytes out : List ℕ) (after : List Check) where
         ∙ sym (then-next j last z ∙ firstOf-all after (answerOf (verdictOf t m)) all))
         (eq-eqb (j .number) 0 z)
 
--- ---- The entry, with 14 or without
+-- ---- The entry, under rules
 
-module _ (filed : Bool) (t m bytes out : List ℕ) (after : List Check) where
+module _ (rules : Rules) (t m bytes out : List ℕ) (after : List Check) where
+  abbrev judging : List Check
+  judging = judgeChecks rules t m
+
   abbrev checks : List Check
-  checks = checksWith filed (judgeChecks t m ++ after)
+  checks = judgeChecks rules t m ++ after
 
   abbrev pub outputWith : Written
-  outputWith = writeChecked (checksWith filed (judgeChecks t m ++ after)) (verdictOf t m) bytes out
-
-  abbrev judging : List Check
-  judging = checksWith filed (judgeChecks t m)
+  outputWith = writeChecked (judgeChecks rules t m ++ after) (verdictOf t m) bytes out
 
   abbrev given : Answer
   given = answerOf (verdictOf t m)
 
-  module _ (fine : Never 0 after × Never 14 after) where
-    parts : checks ≡ judging ++ after
-    parts = with-after filed (judgeChecks t m) after (fine .1)
-
+  module _ (fine : Never 0 after) where
     checks-never : Never 0 checks
-    checks-never =
-        never-with 0 filed (judgeChecks t m ++ after)
-        (never-append 0 (judgeChecks t m) after (judge-never t m) (fine .0))
-
-    passed : passes checks ≡ true → feasibleWith filed t m ≡ true
-    passed p = passes-both judging after (sym (ap passes parts) ∙ p) .0
+    checks-never = never-append 0 judging after (judge-never rules t m) fine
 
     -- it accepts just where its checks pass
     pass-zero : passes checks ≡ true → firstOf checks given .number ≡ 0
     pass-zero p =
-        ap (λ (x : Answer). x .number) (firstOf-all checks given p) ∙ judged-zero (with-judged filed t m (passed p))
+        ap (λ (x : Answer). x .number) (firstOf-all checks given p)
+        ∙ judged-zero (with-judged rules t m (passes-both judging after p .0))
 
     zero-passes : (b : Bool) → passes checks ≡ b → eqb (firstOf checks given .number) 0 ≡ b
     zero-passes true p = eq-eqb _ 0 (pass-zero p)
@@ -175,56 +168,49 @@ module _ (filed : Bool) (t m bytes out : List ℕ) (after : List Check) where
     answer-then : (b : Bool) → passes judging ≡ b
         → firstOf checks given ≡ andThen (firstOf judging given) (firstOf after given)
     answer-then true p =
-        ap (λ (cs : List Check). firstOf cs given) parts
-        ∙ firstOf-pass judging after given p
+        firstOf-pass judging after given p
         ∙ sym
         (then-next _ _
-        (ap (λ (x : Answer). x .number) (firstOf-all judging given p) ∙ judged-zero (with-judged filed t m p)))
+        (ap (λ (x : Answer). x .number) (firstOf-all judging given p) ∙ judged-zero (with-judged rules t m p)))
     answer-then false p =
-        ap (λ (cs : List Check). firstOf cs given) parts
-        ∙ firstOf-stop judging after given given p
-        ∙ sym
-        (then-stands _ _
-        (λ z.
-        true≢false
-        (sym (accepted-pass judging given (never-with 0 filed (judgeChecks t m) (judge-never t m)) z) ∙ p)))
+        firstOf-stop judging after given given p
+        ∙ sym (then-stands _ _ (λ z. true≢false (sym (accepted-pass judging given (judge-never rules t m) z) ∙ p)))
 
     -- it goes on from the tree reader's answer
-    pub with-entry : {w : Written} (r : Answer) → w ≡ outputFrom t m bytes out after r → r ≡ treeAnswer filed t
-        → w ≡ outputWith
+    pub with-entry : {w : Written} (r : Answer) → w ≡ outputFrom t m bytes out after r
+        → r ≡ treeAnswer (rules .filed) t → w ≡ outputWith
     unfolding outputFrom writeChecked
     with-entry r h is =
         h ∙ ap (outputFrom t m bytes out after) is
-        ∙ rw (← with-then filed t m, ← answer-then (passes judging) refl, zero-passes (passes checks) refl) refl
-
-    pub with-done : feasibleWith filed t m ≡ true → passes after ≡ true
-        → outputWith ≡ record { answer = answerOf (verdictOf t m); output = bytes }
-    unfolding writeChecked pick
-    with-done f more =
-        let all : passes checks ≡ true = ap passes parts ∙ both-pass judging after f more in
-        rw (all, firstOf-all checks given all)
+        ∙ rw (← with-then rules t m, ← answer-then (passes judging) refl, zero-passes (passes checks) refl) refl
 
     -- acceptance: the plan is feasible, and the bytes are written
     pub with-wrote : outputWith .answer .number ≡ 0
-        → (feasibleWith filed t m ≡ true)
+        → (feasibleBy rules t m ≡ true)
         × (outputWith ≡ record { answer = answerOf (verdictOf t m); output = bytes })
     unfolding writeChecked pick
     with-wrote z =
         let all : passes checks ≡ true = accepted-pass checks given checks-never z in
-        (passed all, rw (all, firstOf-all checks given all))
+        (passes-both judging after all .0, rw (all, firstOf-all checks given all))
 
     -- and what is checked after the judge passes
     pub with-passed : outputWith .answer .number ≡ 0 → passes after ≡ true
     unfolding writeChecked
-    with-passed z =
-        passes-both judging after (sym (ap passes parts) ∙ accepted-pass checks given checks-never z) .1
-
-    -- where the judge accepts, the answer is that of what is checked after it
-    pub with-last : feasibleWith filed t m ≡ true → outputWith .answer ≡ firstOf after (answerOf (verdictOf t m))
-    unfolding writeChecked
-    with-last f = ap (λ (cs : List Check). firstOf cs given) parts ∙ firstOf-pass judging after given f
+    with-passed z = passes-both judging after (accepted-pass checks given checks-never z) .1
 
     -- on refusal the output is as lent
     pub with-kept : (outputWith .answer .number ≡ 0 → ⊥) → outputWith .output ≡ out
     unfolding writeChecked pick
     with-kept h = rw (never-true (passes checks) (λ p. h (pass-zero p)))
+
+  pub with-done : feasibleBy rules t m ≡ true → passes after ≡ true
+      → outputWith ≡ record { answer = answerOf (verdictOf t m); output = bytes }
+  unfolding writeChecked pick
+  with-done f more =
+      let all : passes checks ≡ true = both-pass judging after f more in
+      rw (all, firstOf-all checks given all)
+
+  -- where the judge accepts, the answer is that of what is checked after it
+  pub with-last : feasibleBy rules t m ≡ true → outputWith .answer ≡ firstOf after (answerOf (verdictOf t m))
+  unfolding writeChecked
+  with-last f = firstOf-pass judging after given f

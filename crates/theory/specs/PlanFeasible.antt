@@ -1,12 +1,12 @@
 -- Feasible plans by number and by shape: the judge finds nothing just where node 1 has mark 1, the marks of the tree
 -- are allowed and every page by shape is within the limit; the verdict is then page count and root weight.
--- Defines Judged, feasibleWith, ShapePlan. Proves within-limit, with-judged, feasible-judged, film-judged, feasible-filed,
+-- Defines Judged, ShapePlan. Proves within-limit, with-judged, stricter, feasible-judged, film-judged, feasible-filed,
 -- feasible-film, judged-feasible, judged-verdict, judged-zero, feasible-judge; filed-feasible, label-stops, film-filed;
 -- heavy-bridge, judged-bridge; shape-judged (from FeasibleShape). Assumes nothing.
 use Prim.Native.Nat.{ℕ, zero, suc, _-_, _≤_}
 use native.Mathlib.Omega.{arith}
-use mathlib.Core.Bool.{Bool, true, false, not}
-use mathlib.Core.Path.{_≡_, sym, _∙_, ap}
+use mathlib.Core.Bool.{true, false, not}
+use mathlib.Core.Path.{_≡_, refl, _∙_, ap}
 use mathlib.Core.Logic.{_↔_}
 use mathlib.Core.List.{List, [], _∷_}
 use lib.ListN.{length, getD}
@@ -15,9 +15,10 @@ use borrow.Author.Tests.{eqb-true, eq-eqb, le-ltb, ltb-false, not-false}
 use Rattle.model.specs.Basics.{pick}
 use Rattle.model.specs.Table.{nodeCount, limitOf, treeOf}
 use Rattle.model.specs.Plan.{markAt, pageCount, pageWeight, badMark, heavyPage, verdictOf}
-use Rattle.model.specs.Refusals.{passes, without, noLabel, badMarks, markRefused, pageRefused, headChecks, nodeChecks}
-use Rattle.model.specs.Refusals.{weightChecks, formChecks, treeChecks, markChecks, judgeChecks, firstOf}
-use Rattle.model.specs.Refusals.{acceptedTree, checksWith, feasiblePlan, feasibleFilm, answerOf, refused, judgePlan}
+use Rattle.model.specs.Refusals.{Rules, passes, asked, noLabel, badMarks, markRefused, pageRefused, headChecks}
+use Rattle.model.specs.Refusals.{nodeChecks, weightChecks, formChecks, treeChecks, markChecks, judgeChecks, firstOf}
+use Rattle.model.specs.Refusals.{acceptedTree, plainRules, filmRules, feasibleBy, feasiblePlan, feasibleFilm}
+use Rattle.model.specs.Refusals.{answerOf, refused, judgePlan}
 use Rattle.model.specs.Demand.{Filed}
 use Rattle.model.specs.declared.Answer.{Answer}
 use Rattle.model.specs.declared.Edition.{Edition}
@@ -25,9 +26,8 @@ use Rattle.model.specs.declared.Place.the-variants.{At, Nowhere}
 use Rattle.model.specs.declared.Verdict.the-variants.{Feasible}
 use Rattle.theory.specs.Ranges.{Upto, when-false, when-nowhere, atPlace-nowhere, firstTo-none, firstTo-nowhere}
 use Rattle.theory.specs.Checks.{Pass, pass-all, passes-both, both-pass, firstOf-all}
-use Rattle.theory.specs.Checks.{firstOf-pass, firstOf-append, passes-unfiled, passes-filed, with-form, with-tree}
-use Rattle.theory.specs.Checks.{with-judge, filed-passes, node-stops}
-use Rattle.theory.specs.TableFacts.{SoundFacts, AcceptedFacts, nowhere-filed, unfiled-facts}
+use Rattle.theory.specs.Checks.{firstOf-pass, firstOf-append, asked-none, asked-less, node-stops}
+use Rattle.theory.specs.TableFacts.{SoundFacts, AcceptedFacts, nowhere-filed, passed-facts}
 use Rattle.theory.specs.TableNumbered.{tree-size}
 use Rattle.theory.specs.PlanShape.{allowed, weighed, AllWithin}
 use Rattle.theory.specs.PlanLaid.{FeasibleShape}
@@ -84,41 +84,65 @@ marks-judged t m a e =
       light = p .1 .1 .0;
     }
 
--- the judge with 14, or without, finds nothing
-abbrev pub feasibleWith : Bool → List ℕ → List ℕ → Bool
-feasibleWith filed t m = passes (checksWith filed (judgeChecks t m))
+-- the judge under rules finds nothing
+module _ (r : Rules) (t m : List ℕ) (f : feasibleBy r t m ≡ true) where
+  rule-parts : (passes (headChecks t) ≡ true) × (passes (nodeChecks (r .filed) t) ≡ true)
+      × (passes (weightChecks t) ≡ true) × (passes (markChecks t m) ≡ true)
+  unfolding judgeChecks treeChecks formChecks
+  rule-parts =
+      let plan = passes-both (treeChecks (r .filed) t) (markChecks t m) f in
+      let tree = passes-both (formChecks (r .filed) t) (weightChecks t) (plan .0) in
+      let form = passes-both (headChecks t) (nodeChecks (r .filed) t) (tree .0) in
+      (form .0, form .1, tree .1, plan .1)
 
-pub with-judged : (filed : Bool) (t m : List ℕ) → feasibleWith filed t m ≡ true → Judged t m
-with-judged filed t m e =
-    let parts =
-    passes-both (checksWith filed (treeChecks t)) (markChecks t m) (sym (ap passes (with-judge filed t m)) ∙ e) in
-    marks-judged t m (unfiled-facts t (passes-unfiled filed (treeChecks t) (parts .0))) (parts .1)
+  pub with-judged : Judged t m
+  unfolding judgeChecks
+  with-judged =
+      let plan = passes-both (treeChecks (r .filed) t) (markChecks t m) f in
+      marks-judged t m (passed-facts (r .filed) t (plan .0)) (plan .1)
+
+  labels-asked : asked (r .filed) (noLabel t) .place ≡ Nowhere
+  unfolding Pass nodeChecks
+  labels-asked = pass-all (nodeChecks (r .filed) t) .0 (rule-parts .1) .0
+
+  -- nor does the judge under others, where what they ask for applies nowhere
+  other-rules : (s : Rules) → asked (s .filed) (noLabel t) .place ≡ Nowhere → feasibleBy s t m ≡ true
+  unfolding Pass judgeChecks treeChecks formChecks nodeChecks
+  other-rules s labels =
+      let p = rule-parts in
+      let walk = pass-all (nodeChecks (r .filed) t) .0 (p .1) .1 in
+      both-pass (treeChecks (s .filed) t) (markChecks t m)
+      (both-pass (formChecks (s .filed) t) (weightChecks t)
+      (both-pass (headChecks t) (nodeChecks (s .filed) t) (p .0) (pass-all (nodeChecks (s .filed) t) .1 (labels, walk)))
+      (p .2))
+      (p .3)
+
+  -- nor under rules that ask no more
+  pub stricter : (s : Rules) → (s .filed ≡ true → r .filed ≡ true) → feasibleBy s t m ≡ true
+  stricter s filed = other-rules s (asked-less (r .filed) (s .filed) (noLabel t) filed labels-asked)
 
 pub feasible-judged : (t m : List ℕ) → feasiblePlan t m ≡ true → Judged t m
-unfolding feasiblePlan pick
-feasible-judged t m e = with-judged true t m e
+unfolding feasiblePlan
+feasible-judged t m e = with-judged plainRules t m e
 
 pub film-judged : (e : Edition) (t m : List ℕ) → feasibleFilm e t m ≡ true → Judged t m
 unfolding feasibleFilm
-film-judged e t m f = with-judged (e .filed) t m f
+film-judged e t m f = with-judged (filmRules e) t m f
 
 -- no label of an accepted tree is 0
 pub feasible-filed : (t m : List ℕ) → feasiblePlan t m ≡ true → Filed t
-unfolding Pass feasiblePlan judgeChecks treeChecks formChecks nodeChecks
-feasible-filed t m f =
-    let tree = passes-both (treeChecks t) (markChecks t m) f .0 in
-    let form = passes-both (formChecks t) (weightChecks t) tree .0 in
-    nowhere-filed t (pass-all (nodeChecks t) .0 (passes-both (headChecks t) (nodeChecks t) form .1) .0)
+unfolding feasiblePlan asked pick
+feasible-filed t m f = nowhere-filed t (labels-asked plainRules t m f)
 
 -- a feasible plan is one on film of every edition
 pub feasible-film : (e : Edition) (t m : List ℕ) → feasiblePlan t m ≡ true → feasibleFilm e t m ≡ true
 unfolding feasiblePlan feasibleFilm
-feasible-film e t m f = passes-filed (e .filed) (judgeChecks t m) f
+feasible-film e t m f = stricter plainRules t m f (filmRules e) (λ h. refl)
 
 pub judged-feasible : {t m : List ℕ} → acceptedTree t ≡ true → Judged t m → feasiblePlan t m ≡ true
 unfolding Pass feasiblePlan judgeChecks acceptedTree markChecks badMarks markRefused pageRefused
 judged-feasible {t} {m} e j =
-    both-pass (treeChecks t) (markChecks t m) e
+    both-pass (treeChecks true t) (markChecks t m) e
     (pass-all (markChecks t m) .1
     (when-false _ (nodeCount t) (ap not (eq-eqb (length m) (nodeCount t) (j .long))), (j .marked, (j .light, tt))))
 
@@ -136,47 +160,31 @@ pub feasible-judge : (t m : List ℕ) → feasiblePlan t m ≡ true
     → judgePlan t m ≡ answerOf (Feasible (pageCount t m) (pageWeight t m 1))
 unfolding judgePlan feasiblePlan
 feasible-judge t m e =
-    firstOf-all (judgeChecks t m) (answerOf (verdictOf t m)) e ∙ ap answerOf (judged-verdict (feasible-judged t m e))
+    firstOf-all (judgeChecks plainRules t m) (answerOf (verdictOf t m)) e
+    ∙ ap answerOf (judged-verdict (feasible-judged t m e))
 
 -- ---- A plan on film, in which nothing but labels is refused
 
 module _ (e : Edition) (t m : List ℕ) (f : feasibleFilm e t m ≡ true) where
-  unfiled-parts : (passes (headChecks t) ≡ true) × (passes (without 14 (nodeChecks t)) ≡ true)
-      × (passes (weightChecks t) ≡ true) × (passes (markChecks t m) ≡ true)
-  unfolding feasibleFilm pick
-  unfiled-parts =
-      let plan =
-      passes-both (without 14 (treeChecks t)) (markChecks t m)
-      (sym (ap passes (with-judge false t m)) ∙ passes-unfiled (e .filed) (judgeChecks t m) f) in
-      let tree =
-      passes-both (without 14 (formChecks t)) (weightChecks t) (sym (ap passes (with-tree false t)) ∙ plan .0) in
-      let form =
-      passes-both (headChecks t) (without 14 (nodeChecks t)) (sym (ap passes (with-form false t)) ∙ tree .0) in
-      (form .0, form .1, tree .1, plan .1)
-
   -- with no label 0 it is feasible
   pub filed-feasible : noLabel t .place ≡ Nowhere → feasiblePlan t m ≡ true
-  unfolding feasiblePlan judgeChecks treeChecks formChecks
-  filed-feasible none =
-      let p = unfiled-parts in
-      both-pass (treeChecks t) (markChecks t m)
-      (both-pass (formChecks t) (weightChecks t)
-      (both-pass (headChecks t) (nodeChecks t) (p .0) (filed-passes t (p .1) none)) (p .2))
-      (p .3)
+  unfolding feasiblePlan feasibleFilm
+  filed-feasible none = other-rules (filmRules e) t m f plainRules (asked-none true (noLabel t) none)
 
   -- with one, 14 is the answer
-  pub label-stops : (v : ℕ) → noLabel t .place ≡ At v → (a : Answer) → firstOf (judgeChecks t m) a ≡ refused 14 v
-  unfolding judgeChecks treeChecks formChecks
+  pub label-stops : (v : ℕ) → noLabel t .place ≡ At v → (a : Answer)
+      → firstOf (judgeChecks plainRules t m) a ≡ refused 14 v
+  unfolding feasibleFilm judgeChecks treeChecks formChecks
   label-stops v found a =
-      firstOf-append (treeChecks t) (markChecks t m) a
-      ∙ firstOf-append (formChecks t) (weightChecks t) (firstOf (markChecks t m) a)
-      ∙ firstOf-pass (headChecks t) (nodeChecks t) _ (unfiled-parts .0)
-      ∙ node-stops t (unfiled-parts .1) v found _
+      firstOf-append (treeChecks true t) (markChecks t m) a
+      ∙ firstOf-append (formChecks true t) (weightChecks t) (firstOf (markChecks t m) a)
+      ∙ firstOf-pass (headChecks t) (nodeChecks true t) _ (rule-parts (filmRules e) t m f .0)
+      ∙ node-stops t v found _
 
   -- film of a filed edition has none
   pub film-filed : e .filed ≡ true → feasiblePlan t m ≡ true
-  unfolding feasiblePlan feasibleFilm pick
-  film-filed is = rw is at f
+  unfolding feasiblePlan feasibleFilm
+  film-filed is = stricter (filmRules e) t m f plainRules (λ h. is)
 
 -- ---- By shape
 

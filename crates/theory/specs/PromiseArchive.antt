@@ -4,18 +4,17 @@
 -- Proves write-promise, written-back, writes-again, written-again, read-promise. Assumes nothing.
 use Prim.Native.Nat.{ℕ, _≤_}
 use native.Mathlib.Omega.{arith}
-use mathlib.Core.Bool.{Bool, true, false, true≢false}
+use mathlib.Core.Bool.{true, false, true≢false}
 use mathlib.Core.Path.{_≡_, refl, sym, _∙_, ap, ap₂}
 use mathlib.Core.Logic.{_↔_}
 use mathlib.Core.List.{List}
 use lib.ListN.{length}
-use Rattle.model.specs.Basics.{pick}
 use Rattle.model.specs.Table.{Bytes, maxNodes, nodeCount, tableBytes}
 use Rattle.model.specs.Plan.{pageCount, verdictOf}
 use Rattle.model.specs.Archive.{archiveOf, archiveBytes, nodesIn, tableIn, marksIn}
 use Rattle.model.specs.Refusals.{judgeChecks, filmChecks, firstOf, feasiblePlan, feasibleFilm, answerOf}
 use Rattle.model.specs.Refusals.{planBest, Written, writeChecked, writeChecks, writeArchive, writeFilm, isArchive}
-use Rattle.model.specs.Refusals.{Restored, readArchive}
+use Rattle.model.specs.Refusals.{Rules, filmRules, writerRules, feasibleBy, writeBy, Restored, readArchive}
 use Rattle.model.specs.Demand.{PlanLent, LowestOnFilm, WritePromise, WrittenFrom, Filed, ReadPromise}
 use Rattle.model.specs.declared.Verdict.the-variants.{Feasible, Failed}
 use Rattle.model.specs.declared.Beside.{Beside}
@@ -25,13 +24,13 @@ use Rattle.model.specs.declared.Edition.{Edition}
 use Rattle.theory.specs.Bools.{never-true}
 use Rattle.theory.specs.Checks.{firstOf-append, never-first, judge-fifteen}
 use Rattle.theory.specs.TableFacts.{filed-nowhere, unfiled-first}
-use Rattle.theory.specs.PlanFeasible.{Judged, feasibleWith, feasible-judged, film-judged, judged-verdict}
+use Rattle.theory.specs.PlanFeasible.{Judged, feasible-judged, film-judged, judged-verdict}
 use Rattle.theory.specs.PlanFeasible.{judged-zero, feasible-film, filed-feasible, film-filed, feasible-filed}
 use Rattle.theory.specs.PromiseWeight.{write-weight, read-five}
 use Rattle.theory.specs.PromisePlanner.{best-lent, best-plan, best-promise}
 use Rattle.theory.specs.ArchiveWords.{Described, length-archive, archive-nodes}
 use Rattle.theory.specs.ArchiveBack.{write-read, WritesBack, read-write, tableIn-bytes}
-use Rattle.theory.specs.ArchiveAnswers.{writeWith, write-done, write-many, write-fifteen, write-kept}
+use Rattle.theory.specs.ArchiveAnswers.{write-done, write-many, write-fifteen, write-kept}
 use Rattle.theory.specs.ArchiveAnswers.{WriteDone, writer-done}
 use Rattle.theory.specs.ArchiveAnswers.{unfiled-stops, read-none, read-done, read-kept, reader-done}
 use Rattle.theory.specs.ArchiveAnswers.{read-thirteen}
@@ -58,51 +57,54 @@ module _ {e : Edition} (d : Described e) (t m out : List ℕ) where
     best-accepted : (P W : ℕ) → planBest t lent scratch .answer ≡ answerOf (Feasible P W)
         → planBest t lent scratch .marks ≡ m → nodeCount t ≤ e .most → length out ≡ archiveBytes e P (nodeCount t)
         → writeArchive e t m out .answer .number ≡ 0
-    unfolding writeArchive writeChecks feasiblePlan pick
+    unfolding writeArchive feasiblePlan
     best-accepted P W a is few long =
         let f : feasiblePlan t m ≡ true = rw is at (plan-feasible (best-plan t lent scratch) lent-right) in
         let count : P ≡ pageCount t m =
         ap (λ (x : Answer). pagesBeside (x .beside)) (sym a ∙ best-plan t lent scratch .accepts lent-right .0)
         ∙ ap (pageCount t) is in
         ap (λ (w : Written). w .answer .number)
-        (write-done true e t m out f few (long ∙ ap (λ n. archiveBytes e n (nodeCount t)) count))
+        (write-done (writerRules e) e t m out f few (long ∙ ap (λ n. archiveBytes e n (nodeCount t)) count))
         ∙ judged-zero (feasible-judged t m f)
 
   -- an edition that takes as many nodes as a table has never too few
   never-fifteen : maxNodes ≤ e .most → writeArchive e t m out .answer .number ≡ 15 → ⊥
-  unfolding writeArchive writeChecked writeChecks feasiblePlan pick
+  unfolding writeArchive writeChecked writeChecks feasiblePlan
   never-fifteen room h =
+      let judging = judgeChecks (writerRules e) t m in
       let f =
-      never-first 15 (judgeChecks t m) (firstOf (filmChecks e t m out) (answerOf (verdictOf t m)))
-      (judge-fifteen t m)
+      never-first 15 judging (firstOf (filmChecks e t m out) (answerOf (verdictOf t m)))
+      (judge-fifteen (writerRules e) t m)
       (ap (λ (x : Answer). x .number)
-      (sym (firstOf-append (judgeChecks t m) (filmChecks e t m out) (answerOf (verdictOf t m))))
+      (sym (firstOf-append judging (filmChecks e t m out) (answerOf (verdictOf t m))))
       ∙ h) .0 in
-      write-fifteen true e t m out f (omega (arith, feasible-judged t m f .tree .sound .count-high)) h
+      write-fifteen (writerRules e) e t m out f (omega (arith, feasible-judged t m f .tree .sound .count-high)) h
 
   pub write-promise : WritePromise e t m out (writeArchive e t m out .answer) (writeArchive e t m out .output)
-  unfolding writeArchive writeChecks feasiblePlan pick
+  unfolding writeArchive feasiblePlan
   write-promise =
       record {
         accepts =
             λ lent scratch P W a is few long.
             best-accepted lent scratch (ap (λ (x : Answer). x .number) a) P W a is few long;
-        lowest = λ lent scratch z is done. rw (writer-done true e t m out done .wrote) (best-film lent scratch z is);
-        many = write-many true e t m out;
+        lowest =
+            λ lent scratch z is done.
+            rw (writer-done (writerRules e) e t m out done .wrote) (best-film lent scratch z is);
+        many = write-many (writerRules e) e t m out;
         few = never-fifteen;
-        kept = write-kept true e t m out;
+        kept = write-kept (writerRules e) e t m out;
         weight = write-weight t m e out;
       }
 
 -- ---- The reader
 
 module _ {e : Edition} (d : Described e) (a : List ℕ) where
-  -- an archive that was written, with 14 or without, as its edition's film is held, is one, and tells what it was
-  -- written from
-  module _ (filed : Bool) (film : (u n : List ℕ) → feasibleWith filed u n ≡ true → feasibleFilm e u n ≡ true)
-      (u n : List ℕ) (w : WrittenFrom (writeWith filed e) u n a) where
-    done : WriteDone filed e u n (w .out)
-    done = writer-done filed e u n (w .out) (w .accepts)
+  -- an archive that was written under rules that ask as much as those of its edition's film is one, and tells what it
+  -- was written from
+  module _ (rules : Rules) (film : (u n : List ℕ) → feasibleBy rules u n ≡ true → feasibleFilm e u n ≡ true)
+      (u n : List ℕ) (w : WrittenFrom (writeBy rules e) u n a) where
+    done : WriteDone rules e u n (w .out)
+    done = writer-done rules e u n (w .out) (w .accepts)
 
     same : archiveOf e u n ≡ a
     same = sym (ap (λ (x : Written). x .output) (done .wrote)) ∙ w .leaves
@@ -128,16 +130,16 @@ module _ {e : Edition} (d : Described e) (a : List ℕ) where
           ap (λ (x : Restored). x .marks) (sym r) ∙ back .1,
         )
 
-  -- an archive is written again by what it tells, as film is held, or with 14 where no label is 0
-  pub writes-again : (filed : Bool) → isArchive e a ≡ true → feasibleWith filed (tableIn e a) (marksIn e a) ≡ true
+  -- an archive is written again by what it tells, under rules by which that is feasible
+  pub writes-again : (rules : Rules) → isArchive e a ≡ true → feasibleBy rules (tableIn e a) (marksIn e a) ≡ true
       → (out : List ℕ) → length out ≡ length a
-      → writeWith filed e (tableIn e a) (marksIn e a) out
+      → writeBy rules e (tableIn e a) (marksIn e a) out
       ≡ record { answer = answerOf (verdictOf (tableIn e a) (marksIn e a)); output = a }
-  writes-again filed is f out long =
+  writes-again rules is f out long =
       let t : List ℕ = tableIn e a in
       let m : List ℕ = marksIn e a in
       let w : WritesBack e a = read-write e a is in
-      write-done filed e t m out f (omega (arith, w .few, ap (nodesIn e) (w .same), archive-nodes d t m))
+      write-done rules e t m out f (omega (arith, w .few, ap (nodesIn e) (w .same), archive-nodes d t m))
       (long ∙ ap length (sym (w .same)) ∙ length-archive d t m)
       ∙ ap (λ y. record { answer = answerOf (verdictOf t m); output = y }) (w .same)
 
@@ -152,8 +154,8 @@ module _ {e : Edition} (d : Described e) (a : List ℕ) where
     again-film : (out : List ℕ) → length out ≡ length a
         → writeFilm e (tableIn e a) (marksIn e a) out
         ≡ record { answer = answerOf (verdictOf (tableIn e a) (marksIn e a)); output = a }
-    unfolding writeFilm writeChecks feasibleFilm
-    again-film = writes-again (e .filed) is told
+    unfolding writeFilm feasibleFilm
+    again-film = writes-again (filmRules e) is told
 
     told-filed : e .filed ≡ true → Filed (tableIn e a)
     told-filed filed =
@@ -163,10 +165,10 @@ module _ {e : Edition} (d : Described e) (a : List ℕ) where
         → (feasiblePlan (tableIn e a) (marksIn e a) ≡ true) × ((out : List ℕ) → length out ≡ length a
         → writeArchive e (tableIn e a) (marksIn e a) out
         ≡ record { answer = answerOf (verdictOf (tableIn e a) (marksIn e a)); output = a })
-    unfolding writeArchive writeChecks feasiblePlan pick
+    unfolding writeArchive feasiblePlan
     again-filed labels =
         let f = filed-feasible e (tableIn e a) (marksIn e a) told (filed-nowhere (tableIn e a) labels) in
-        (f, writes-again true is f)
+        (f, writes-again (writerRules e) is f)
 
     written-again : Bytes a → WrittenFrom (writeFilm e) (tableIn e a) (marksIn e a) a
     written-again b =
@@ -180,9 +182,9 @@ module _ {e : Edition} (d : Described e) (a : List ℕ) where
 
   -- film of the edition, as far as the writer can tell
   pub film-written : Bytes a → (isArchive e a ≡ false) ↔ ((u n : List ℕ) → WrittenFrom (writeFilm e) u n a → ⊥)
-  unfolding writeFilm writeChecks feasibleFilm
+  unfolding writeFilm feasibleFilm
   film-written b = (
-    λ h u n w. true≢false (sym (back (e .filed) (λ x y f. f) u n w .2) ∙ h),
+    λ h u n w. true≢false (sym (back (filmRules e) (λ x y f. f) u n w .2) ∙ h),
     λ h. never-true (isArchive e a) (λ is. h (tableIn e a) (marksIn e a) (written-again is b)),
   )
 
@@ -196,11 +198,11 @@ module _ {e : Edition} (d : Described e) (a : List ℕ) where
     pub read-promise : (f : Edition) → (isArchive e a ≡ true → isArchive f a ≡ true → ⊥) → Bytes a
         → ReadPromise e f a table marks (readArchive e a table marks .answer) (readArchive e a table marks .table)
         (readArchive e a table marks .marks)
-    unfolding writeArchive writeFilm writeChecks feasiblePlan feasibleFilm pick
+    unfolding writeArchive writeFilm feasiblePlan feasibleFilm
     read-promise f apart b =
         record {
-          back = λ u n w. read-back (e .filed) (λ x y h. h) u n w table marks;
-          written = λ u n w. read-back true (feasible-film e) u n w table marks;
+          back = λ u n w. read-back (filmRules e) (λ x y h. h) u n w table marks;
+          written = λ u n w. read-back (writerRules e) (feasible-film e) u n w table marks;
           sound =
               λ z. rw (reader-done e a table marks z .1)
               (ap answerOf (judged-verdict (told-judged (is-archive z))), told (is-archive z));

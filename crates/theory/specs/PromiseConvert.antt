@@ -17,7 +17,7 @@ use Rattle.model.specs.Refusals.{badOutput, noArchive, noLabel, manyNodes, judg
 use Rattle.model.specs.Refusals.{readChecks}
 use Rattle.model.specs.Refusals.{feasiblePlan, feasibleFilm, answerOf, refused, Written, writeChecked}
 use Rattle.model.specs.Refusals.{writeArchive, isArchive, readArchive, convertChecks}
-use Rattle.model.specs.Refusals.{convertArchive}
+use Rattle.model.specs.Refusals.{writerRules, convertArchive}
 use Rattle.model.specs.Demand.{WritePromise, Filed, ConvertPromise}
 use Rattle.model.specs.declared.Place.the-variants.{At, Nowhere}
 use Rattle.model.specs.declared.Answer.{Answer}
@@ -82,7 +82,8 @@ module _ (e f : Edition) (a out : List ℕ) where
     unfolding writeArchive writeChecked writeChecks feasiblePlan
     label-passed none =
         ap (λ (y : Answer × Bool). record { answer = y .0; output = pick (y .1) (archiveOf f t m) out })
-        (outcome-after (judgeChecks t m) (filmChecks f t m out) told (filed-feasible e t m film-told none))
+        (outcome-after (judgeChecks (writerRules f) t m) (filmChecks f t m out) told
+        (filed-feasible e t m film-told none))
         ∙ converted-by (film-next ∙ outcome-next (noLabel t) (filmChecks f t m out) told none)
 
     -- else it is the writer of the other edition, handed what the archive tells
@@ -147,10 +148,10 @@ module _ {e f : Edition} (d : Described e) (d′ : Described f) (a out : List �
     is : isArchive e a ≡ true
     is = film-of e f a out (λ h. omega arith)
 
-    done : WriteDone true f (tableIn e a) (marksIn e a) out
-    unfolding writeArchive writeChecks pick
+    done : WriteDone (writerRules f) f (tableIn e a) (marksIn e a) out
+    unfolding writeArchive
     done =
-        writer-done true f (tableIn e a) (marksIn e a) out
+        writer-done (writerRules f) f (tableIn e a) (marksIn e a) out
         (ap (λ (w : Written). w .answer .number) (convert-write e f a out is) ∙ z)
 
     left : converted
@@ -158,14 +159,14 @@ module _ {e f : Edition} (d : Described e) (d′ : Described f) (a out : List �
           answer = answerOf (verdictOf (tableIn e a) (marksIn e a));
           output = archiveOf f (tableIn e a) (marksIn e a);
         }
-    unfolding writeArchive writeChecks pick
+    unfolding writeArchive
     left = sym (convert-write e f a out is) ∙ done .wrote
 
     -- it tells what was told
     back : (tableIn f (archiveOf f (tableIn e a) (marksIn e a)) ≡ tableIn e a)
         × (marksIn f (archiveOf f (tableIn e a) (marksIn e a)) ≡ marksIn e a)
         × (isArchive f (archiveOf f (tableIn e a) (marksIn e a)) ≡ true)
-    unfolding feasiblePlan pick
+    unfolding feasiblePlan
     back =
         write-read d′ (tableIn-bytes e a bytes) (feasible-film f (tableIn e a) (marksIn e a) (done .feasible))
         (done .few)
@@ -179,25 +180,25 @@ module _ {e f : Edition} (d : Described e) (d′ : Described f) (a out : List �
 
     and-back : (lent : List ℕ) → length lent ≡ length a
         → convertArchive f e (converted .output) lent ≡ record { answer = converted .answer; output = a }
-    unfolding writeArchive writeChecks pick
+    unfolding writeArchive
     and-back lent long =
         rw left
         (sym (convert-write f e (archiveOf f (tableIn e a) (marksIn e a)) lent (back .2))
         ∙ ap₂ (λ x y. writeArchive e x y lent) (back .0) (back .1)
-        ∙ writes-again d a true is (done .feasible) lent long)
+        ∙ writes-again d a (writerRules e) is (done .feasible) lent long)
 
   -- ---- What it refused
 
   not-fourteen : e .filed ≡ true → given ≡ 14 → ⊥
-  unfolding writeArchive writeChecks feasiblePlan pick
+  unfolding writeArchive feasiblePlan
   not-fourteen filed h =
       let is = film-of e f a out (λ q. omega arith) in
-      write-fourteen true f (tableIn e a) (marksIn e a) out
+      write-fourteen (writerRules f) f (tableIn e a) (marksIn e a) out
       (film-filed e (tableIn e a) (marksIn e a) (film-told e f a out is) filed)
       (ap (λ (w : Written). w .answer .number) (convert-write e f a out is) ∙ h)
 
   not-fifteen : e .most ≤ f .most → given ≡ 15 → ⊥
-  unfolding writeArchive writeChecks feasiblePlan pick
+  unfolding writeArchive feasiblePlan
   not-fifteen room h =
       let is = film-of e f a out (λ q. omega arith) in
       let number = ap (λ (w : Written). w .answer .number) (convert-write e f a out is) in
@@ -208,13 +209,13 @@ module _ {e f : Edition} (d : Described e) (d′ : Described f) (a out : List �
       go is number (inl x) =
           omega (arith, ap (λ (w : Written). w .answer .number) (label-stopped e f a out is (x .0) (x .1)))
       go is number (inr none) =
-          write-fifteen true f (tableIn e a) (marksIn e a) out
+          write-fifteen (writerRules f) f (tableIn e a) (marksIn e a) out
           (filed-feasible e (tableIn e a) (marksIn e a) (film-told e f a out is) none)
           (omega (arith, told-nodes is, read-write e a is .few))
           (number ∙ h)
 
   pub convert-promise : ConvertPromise e f a out (convertArchive e f a out .answer) (convertArchive e f a out .output)
-  unfolding feasiblePlan writeArchive writeChecks pick
+  unfolding feasiblePlan writeArchive
   convert-promise =
       record {
         none = (
@@ -236,7 +237,8 @@ module _ {e f : Edition} (d : Described e) (d′ : Described f) (a out : List �
             let is = film-of e f a out h in
             ap (λ (w : Written). w .answer .number)
             (sym (convert-write e f a out is)
-            ∙ write-done true f (tableIn e a) (marksIn e a) out (plan is labels) (omega (arith, told-nodes is))
+            ∙ write-done (writerRules f) f (tableIn e a) (marksIn e a) out (plan is labels)
+            (omega (arith, told-nodes is))
             (long ∙ ap₂ (archiveBytes f) (sym (told-pages is)) (sym (told-nodes is))))
             ∙ judged-zero (feasible-judged (tableIn e a) (marksIn e a) (plan is labels));
         figures = λ z. rw (left z) (archive-figures d′ (tableIn e a) (marksIn e a) (done z .judged));

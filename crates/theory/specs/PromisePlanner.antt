@@ -38,12 +38,12 @@ use Rattle.theory.specs.BestLowest.{best-judged, best-least-plan, best-l
 module _ (t m s : List ℕ) where
   plan-parts : passes (planChecks t m s) ≡ true → (acceptedTree t ≡ true) × (passes (lentChecks t m s) ≡ true)
   unfolding planChecks acceptedTree
-  plan-parts e = passes-both (treeChecks t) (lentChecks t m s) e
+  plan-parts e = passes-both (treeChecks true t) (lentChecks t m s) e
 
   pub lent-passes : PlanLent t m s → passes (planChecks t m s) ≡ true
   unfolding Pass planChecks lentChecks badMarks shortScratch acceptedTree
   lent-passes r =
-      both-pass (treeChecks t) (lentChecks t m s) (r .tree)
+      both-pass (treeChecks true t) (lentChecks t m s) (r .tree)
       (pass-all (lentChecks t m s) .1 (
         when-false _ (nodeCount t) (ap not (eq-eqb (length m) (nodeCount t) (r .marks))),
         (when-false _ words (le-ltb (length s) words (r .scratch)), tt),
@@ -119,7 +119,7 @@ module _ (steps : ℕ → Chain → List ℕ) (t m s : List ℕ) where
           λ h. absurd (omega (arith, ap (λ (a : Answer). a .number) (done-answer e))),
           λ h. absurd (omega (
             arith,
-            ap (λ (a : Answer). a .number) (firstOf-all (treeChecks t) accepted
+            ap (λ (a : Answer). a .number) (firstOf-all (treeChecks true t) accepted
                 (plan-parts t m s e .0)),
           )),
         )

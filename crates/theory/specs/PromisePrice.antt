@@ -12,7 +12,7 @@ use Rattle.model.specs.Plan.{verdictOf}
 use Rattle.model.specs.Steps.{bestMarks, singleMarks}
 use Rattle.model.specs.Prices.{totalCents, savingOf}
 use Rattle.model.specs.Refusals.{judgeChecks, planChecks, passes, feasiblePlan, answerOf, judgePlan, Planned, planned}
-use Rattle.model.specs.Refusals.{pricePlan, saveBest}
+use Rattle.model.specs.Refusals.{plainRules, pricePlan, saveBest}
 use Rattle.model.specs.Demand.{PricePromise, SavingPromise}
 use Rattle.model.specs.declared.Answer.{Answer}
 use Rattle.theory.specs.Bools.{bool-cases}
@@ -32,7 +32,7 @@ module _ (t m : List ℕ) where
   -- where the judge answers 0 the plan is feasible
   judge-passes : judgePlan t m .number ≡ 0 → feasiblePlan t m ≡ true
   unfolding judgePlan feasiblePlan
-  judge-passes z = accepted-pass (judgeChecks t m) (answerOf (verdictOf t m)) (judge-never t m) z
+  judge-passes z = accepted-pass (judgeChecks plainRules t m) (answerOf (verdictOf t m)) (judge-never plainRules t m) z
 
   pub priced-done : judgePlan t m .number ≡ 0 → pricePlan t m .cents ≡ totalCents t m
   unfolding pricePlan

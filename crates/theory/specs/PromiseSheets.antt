@@ -5,21 +5,20 @@ use Prim.Native.Nat.{ℕ, _*_, _^_, _≤_, _<_}
 use native.Mathlib.Omega.{arith}
 use native.Mathlib.Nat.{div-le-of-le-mul}
 use mathlib.Core.Bool.{true, _&&_}
-use mathlib.Core.Path.{_≡_, refl, sym, _∙_, ap}
+use mathlib.Core.Path.{_≡_, sym, _∙_, ap}
 use mathlib.Core.List.{List}
 use lib.ListN.{length}
 use lib.Dec.{eqb}
-use Rattle.model.specs.Basics.{pick, every}
 use Rattle.model.specs.Table.{maxNodes, nodeCount, limitOf}
 use Rattle.model.specs.Plan.{begins, hasMark, inRun, pageOf, pageCount, verdictOf}
 use Rattle.model.specs.Runs.{pageRun}
 use Rattle.model.specs.Sheets.{sheetBytes, sheetCount, pageAt, perCent, sheetsOf}
-use Rattle.model.specs.Refusals.{badOutput, sheetChecks, printChecks, passes, answerOf, refused, firstOf, readTree}
-use Rattle.model.specs.Refusals.{feasiblePlan, Written, printSheets}
+use Rattle.model.specs.Refusals.{sheetChecks, printChecks, passes, answerOf, refused, firstOf, readTree}
+use Rattle.model.specs.Refusals.{plainRules, feasiblePlan, Written, printSheets}
 use Rattle.model.specs.Demand.{PageTold, PrintPromise}
 use Rattle.model.specs.declared.Answer.{Answer}
 use Rattle.theory.specs.Ranges.{lastTo-le}
-use Rattle.theory.specs.Checks.{Never}
+use Rattle.theory.specs.Checks.{Never, sheet-plain}
 use Rattle.theory.specs.JudgeAnswers.{with-labels, pageCount-le}
 use Rattle.theory.specs.PlanFeasible.{Judged, within-limit, feasible-judged, judged-verdict}
 use Rattle.theory.specs.PagesByNumber.{lastOnPage, first-found, last-found}
@@ -77,9 +76,8 @@ module _ (t m out : List ℕ) where
   abbrev printFrom : Answer → Written
   printFrom = outputFrom t m (sheetsOf t m) out (sheetChecks t m out)
 
-  sheet-never : Never 0 (sheetChecks t m out) × Never 14 (sheetChecks t m out)
-  unfolding every sheetChecks badOutput
-  sheet-never = (λ p. refl, λ p. refl)
+  sheet-never : Never 0 (sheetChecks t m out)
+  sheet-never = sheet-plain t m out .0
 
   -- 12: the output has the wrong length
   pub sheet-short : (length out ≡ sheetBytes * sheetCount (pageCount t m) → ⊥)
@@ -93,16 +91,16 @@ module _ (t m out : List ℕ) where
   sheet-long fits = long-output _ out fits
 
   pub print-entry : {w : Written} (r : Answer) → w ≡ printFrom r → r ≡ readTree t → w ≡ printSheets t m out
-  unfolding printSheets printChecks pick
-  print-entry r h is = with-entry true t m (sheetsOf t m) out _ sheet-never r h (is ∙ sym (with-labels t))
+  unfolding printSheets printChecks
+  print-entry r h is = with-entry plainRules t m (sheetsOf t m) out _ sheet-never r h (is ∙ sym (with-labels t))
 
   -- ---- The promise
 
   wrote : printSheets t m out .answer .number ≡ 0
       → (feasiblePlan t m ≡ true)
       × (printSheets t m out ≡ record { answer = answerOf (verdictOf t m); output = sheetsOf t m })
-  unfolding printSheets printChecks feasiblePlan pick
-  wrote z = with-wrote true t m (sheetsOf t m) out _ sheet-never z
+  unfolding printSheets printChecks feasiblePlan
+  wrote z = with-wrote plainRules t m (sheetsOf t m) out _ sheet-never z
 
   pages-told : Judged t m → (p : ℕ) → 1 ≤ p → p ≤ pageCount t m → PageTold t m (sheetsOf t m) p
   unfolding sheetsOf
@@ -117,18 +115,18 @@ module _ (t m out : List ℕ) where
       }
 
   pub print-promise : PrintPromise t m out (printSheets t m out .answer) (printSheets t m out .output)
-  unfolding printSheets printChecks feasiblePlan sheetsOf pick
+  unfolding printSheets printChecks feasiblePlan sheetsOf
   print-promise =
       record {
         accepts =
             λ f fits.
-            ap (λ (w : Written). w .answer) (with-done true t m (sheetsOf t m) out _ sheet-never f (sheet-long fits))
+            ap (λ (w : Written). w .answer) (with-done plainRules t m (sheetsOf t m) out _ f (sheet-long fits))
             ∙ ap answerOf (judged-verdict (feasible-judged t m f));
         pages = λ z. rw (wrote z .1) (pages-told (feasible-judged t m (wrote z .0)));
         sheets =
             λ z s low high.
             let fits = sheets-fit (feasible-judged t m (wrote z .0)) s high in
             rw (wrote z .1) (sheet-numbers (pageCount t m) (limitOf t) (pageAt t m) s low high (fits .0) (fits .1));
-        kept = with-kept true t m (sheetsOf t m) out _ sheet-never;
+        kept = with-kept plainRules t m (sheetsOf t m) out _ sheet-never;
         weight = print-weight t m out;
       }

@@ -12,7 +12,7 @@ use mathlib.Core.List.{List, _++_, append-assoc}
 use Rattle.model.specs.Plan.{verdictOf}
 use Rattle.model.specs.Archive.{tableIn, marksIn}
 use Rattle.model.specs.Refusals.{Check, treeChecks, markChecks, filmChecks, sheetChecks, judgeChecks, writeChecks}
-use Rattle.model.specs.Refusals.{printChecks, passes}
+use Rattle.model.specs.Refusals.{plainRules, printChecks, passes}
 use Rattle.model.specs.Refusals.{answerOf, accepted, firstOf, readTree, judgePlan, writeChecked}
 use Rattle.model.specs.Refusals.{writeArchive, printSheets, readChecks, readArchive, convertChecks, convertArchive}
 use Rattle.model.specs.Demand.{WeightPromise}
@@ -39,25 +39,27 @@ weight-promise t r same never =
     }
 
 pub seven-tree : (t : List ℕ) (cs : List Check) (a : Answer) → Never 7 cs → (a .number ≡ 7 → ⊥)
-    → (firstOf (treeChecks t ++ cs) a .number ≡ 7) ↔ (readTree t .number ≡ 7)
+    → (firstOf (treeChecks true t ++ cs) a .number ≡ 7) ↔ (readTree t .number ≡ 7)
 unfolding readTree
-seven-tree t cs a never other = go (passes (treeChecks t)) refl
+seven-tree t cs a never other = go (passes (treeChecks true t)) refl
   where
-    go : (b : Bool) → passes (treeChecks t) ≡ b → (firstOf (treeChecks t ++ cs) a .number ≡ 7)
-        ↔ (firstOf (treeChecks t) accepted .number ≡ 7)
+    go : (b : Bool) → passes (treeChecks true t) ≡ b → (firstOf (treeChecks true t ++ cs) a .number ≡ 7)
+        ↔ (firstOf (treeChecks true t) accepted .number ≡ 7)
     go true e = (
       λ h. absurd (other (never-first 7 cs a never
-          (sym (ap (λ (x : Answer). x .number) (firstOf-pass (treeChecks t) cs a e)) ∙ h) .1)),
-      λ h. absurd (omega (arith, ap (λ (x : Answer). x .number) (firstOf-all (treeChecks t) accepted e))),
+          (sym (ap (λ (x : Answer). x .number) (firstOf-pass (treeChecks true t) cs a e)) ∙ h) .1)),
+      λ h. absurd (omega (arith, ap (λ (x : Answer). x .number) (firstOf-all (treeChecks true t) accepted e))),
     )
     go false e =
-        let q = ap (λ (x : Answer). x .number) (firstOf-stop (treeChecks t) cs a accepted e) in
+        let q = ap (λ (x : Answer). x .number) (firstOf-stop (treeChecks true t) cs a accepted e) in
         (λ h. sym q ∙ h, λ h. q ∙ h)
 
 pub five-tree : (t : List ℕ) (cs : List Check) (a : Answer) → Never 5 cs → (a .number ≡ 5 → ⊥)
-    → firstOf (treeChecks t ++ cs) a .number ≡ 5 → ⊥
+    → firstOf (treeChecks true t ++ cs) a .number ≡ 5 → ⊥
 five-tree t cs a never other h =
-    other (never-first 5 (treeChecks t ++ cs) a (never-append 5 (treeChecks t) cs (tree-never-five t) never) h .1)
+    other
+    (never-first 5 (treeChecks true t ++ cs) a
+    (never-append 5 (treeChecks true t) cs (tree-never-five true t) never) h .1)
 
 -- no verdict has number 7 or 5
 verdict-never : (v : Verdict) → (answerOf v .number ≡ 7 → ⊥) × (answerOf v .number ≡ 5 → ⊥)
@@ -69,11 +71,11 @@ pub read-weight : (t : List ℕ) → WeightPromise t (readTree t)
 unfolding readTree
 read-weight t =
     weight-promise t (readTree t) (λ h. h, λ h. h)
-    (λ h. omega (arith, never-first 5 (treeChecks t) accepted (tree-never-five t) h .1))
+    (λ h. omega (arith, never-first 5 (treeChecks true t) accepted (tree-never-five true t) h .1))
 
 -- an entry that checks the tree, then cs, and else has a verdict
 tree-weight : (t : List ℕ) (cs : List Check) (v : Verdict) → Never 7 cs → Never 5 cs
-    → WeightPromise t (firstOf (treeChecks t ++ cs) (answerOf v))
+    → WeightPromise t (firstOf (treeChecks true t ++ cs) (answerOf v))
 tree-weight t cs v seven five =
     weight-promise t _ (seven-tree t cs (answerOf v) seven (verdict-never v .0))
     (five-tree t cs (answerOf v) five (verdict-never v .1))
@@ -85,11 +87,11 @@ module _ (t m : List ℕ) where
 
   -- an entry that checks more after the judge
   judge-more : (cs : List Check) → Plain cs
-      → WeightPromise t (firstOf (judgeChecks t m ++ cs) (answerOf (verdictOf t m)))
+      → WeightPromise t (firstOf (judgeChecks plainRules t m ++ cs) (answerOf (verdictOf t m)))
   unfolding judgeChecks
   judge-more cs more =
       let plain = plain-append (markChecks t m) cs (mark-plain t m) more in
-      rw (append-assoc (treeChecks t) (markChecks t m) cs)
+      rw (append-assoc (treeChecks true t) (markChecks t m) cs)
       (tree-weight t (markChecks t m ++ cs) (verdictOf t m) (plain .1) (plain .2))
 
   pub write-weight : (e : Edition) (out : List ℕ) → WeightPromise t (writeArchive e t m out .answer)

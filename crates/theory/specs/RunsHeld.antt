@@ -215,32 +215,32 @@ refused-unheld t = (
 -- the tree reader answers 7 exactly where the tree is refused for weight
 pub seven-refused : (t : List ℕ) → (readTree t .number ≡ 7) ↔ (refusedForWeight t ≡ true)
 unfolding readTree treeChecks refusedForWeight soundForm acceptedTree
-seven-refused t = go (passes (formChecks t)) refl (passes (weightChecks t)) refl
+seven-refused t = go (passes (formChecks true t)) refl (passes (weightChecks t)) refl
   where
-    same : passes (treeChecks t) ≡ (passes (formChecks t) && passes (weightChecks t))
-    same = passes-append (formChecks t) (weightChecks t)
+    same : passes (treeChecks true t) ≡ (passes (formChecks true t) && passes (weightChecks t))
+    same = passes-append (formChecks true t) (weightChecks t)
 
-    go : (b : Bool) → passes (formChecks t) ≡ b → (c : Bool) → passes (weightChecks t) ≡ c
-        → (firstOf (treeChecks t) accepted .number ≡ 7) ↔ ((passes (formChecks t) && not (passes (treeChecks t)))
-        ≡ true)
+    go : (b : Bool) → passes (formChecks true t) ≡ b → (c : Bool) → passes (weightChecks t) ≡ c
+        → (firstOf (treeChecks true t) accepted .number ≡ 7)
+        ↔ ((passes (formChecks true t) && not (passes (treeChecks true t))) ≡ true)
     go true e true h = (
       λ z. absurd (omega (
         arith,
-        ap (λ (x : Answer). x .number) (firstOf-all (treeChecks t) accepted
+        ap (λ (x : Answer). x .number) (firstOf-all (treeChecks true t) accepted
             (same ∙ rw (e, h))),
       )),
       λ z. absurd (false≢true (sym (rw (same, e, h)) ∙ z)),
     )
     go true e false h = (
       λ z. rw (same, e, h),
-      λ z. ap (λ (x : Answer). x .number) (firstOf-pass (formChecks t) (weightChecks t) accepted e)
+      λ z. ap (λ (x : Answer). x .number) (firstOf-pass (formChecks true t) (weightChecks t) accepted e)
           ∙ weight-seven t accepted h,
     )
     go false e c h = (
       λ z. absurd
           (true≢false
-          (sym (never-first 7 (formChecks t) accepted (form-plain t .1)
-          (sym (ap (λ (x : Answer). x .number) (firstOf-stop (formChecks t) (weightChecks t) accepted accepted e))
+          (sym (never-first 7 (formChecks true t) accepted (form-plain true t .1)
+          (sym (ap (λ (x : Answer). x .number) (firstOf-stop (formChecks true t) (weightChecks t) accepted accepted e))
           ∙ z) .0)
           ∙ e)),
       λ z. absurd (false≢true (sym (rw e) ∙ z)),

@@ -2,7 +2,7 @@
 -- apart, since older film tells trees with labels 0.
 -- Defines SoundFacts, AcceptedFacts. Proves that they say what the parts of the list of checks say: head-facts,
 -- sound-facts, filed-nowhere, nowhere-filed, unfiled-first, facts-sound, light-passes; accepted-parts, sound-accepted,
--- unfiled-facts, accepted-facts, facts-accepted. Assumes nothing.
+-- passed-facts, accepted-facts, facts-accepted. Assumes nothing.
 use Prim.Native.Nat.{ℕ, _+_, _*_, _≤_}
 use native.Mathlib.Omega.{arith}
 use mathlib.Core.Bool.{Bool, true, false, not, _||_}
@@ -12,10 +12,9 @@ use mathlib.Core.List.{List, [], _∷_}
 use lib.ListN.{length}
 use lib.Dec.{eqb, ltb}
 use borrow.Author.Tests.{eqb-true, eqb-false, eq-eqb, ne-eqb, ltb-false, le-ltb, not-false}
-use Rattle.model.specs.Basics.{pick}
 use Rattle.model.specs.Table.{maxNodes, maxLimit, nodeCount, limitOf, weightAt, labelAt, nextAt, tableBytes, walkFrom}
 use Rattle.model.specs.Table.{walkPlace}
-use Rattle.model.specs.Refusals.{passes, without, headChecks, nodeChecks, weightChecks, formChecks, treeChecks}
+use Rattle.model.specs.Refusals.{passes, headChecks, nodeChecks, weightChecks, formChecks, treeChecks}
 use Rattle.model.specs.Refusals.{soundForm, acceptedTree}
 use Rattle.model.specs.Refusals.{shortTable, badCount, badLimit, badLength, noLabel, badWalk, heavyNode}
 use Rattle.model.specs.Demand.{Filed, FirstUnfiled}
@@ -23,7 +22,7 @@ use Rattle.model.specs.declared.Place.the-variants.{At, Nowhere}
 use Rattle.theory.specs.Bools.{both-false}
 use Rattle.theory.specs.Ranges.{Upto, pick-true, pick-false, when-false, when-nowhere, at-nowhere, firstTo-none}
 use Rattle.theory.specs.Ranges.{firstTo-nowhere, firstTo-first}
-use Rattle.theory.specs.Checks.{Pass, pass-all, passes-both, both-pass, passes-without, with-form, with-tree}
+use Rattle.theory.specs.Checks.{Pass, pass-all, passes-both, both-pass, asked-none}
 
 pub record SoundFacts (t : List ℕ) : Type 0 where
   pub count-low : 1 ≤ nodeCount t
@@ -79,12 +78,12 @@ head-facts t e =
           (not-false _ (when-nowhere _ (tableBytes (nodeCount t)) (p .1 .1 .1 .0))),
     )
 
-form-facts : (t : List ℕ) → passes (without 14 (formChecks t)) ≡ true → SoundFacts t
-unfolding Pass pick without nodeChecks noLabel badWalk
-form-facts t e =
-    let parts = passes-both (headChecks t) (without 14 (nodeChecks t)) (sym (ap passes (with-form false t)) ∙ e) in
+form-facts : (filed : Bool) (t : List ℕ) → passes (formChecks filed t) ≡ true → SoundFacts t
+unfolding Pass formChecks nodeChecks badWalk
+form-facts filed t e =
+    let parts = passes-both (headChecks t) (nodeChecks filed t) e in
     let h = head-facts t (parts .0) in
-    let p = pass-all (without 14 (nodeChecks t)) .0 (parts .1) in
+    let p = pass-all (nodeChecks filed t) .0 (parts .1) .1 in
     let alone : nextAt t 1 ≡ 0 = walk-alone t (p .0) in
     record {
       count-low = h .0 .0;
@@ -98,7 +97,7 @@ form-facts t e =
 
 pub sound-facts : (t : List ℕ) → soundForm t ≡ true → SoundFacts t
 unfolding soundForm
-sound-facts t e = form-facts t (passes-without 14 (formChecks t) e)
+sound-facts t e = form-facts true t e
 
 -- 14: no label is 0, or node v is the first
 pub filed-nowhere : (t : List ℕ) → Filed t → noLabel t .place ≡ Nowhere
@@ -126,10 +125,11 @@ unfiled-first t v f =
     })
 
 pub facts-sound : (t : List ℕ) → SoundFacts t → Filed t → soundForm t ≡ true
-unfolding Pass soundForm formChecks headChecks nodeChecks shortTable badCount badLimit badLength noLabel badWalk
+unfolding Pass soundForm formChecks headChecks nodeChecks shortTable badCount badLimit badLength badWalk
 facts-sound t s f =
-    both-pass (headChecks t) (nodeChecks t) (pass-all (headChecks t) .1 (short, (count, (limit, (long, tt)))))
-    (pass-all (nodeChecks t) .1 (filed-nowhere t f, (walk-is t (s .root-alone) ∙ s .walks, tt)))
+    both-pass (headChecks t) (nodeChecks true t) (pass-all (headChecks t) .1 (short, (count, (limit, (long, tt)))))
+    (pass-all (nodeChecks true t) .1
+    (asked-none true (noLabel t) (filed-nowhere t f), (walk-is t (s .root-alone) ∙ s .walks, tt)))
   where
     short : shortTable t .place ≡ Nowhere
     short = when-false (ltb (length t) 4) 0 (le-ltb (length t) 4 (omega (arith, s .bytes)))
@@ -161,23 +161,23 @@ light-passes t = (
 
 pub accepted-parts : (t : List ℕ) → acceptedTree t ≡ true → (soundForm t ≡ true) × (passes (weightChecks t) ≡ true)
 unfolding acceptedTree treeChecks soundForm
-accepted-parts t e = passes-both (formChecks t) (weightChecks t) e
+accepted-parts t e = passes-both (formChecks true t) (weightChecks t) e
 
 pub sound-accepted : (t : List ℕ) → soundForm t ≡ true → Upto (nodeCount t) (λ v. weightAt t v ≤ limitOf t)
     → acceptedTree t ≡ true
 unfolding acceptedTree treeChecks soundForm
-sound-accepted t e h = both-pass (formChecks t) (weightChecks t) e (light-passes t .1 h)
+sound-accepted t e h = both-pass (formChecks true t) (weightChecks t) e (light-passes t .1 h)
 
 -- accepted, or refused with nothing but 14
-pub unfiled-facts : (t : List ℕ) → passes (without 14 (treeChecks t)) ≡ true → AcceptedFacts t
-unfolding pick
-unfiled-facts t e =
-    let parts = passes-both (without 14 (formChecks t)) (weightChecks t) (sym (ap passes (with-tree false t)) ∙ e) in
-    record { sound = form-facts t (parts .0); light = light-passes t .0 (parts .1) }
+pub passed-facts : (filed : Bool) (t : List ℕ) → passes (treeChecks filed t) ≡ true → AcceptedFacts t
+unfolding treeChecks
+passed-facts filed t e =
+    let parts = passes-both (formChecks filed t) (weightChecks t) e in
+    record { sound = form-facts filed t (parts .0); light = light-passes t .0 (parts .1) }
 
 pub accepted-facts : (t : List ℕ) → acceptedTree t ≡ true → AcceptedFacts t
 unfolding acceptedTree
-accepted-facts t e = unfiled-facts t (passes-without 14 (treeChecks t) e)
+accepted-facts t e = passed-facts true t e
 
 pub facts-accepted : (t : List ℕ) → AcceptedFacts t → Filed t → acceptedTree t ≡ true
 facts-accepted t a f = sound-accepted t (facts-sound t (a .sound) f) (a .light)

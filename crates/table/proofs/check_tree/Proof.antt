@@ -6,11 +6,11 @@ use lib.Dec.{eqb, ltb}
 use denote.Ref.{now}
 use Rattle.model.specs.Basics.{pick, firstTo}
 use Rattle.model.specs.Table.{weightAt, labelAt}
-use Rattle.model.specs.Refusals.{noLabel, badWalk, heavyNode, weightChecks}
+use Rattle.model.specs.Refusals.{asked, noLabel, badWalk, heavyNode, nodeChecks, weightChecks}
 use Rattle.model.specs.declared.Answer.{Answer}
 use Rattle.model.specs.declared.Place.the-variants.{Nowhere}
 use Rattle.theory.specs.Checks.{firstOf-cons, firstOf-none}
-use Rattle.theory.specs.JudgeAnswers.{headAnswer, node-places, head-refuses, head-goes-on, head-count}
+use Rattle.theory.specs.JudgeAnswers.{headAnswer, nodeAnswer, head-refuses, head-goes-on, head-count}
 use borrow.Author.Needs.{needs}
 use Rattle.table.proofs.check_tree.Statement.{statement}
 use Rattle.table.proofs.check_tree.Tie as tie
@@ -36,7 +36,7 @@ walk-place-requires c κs =
     (count, omega (arith, count, head-count (now (h .before .before .args .table)) (sym (head-is h) ∙ e .if1 .left)))
 
 returns-2 : tie.Need-returns-2
-unfolding weightChecks noLabel badWalk heavyNode
+unfolding nodeAnswer nodeChecks weightChecks asked noLabel badWalk heavyNode
 returns-2 c =
     let l = c .before .before .before .before in
     let heavy = l .before .before in
@@ -54,7 +54,6 @@ returns-2 c =
     (heavy .first-heavier .ensures
     ∙ ap₂ (λ (k m : ℕ). firstTo k (λ v. ltb m (weightAt t v))) count (heavy .before .limit-of .ensures))
     (firstOf-none _ _ (c .before .before .before .accept .ensures)))))
-    ∙ node-places (a .filed) t
     ∙ head-goes-on (a .filed) t (sym (head-is h) ∙ n .before .if1 .left)
 
 pub check-tree-spec : {M : Type 1} → statement M

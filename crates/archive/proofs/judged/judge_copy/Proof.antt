@@ -6,11 +6,12 @@ use native.Mathlib.Omega.{arith}
 use lib.ListN.{length, take}
 use lib.Seq.{length-take-le}
 use Rattle.model.specs.Basics.{sameList}
+use Rattle.model.specs.Refusals.{filmRules, writeBy}
 use Rattle.model.specs.declared.Answer.{Answer}
 use Rattle.model.specs.declared.Edition.{Edition}
 use Rattle.theory.specs.JudgeAnswers.{with-facts}
 use Rattle.theory.specs.Outputs.{written}
-use Rattle.theory.specs.ArchiveAnswers.{writeWith, write-entry}
+use Rattle.theory.specs.ArchiveAnswers.{write-entry}
 use Rattle.archive.specs.Answers.{copy-refused, copy-long, copy-stopped, copy-differs, copy-same}
 use Rattle.archive.specs.Parts.{part-long, part-back}
 use borrow.Author.Needs.{needs}
@@ -52,9 +53,9 @@ module _ (w : tie.After-write-edition) where
   copied-long = w .write-edition .kept .1 .1 .1 .1 .0 ∙ fresh (w .before .before)
 
   wrote : written (w .write-edition .result) copied
-      ≡ writeWith (edition .filed) edition tree plan (lent (w .before .before))
+      ≡ writeBy (filmRules edition) edition tree plan (lent (w .before .before))
   wrote =
-      write-entry (edition .filed) edition tree plan (lent (w .before .before)) _ (w .write-edition .ensures)
+      write-entry (filmRules edition) edition tree plan (lent (w .before .before)) _ (w .write-edition .ensures)
       (w .before .before .check-tree .ensures)
 
 compared : (s : tie.After-same-bytes)

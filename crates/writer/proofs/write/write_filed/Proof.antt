@@ -1,8 +1,6 @@
 -- `writer::write::write_filed` meets its contract. Assumes nothing.
-use mathlib.Core.Bool.{true}
 use mathlib.Core.Path.{sym, ap, _∙_}
-use Rattle.model.specs.Basics.{pick}
-use Rattle.model.specs.Refusals.{writeChecks, writeArchive}
+use Rattle.model.specs.Refusals.{writerRules, writeArchive}
 use Rattle.model.specs.declared.Answer.{Answer}
 use Rattle.theory.specs.JudgeAnswers.{with-facts}
 use Rattle.theory.specs.ArchiveAnswers.{write-entry}
@@ -18,13 +16,13 @@ write-edition-requires c κs =
     )
 
 returns : tie.Need-returns
-unfolding writeArchive writeChecks pick
+unfolding writeArchive
 returns c =
     let w = c .before .before in
     let tree = w .before .before .check-tree in
     let a = w .before .before .before .before .before .before .args in
-    write-entry true (a .e) (a .table .now) (a .marks .now) (a .out .now) (tree .result) (w .write-edition .ensures)
-    (tree .ensures)
+    write-entry (writerRules (a .e)) (a .e) (a .table .now) (a .marks .now) (a .out .now) (tree .result)
+    (w .write-edition .ensures) (tree .ensures)
 
 pub write-filed-spec : {M : Type 1} → statement M
 write-filed-spec =
