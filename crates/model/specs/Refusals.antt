@@ -23,7 +23,6 @@ use Rattle.model.specs.declared.Verdict.the-variants.{Feasible, Failed}
 use Rattle.model.specs.declared.Beside.the-variants.{Given, Nothing}
 use Rattle.model.specs.declared.Answer.{Answer}
 use Rattle.model.specs.declared.Edition.{Edition}
-use Rattle.model.specs.declared.Price.{Price}
 
 -- ---- Rules: what is asked of a tree and a plan beyond what all are held to
 
@@ -164,9 +163,13 @@ weightChecks t = heavyNode t ∷ []
 unfoldable pub lentChecks : List ℕ → List ℕ → List ℕ → List Check
 lentChecks t m s = badMarks (nodeCount t) m ∷ shortScratch t s ∷ []
 
+-- what is found in a plan that is given: each with the verdict beside it
+unfoldable pub foundChecks : List ℕ → List ℕ → List Check
+foundChecks t m = markRefused t m ∷ pageRefused t m ∷ []
+
 -- a plan that is given
 unfoldable pub markChecks : List ℕ → List ℕ → List Check
-markChecks t m = badMarks (nodeCount t) m ∷ markRefused t m ∷ pageRefused t m ∷ []
+markChecks t m = badMarks (nodeCount t) m ∷ foundChecks t m
 
 -- the film that is to be written
 unfoldable pub filmChecks : Edition → List ℕ → List ℕ → List ℕ → List Check
@@ -233,6 +236,19 @@ unfoldable pub firstOf : List Check → Answer → Answer
 firstOf [] a = a
 firstOf (c ∷ cs) a = atPlace (c .place) (c .answer) (firstOf cs a)
 
+-- an answer, and what is left: every buffer that was lent, or an amount
+pub record Outcome (Told Left : Type 0) : Type 0 where
+  pub answer : Told
+  pub left : Left
+
+abbrev pub outcome : {Told Left : Type 0} → Told → Left → Outcome Told Left
+outcome r x = record { answer = r; left = x }
+
+-- An entry over a list of checks, with a plan or without: where none applies the answer is a, and what is done is left;
+-- else the first that applies answers, and what was lent is left as it was.
+unfoldable pub checked : {Left : Type 0} → List Check → Answer → Left → Left → Outcome Answer Left
+checked cs a done lent = outcome (firstOf cs a) (pick (passes cs) done lent)
+
 -- the tree reader
 unfoldable pub readTree : List ℕ → Answer
 readTree t = firstOf (treeChecks true t) accepted
@@ -244,50 +260,46 @@ judgeBy r t m = firstOf (judgeChecks r t m) (answerOf (verdictOf t m))
 unfoldable pub judgePlan : List ℕ → List ℕ → Answer
 judgePlan t m = judgeBy plainRules t m
 
--- a planner: its answer, and the marks and the scratch that it leaves
-pub record Planned : Type 0 where
-  pub answer : Answer
+-- a planner is lent marks and scratch
+pub record PlanBuffers : Type 0 where
   pub marks : List ℕ
   pub scratch : List ℕ
 
-unfoldable pub planned : (ℕ → Chain → List ℕ) → List ℕ → List ℕ → List ℕ → Planned
+abbrev pub planLeft : {Told : Type 0} → Told → List ℕ → List ℕ → Outcome Told PlanBuffers
+planLeft r m s = outcome r (record { marks = m; scratch = s })
+
+-- it leaves the plan that its steps make, with the judge's verdict, and cleared scratch
+unfoldable pub planned : (ℕ → Chain → List ℕ) → List ℕ → List ℕ → List ℕ → Outcome Answer PlanBuffers
 planned steps t m s =
     let made : List ℕ = steps (limitOf t) (treeOf t) in
-    pick (passes (planChecks t m s))
-    (record { answer = judgePlan t made; marks = made; scratch = replicate (length s) 0 })
-    (record { answer = firstOf (planChecks t m s) accepted; marks = m; scratch = s })
+    checked (planChecks t m s) (answerOf (verdictOf t made)) (record { marks = made; scratch = replicate (length s) 0 })
+    (record { marks = m; scratch = s })
 
-abbrev pub planBest : List ℕ → List ℕ → List ℕ → Planned
+abbrev pub planBest : List ℕ → List ℕ → List ℕ → Outcome Answer PlanBuffers
 planBest = planned bestMarks
 
-abbrev pub planLevel : List ℕ → List ℕ → List ℕ → Planned
+abbrev pub planLevel : List ℕ → List ℕ → List ℕ → Outcome Answer PlanBuffers
 planLevel = planned levelMarks
 
-abbrev pub planSingle : List ℕ → List ℕ → List ℕ → Planned
+abbrev pub planSingle : List ℕ → List ℕ → List ℕ → Outcome Answer PlanBuffers
 planSingle = planned singleMarks
 
-abbrev pub planPair : List ℕ → List ℕ → List ℕ → Planned
+abbrev pub planPair : List ℕ → List ℕ → List ℕ → Outcome Answer PlanBuffers
 planPair = planned pairMarks
 
-abbrev pub planRightmost : List ℕ → List ℕ → List ℕ → Planned
+abbrev pub planRightmost : List ℕ → List ℕ → List ℕ → Outcome Answer PlanBuffers
 planRightmost = planned rightmostMarks
 
-abbrev pub planDepthFirst : List ℕ → List ℕ → List ℕ → Planned
+abbrev pub planDepthFirst : List ℕ → List ℕ → List ℕ → Outcome Answer PlanBuffers
 planDepthFirst = planned depthFirstMarks
 
--- an entry that writes: its answer and the output that it leaves
-pub record Written : Type 0 where
-  pub answer : Answer
-  pub output : List ℕ
-
--- with the list of checks cs, for a plan with this verdict, it writes these bytes
-unfoldable pub writeChecked : List Check → Verdict → List ℕ → List ℕ → Written
-writeChecked cs verdict bytes out =
-    record { answer = firstOf cs (answerOf verdict); output = pick (passes cs) bytes out }
+-- an entry that writes is lent its output
+abbrev pub Written : Type 0
+Written = Outcome Answer (List ℕ)
 
 -- the writer of an edition under rules
 abbrev pub writeBy : Rules → Edition → List ℕ → List ℕ → List ℕ → Written
-writeBy r e t m out = writeChecked (writeChecks r e t m out) (verdictOf t m) (archiveOf e t m) out
+writeBy r e t m out = checked (writeChecks r e t m out) (answerOf (verdictOf t m)) (archiveOf e t m) out
 
 -- the archive writer
 unfoldable pub writeArchive : Edition → List ℕ → List ℕ → List ℕ → Written
@@ -304,22 +316,21 @@ isArchive e a =
     leb (nodesIn e a) (e .most)
     && (feasibleFilm e (tableIn e a) (marksIn e a) && sameList (archiveOf e (tableIn e a) (marksIn e a)) a)
 
--- the archive reader checks 13, then 12, then 8: its answer, and the table and the marks that it leaves
-pub record Restored : Type 0 where
-  pub answer : Answer
+-- the archive reader is lent a table and marks, and checks 13, then 12, then 8
+pub record ReadBuffers : Type 0 where
   pub table : List ℕ
   pub marks : List ℕ
+
+abbrev pub readLeft : {Told : Type 0} → Told → List ℕ → List ℕ → Outcome Told ReadBuffers
+readLeft r t m = outcome r (record { table = t; marks = m })
 
 unfoldable pub readChecks : Edition → List ℕ → List ℕ → List ℕ → List Check
 readChecks e a t m = noArchive (isArchive e a) ∷ backChecks (nodesIn e a) t m
 
-unfoldable pub readArchive : Edition → List ℕ → List ℕ → List ℕ → Restored
+unfoldable pub readArchive : Edition → List ℕ → List ℕ → List ℕ → Outcome Answer ReadBuffers
 readArchive e a t m =
-    record {
-      answer = firstOf (readChecks e a t m) (answerOf (verdictOf (tableIn e a) (marksIn e a)));
-      table = pick (passes (readChecks e a t m)) (tableIn e a) t;
-      marks = pick (passes (readChecks e a t m)) (marksIn e a) m;
-    }
+    checked (readChecks e a t m) (answerOf (verdictOf (tableIn e a) (marksIn e a)))
+    (record { table = tableIn e a; marks = marksIn e a }) (record { table = t; marks = m })
 
 -- A converter, from film of edition e to film of edition f: it checks 13, then 14, then 15 and 12, and writes the tree
 -- and the plan that the archive tells.
@@ -329,22 +340,24 @@ convertChecks e f a out =
 
 unfoldable pub convertArchive : Edition → Edition → List ℕ → List ℕ → Written
 convertArchive e f a out =
-    writeChecked (convertChecks e f a out) (verdictOf (tableIn e a) (marksIn e a))
+    checked (convertChecks e f a out) (answerOf (verdictOf (tableIn e a) (marksIn e a)))
     (archiveOf f (tableIn e a) (marksIn e a)) out
 
 -- the printer of leader sheets
 unfoldable pub printSheets : List ℕ → List ℕ → List ℕ → Written
-printSheets t m out = writeChecked (printChecks t m out) (verdictOf t m) (sheetsOf t m) out
+printSheets t m out = checked (printChecks t m out) (answerOf (verdictOf t m)) (sheetsOf t m) out
 
--- the price of a plan: the judge's answer, and the total of a plan that it accepts
-unfoldable pub pricePlan : List ℕ → List ℕ → Price
-pricePlan t m = record { answer = judgePlan t m; cents = pick (feasiblePlan t m) (totalCents t m) 0 }
+-- the price of a plan: the judge's answer with the total in cents, 0 on refusal
+unfoldable pub pricePlan : List ℕ → List ℕ → Outcome Answer ℕ
+pricePlan t m = checked (judgeChecks plainRules t m) (answerOf (verdictOf t m)) (totalCents t m) 0
 
--- the saving: all that the best planner gives and leaves, and the saving where nothing is refused
-pub record Saved : Type 0 where
-  pub best : Planned
+-- the saving: all that the best planner gives and leaves, with the saving in cents, 0 on refusal
+pub record SavingLeft : Type 0 where
+  pub best : PlanBuffers
   pub saving : ℤ
 
-unfoldable pub saveBest : List ℕ → List ℕ → List ℕ → Saved
-saveBest t m s =
-    record { best = planBest t m s; saving = pick (passes (planChecks t m s)) (savingOf t) (pos 0) }
+abbrev pub saved : {Told : Type 0} → Outcome Told PlanBuffers → ℤ → Outcome Told SavingLeft
+saved p z = outcome (p .answer) (record { best = p .left; saving = z })
+
+unfoldable pub saveBest : List ℕ → List ℕ → List ℕ → Outcome Answer SavingLeft
+saveBest t m s = saved (planBest t m s) (pick (passes (planChecks t m s)) (savingOf t) (pos 0))

@@ -1,5 +1,6 @@
 -- Document 01, 'Plans and pages': the sequences of sibling runs of demand 3, told from the tree alone.
 use Prim.Native.Nat.{ℕ, zero, suc, _-_}
+use mathlib.Core.Path.{_≡_}
 use mathlib.Core.Bool.{Bool, not, _&&_, _||_}
 use mathlib.Core.List.{List, [], _∷_}
 use lib.ListN.{length, getD}
@@ -42,6 +43,13 @@ isRootRun r = eqb (r .first) 1 && eqb (r .last) 1
 unfoldable pub countOf {ℓ} : {X : Type ℓ} → (X → Bool) → List X → ℕ
 countOf p [] = 0
 countOf p (x ∷ xs) = pick (p x) (suc (countOf p xs)) (countOf p xs)
+
+-- two sequences are the same, order apart: each run is as often in the one as in the other
+unfoldable pub sameRun : Run → Run → Bool
+sameRun r r′ = eqb (r .first) (r′ .first) && eqb (r .last) (r′ .last)
+
+abbrev pub OrderApart : List Run → List Run → Type 0
+OrderApart rs qs = (r : Run) → countOf (sameRun r) rs ≡ countOf (sameRun r) qs
 
 -- node v is in no two entries of the sequence
 abbrev pub inOneAtMost : List ℕ → List Run → ℕ → Bool

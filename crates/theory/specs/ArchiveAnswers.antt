@@ -1,50 +1,39 @@
 -- The answers of the archive's writer, under any rules, and of its reader, case by case, and what each tells.
--- writeFrom is the writer that goes on from the answer of whatever judged the tree: the reader judges its tree as its
--- edition's film is held, which may be without 14.
--- Defines writeFrom, WriteDone. Proves film-answer, film-fifteen, film-few, film-long; write-entry, write-done,
--- write-many, write-fourteen, write-fifteen, write-kept, writer-done, writer-refused; unfiled-stops; read-none,
--- read-table, read-marks, read-done, reader-done, read-thirteen. Assumes nothing.
+-- Defines WriteDone. Proves film-answer, film-fifteen, film-few, film-long; write-done, write-many, write-fourteen,
+-- write-fifteen, write-kept, writer-done, writer-refused; unfiled-stops; read-none, read-table, read-marks, read-done,
+-- reader-done, read-kept, read-thirteen. Assumes nothing.
 use Prim.Native.Nat.{ℕ, _≤_, _<_}
 use native.Mathlib.Omega.{arith}
-use mathlib.Core.Bool.{Bool, true, false, not, _&&_}
+use mathlib.Core.Bool.{true, false, not, _&&_}
 use mathlib.Core.Path.{_≡_, refl, sym, _∙_, ap, ap₂}
 use mathlib.Core.List.{List, [], _∷_, _++_}
 use lib.ListN.{length}
 use lib.Dec.{eqb, ltb}
 use borrow.Author.Tests.{not-false, eqb-true, ltb-false, lt-ltb, le-ltb}
-use Rattle.model.specs.Basics.{pick, when, atPlace, every, sameList}
+use Rattle.model.specs.Basics.{when, atPlace, every, sameList}
 use Rattle.model.specs.Table.{nodeCount, tableBytes}
 use Rattle.model.specs.Plan.{pageCount, verdictOf}
 use Rattle.model.specs.Archive.{archiveOf, archiveBytes, nodesIn, tableIn, marksIn}
 use Rattle.model.specs.Refusals.{badMarks, badOutput, noArchive, manyNodes, judgeChecks, filmChecks, backChecks}
 use Rattle.model.specs.Refusals.{writeChecks, readChecks, passes, answerOf, refused, firstOf, noLabel, feasibleFilm}
-use Rattle.model.specs.Refusals.{Rules, writerRules, feasibleBy, Written, writeChecked, writeBy}
-use Rattle.model.specs.Refusals.{writeArchive, isArchive, readArchive}
+use Rattle.model.specs.Refusals.{Check, Rules, writerRules, feasibleBy, Outcome, outcome, checked, Written, writeBy}
+use Rattle.model.specs.Refusals.{writeArchive, isArchive, ReadBuffers, readLeft, readArchive}
 use Rattle.model.specs.declared.Edition.{Edition}
 use Rattle.model.specs.declared.Place.the-variants.{At}
 use Rattle.model.specs.declared.Answer.{Answer}
 use Rattle.theory.specs.Bools.{never-true, both-true}
-use Rattle.theory.specs.Ranges.{when-true, when-false, when-nowhere}
-use Rattle.theory.specs.Checks.{Pass, pass-all, firstOf-all, Never, never-first, accepted-pass, film-plain}
-use Rattle.theory.specs.Checks.{firstOf-append, read-plain}
-use Rattle.theory.specs.JudgeAnswers.{treeAnswer}
-use Rattle.theory.specs.Outputs.{outcome, outcome-stop, outcome-next, outcome-none, unequal, equal, outputFrom}
-use Rattle.theory.specs.Outputs.{with-entry, with-done, with-wrote, with-passed, with-last, with-kept}
-use Rattle.theory.specs.PlanFeasible.{Judged, with-judged, film-judged}
-use Rattle.theory.specs.PlanFeasible.{judged-zero, label-stops}
+use Rattle.theory.specs.Ranges.{when-true, when-false, when-nowhere, atPlace-at, atPlace-nowhere}
+use Rattle.theory.specs.Checks.{Pass, pass-all, firstOf-append, Never, never-first, film-plain, read-plain}
+use Rattle.theory.specs.Entries.{unequal, equal, entry-none, entry-stop, entry-next, entry-passed}
+use Rattle.theory.specs.Entries.{entry-accepted, entry-kept}
+use Rattle.theory.specs.PlanFeasible.{Judged, with-judged, film-judged, judged-zero, label-stops}
+use Rattle.theory.specs.JudgedEntries.{given-zero, after-never, after-parts, after-zero, after-done, after-last}
 use Rattle.theory.specs.ArchiveWords.{Described, length-archive, archive-nodes}
 use Rattle.theory.specs.ArchiveBack.{sameList-true, read-write}
 
--- ---- The writer
+-- ---- What is checked of the film
 
 module _ (e : Edition) (t m out : List ℕ) where
-  -- the writer that goes on from the answer of what judged the tree
-  abbrev pub writeFrom : Answer → Written
-  writeFrom = outputFrom t m (archiveOf e t m) out (filmChecks e t m out)
-
-  film-never : Never 0 (filmChecks e t m out)
-  film-never = film-plain e t m out .0
-
   film-fourteen : Never 14 (filmChecks e t m out)
   unfolding every filmChecks manyNodes badOutput
   film-fourteen p = refl
@@ -65,22 +54,20 @@ module _ (e : Edition) (t m out : List ℕ) where
 
   -- 15 before 12, whatever the output
   film-many : (a : Answer) → e .most < nodeCount t → firstOf (filmChecks e t m out) a ≡ refused 15 (nodeCount t)
-  unfolding filmChecks manyNodes
+  unfolding firstOf filmChecks manyNodes
   film-many a many =
-      ap (λ (x : Answer × Bool). x .0)
-      (outcome-stop (manyNodes e t) (badOutput size out ∷ []) a (nodeCount t)
-      (when-true (ltb (e .most) (nodeCount t)) (nodeCount t) (lt-ltb (e .most) (nodeCount t) many)))
+      atPlace-at (manyNodes e t .place) (nodeCount t) (refused 15) _
+      (when-true (ltb (e .most) (nodeCount t)) (nodeCount t) (lt-ltb (e .most) (nodeCount t) many))
 
   -- 15 is for more nodes than the edition takes, and for nothing else
   pub film-fifteen : (a : Answer) → nodeCount t ≤ e .most → firstOf (filmChecks e t m out) a .number ≡ 15
       → a .number ≡ 15
-  unfolding filmChecks manyNodes badOutput every
+  unfolding firstOf filmChecks manyNodes badOutput every
   film-fifteen a few h =
       let next =
-      outcome-next (manyNodes e t) (badOutput size out ∷ []) a
+      atPlace-nowhere (manyNodes e t .place) (refused 15) (firstOf (badOutput size out ∷ []) a)
       (when-false (ltb (e .most) (nodeCount t)) (nodeCount t) (le-ltb (e .most) (nodeCount t) few)) in
-      never-first 15 (badOutput size out ∷ []) a (λ p. refl)
-      (sym (ap (λ (x : Answer × Bool). x .0 .number) next) ∙ h) .1
+      never-first 15 (badOutput size out ∷ []) a (λ p. refl) (sym (ap (λ (x : Answer). x .number) next) ∙ h) .1
 
   -- where both pass, the edition takes so many nodes, and the output has the right length
   pub film-few : passes (filmChecks e t m out) ≡ true
@@ -104,53 +91,47 @@ module _ (e : Edition) (t m out : List ℕ) where
 -- ---- The writer under rules
 
 module _ (rules : Rules) (e : Edition) (t m out : List ℕ) where
-  -- it goes on from the tree reader's answer
-  pub write-entry : {w : Written} (r : Answer) → w ≡ writeFrom e t m out r → r ≡ treeAnswer (rules .filed) t
-      → w ≡ writeBy rules e t m out
-  unfolding writeChecks
-  write-entry r h is = with-entry rules t m _ out _ (film-never e t m out) r h is
+  abbrev film : List Check
+  film = filmChecks e t m out
 
   pub write-done : feasibleBy rules t m ≡ true → nodeCount t ≤ e .most
       → length out ≡ archiveBytes e (pageCount t m) (nodeCount t)
-      → writeBy rules e t m out ≡ record { answer = answerOf (verdictOf t m); output = archiveOf e t m }
+      → writeBy rules e t m out ≡ outcome (answerOf (verdictOf t m)) (archiveOf e t m)
   unfolding writeChecks
-  write-done f few fits = with-done rules t m _ out _ f (film-long e t m out few fits)
+  write-done f few fits = after-done rules t m film _ _ f (film-long e t m out few fits)
+
+  write-last : feasibleBy rules t m ≡ true
+      → writeBy rules e t m out .answer ≡ firstOf (filmChecks e t m out) (answerOf (verdictOf t m))
+  unfolding writeChecks
+  write-last f = after-last rules t m film _ _ f
 
   -- 15: more nodes than the edition takes
   pub write-many : feasibleBy rules t m ≡ true → e .most < nodeCount t
       → writeBy rules e t m out .answer ≡ refused 15 (nodeCount t)
-  unfolding writeChecks
-  write-many f many = with-last rules t m _ out _ f ∙ film-many e t m out _ many
+  write-many f many = write-last f ∙ film-many e t m out _ many
 
   -- what the film is refused for, but for its length: no label, and where the edition takes so many nodes nothing else
   pub write-fourteen : feasibleBy rules t m ≡ true → writeBy rules e t m out .answer .number ≡ 14 → ⊥
-  unfolding writeChecks
   write-fourteen f h =
-      let last : writeBy rules e t m out .answer ≡ firstOf (filmChecks e t m out) (answerOf (verdictOf t m)) =
-      with-last rules t m _ out _ f in
       omega (
         arith,
-        never-first 14 (filmChecks e t m out) _ (film-fourteen e t m out)
-            (sym (ap (λ (x : Answer). x .number) last) ∙ h) .1,
-        judged-zero (with-judged rules t m f),
+        never-first 14 film _ (film-fourteen e t m out) (sym (ap (λ (x : Answer). x .number) (write-last f)) ∙ h) .1,
+        given-zero rules t m f,
       )
 
   pub write-fifteen : feasibleBy rules t m ≡ true → nodeCount t ≤ e .most
       → writeBy rules e t m out .answer .number ≡ 15 → ⊥
-  unfolding writeChecks
   write-fifteen f few h =
-      let last : writeBy rules e t m out .answer ≡ firstOf (filmChecks e t m out) (answerOf (verdictOf t m)) =
-      with-last rules t m _ out _ f in
       omega (
         arith,
-        film-fifteen e t m out _ few (sym (ap (λ (x : Answer). x .number) last) ∙ h),
-        judged-zero (with-judged rules t m f),
+        film-fifteen e t m out _ few (sym (ap (λ (x : Answer). x .number) (write-last f)) ∙ h),
+        given-zero rules t m f,
       )
 
   -- on refusal the output is as lent
-  pub write-kept : (writeBy rules e t m out .answer .number ≡ 0 → ⊥) → writeBy rules e t m out .output ≡ out
+  pub write-kept : (writeBy rules e t m out .answer .number ≡ 0 → ⊥) → writeBy rules e t m out .left ≡ out
   unfolding writeChecks
-  write-kept h = with-kept rules t m _ out _ (film-never e t m out) h
+  write-kept h = entry-kept _ _ out (judgeChecks rules t m ++ film) (after-zero rules t m film) h
 
   -- ---- What the writer's answer tells: it wrote an archive, or none of that length is written
 
@@ -158,18 +139,18 @@ module _ (rules : Rules) (e : Edition) (t m out : List ℕ) where
     pub feasible : feasibleBy rules t m ≡ true
     pub judged : Judged t m
     pub few : nodeCount t ≤ e .most
-    pub wrote : writeBy rules e t m out ≡ record { answer = answerOf (verdictOf t m); output = archiveOf e t m }
+    pub wrote : writeBy rules e t m out ≡ outcome (answerOf (verdictOf t m)) (archiveOf e t m)
 
   pub writer-done : writeBy rules e t m out .answer .number ≡ 0 → WriteDone
   unfolding writeChecks
   writer-done z =
-      let never = film-never e t m out in
-      let done = with-wrote rules t m _ out _ never z in
+      let never = after-never rules t m film (film-plain e t m out .0) in
+      let parts = after-parts rules t m film (entry-passed _ _ out (judgeChecks rules t m ++ film) never z) in
       record {
-        feasible = done .0;
-        judged = with-judged rules t m (done .0);
-        few = film-few e t m out (with-passed rules t m _ out _ never z) .0;
-        wrote = done .1;
+        feasible = parts .0;
+        judged = with-judged rules t m (parts .0);
+        few = film-few e t m out (parts .1) .0;
+        wrote = entry-accepted _ _ out (judgeChecks rules t m ++ film) never z;
       }
 
   pub writer-refused : Described e → (writeBy rules e t m out .answer .number ≡ 0 → ⊥) → (a : List ℕ)
@@ -184,15 +165,14 @@ module _ (rules : Rules) (e : Edition) (t m out : List ℕ) where
       (ap (λ (w : Written). w .answer .number)
       (write-done (both .0) (omega (arith, ap (nodesIn e) same, archive-nodes d t m))
       (long ∙ ap length (sym same) ∙ length-archive d t m))
-      ∙ judged-zero (with-judged rules t m (both .0))))
+      ∙ given-zero rules t m (both .0)))
 
 -- the writer of an edition, handed a tree and a plan from film, in which nothing but a label is refused
 pub unfiled-stops : (e f : Edition) (t m out : List ℕ) → feasibleFilm f t m ≡ true → (v : ℕ) → noLabel t .place ≡ At v
-    → writeArchive e t m out ≡ record { answer = refused 14 v; output = out }
-unfolding writeArchive writeChecked writeChecks
+    → writeArchive e t m out ≡ outcome (refused 14 v) out
+unfolding writeArchive checked writeChecks
 unfiled-stops e f t m out film v found =
-    ap₂ (λ (r : Answer) (a : List ℕ). record { answer = r; output = a }) answer
-    (write-kept (writerRules e) e t m out (λ z. omega (arith, ap (λ (r : Answer). r .number) answer)))
+    ap₂ outcome answer (write-kept (writerRules e) e t m out (λ z. omega (arith, ap (λ (r : Answer). r .number) answer)))
   where
     answer : firstOf (judgeChecks (writerRules e) t m ++ filmChecks e t m out) (answerOf (verdictOf t m)) ≡ refused 14 v
     answer =
@@ -207,66 +187,55 @@ module _ (e : Edition) (a t m : List ℕ) where
   abbrev nodes : ℕ
   nodes = nodesIn e a
 
-  restored-by : {r : Answer} (b : Bool) → outcome (readChecks e a t m) verdictIn ≡ (r, b)
-      → record { answer = r; table = pick b (tableIn e a) t; marks = pick b (marksIn e a) m } ≡ readArchive e a t m
-  unfolding readArchive
-  restored-by b h =
-      ap (λ (x : Answer × Bool).
-      record { answer = x .0; table = pick (x .1) (tableIn e a) t; marks = pick (x .1) (marksIn e a) m }) (sym h)
+  abbrev told : ReadBuffers
+  told = record { table = tableIn e a; marks = marksIn e a }
+
+  abbrev lent : ReadBuffers
+  lent = record { table = t; marks = m }
 
   -- 13
-  pub read-none : isArchive e a ≡ false → record { answer = refused 13 0; table = t; marks = m } ≡ readArchive e a t m
-  unfolding pick readChecks noArchive
+  pub read-none : isArchive e a ≡ false → readArchive e a t m ≡ readLeft (refused 13 0) t m
+  unfolding readArchive readChecks noArchive
   read-none n =
-      restored-by false
-      (outcome-stop (noArchive (isArchive e a)) (backChecks nodes t m) verdictIn 0
-      (when-true (not (isArchive e a)) 0 (ap not n)))
+      entry-stop verdictIn told lent (noArchive (isArchive e a)) (backChecks nodes t m) 0
+      (when-true (not (isArchive e a)) 0 (ap not n))
 
   module _ (is : isArchive e a ≡ true) where
-    archive-next : outcome (readChecks e a t m) verdictIn ≡ outcome (backChecks nodes t m) verdictIn
-    unfolding readChecks noArchive
+    archive-next : readArchive e a t m ≡ checked (backChecks nodes t m) verdictIn told lent
+    unfolding readArchive readChecks noArchive
     archive-next =
-        outcome-next (noArchive (isArchive e a)) (backChecks nodes t m) verdictIn
+        entry-next verdictIn told lent (noArchive (isArchive e a)) (backChecks nodes t m)
         (when-false (not (isArchive e a)) 0 (ap not is))
 
     -- 12
     pub read-table : (length t ≡ tableBytes (nodesIn e a) → ⊥)
-        → record { answer = refused 12 (tableBytes (nodesIn e a)); table = t; marks = m } ≡ readArchive e a t m
-    unfolding pick backChecks badOutput
+        → readArchive e a t m ≡ readLeft (refused 12 (tableBytes (nodesIn e a))) t m
+    unfolding backChecks badOutput
     read-table other =
-        restored-by false
-        (archive-next
-        ∙ outcome-stop (badOutput (tableBytes nodes) t) (badMarks nodes m ∷ []) verdictIn (tableBytes nodes)
-        (unequal (length t) (tableBytes nodes) other))
+        archive-next
+        ∙ entry-stop verdictIn told lent (badOutput (tableBytes nodes) t) (badMarks nodes m ∷ []) (tableBytes nodes)
+        (unequal (length t) (tableBytes nodes) other)
 
     module _ (fits : length t ≡ tableBytes (nodesIn e a)) where
-      table-next : outcome (readChecks e a t m) verdictIn ≡ outcome (badMarks nodes m ∷ []) verdictIn
+      table-next : readArchive e a t m ≡ checked (badMarks nodes m ∷ []) verdictIn told lent
       unfolding backChecks badOutput
       table-next =
           archive-next
-          ∙ outcome-next (badOutput (tableBytes nodes) t) (badMarks nodes m ∷ []) verdictIn
+          ∙ entry-next verdictIn told lent (badOutput (tableBytes nodes) t) (badMarks nodes m ∷ [])
           (equal (length t) (tableBytes nodes) fits)
 
       -- 8
-      pub read-marks : (length m ≡ nodesIn e a → ⊥)
-          → record { answer = refused 8 (nodesIn e a); table = t; marks = m } ≡ readArchive e a t m
-      unfolding pick badMarks
+      pub read-marks : (length m ≡ nodesIn e a → ⊥) → readArchive e a t m ≡ readLeft (refused 8 (nodesIn e a)) t m
+      unfolding badMarks
       read-marks other =
-          restored-by false
-          (table-next ∙ outcome-stop (badMarks nodes m) [] verdictIn nodes (unequal (length m) nodes other))
+          table-next ∙ entry-stop verdictIn told lent (badMarks nodes m) [] nodes (unequal (length m) nodes other)
 
       pub read-done : length m ≡ nodesIn e a
-          → record {
-            answer = answerOf (verdictOf (tableIn e a) (marksIn e a));
-            table = tableIn e a;
-            marks = marksIn e a;
-          }
-          ≡ readArchive e a t m
-      unfolding pick badMarks
+          → readArchive e a t m ≡ readLeft (answerOf (verdictOf (tableIn e a) (marksIn e a))) (tableIn e a) (marksIn e a)
+      unfolding badMarks
       read-done long =
-          restored-by true
-          (table-next ∙ outcome-next (badMarks nodes m) [] verdictIn (equal (length m) nodes long)
-          ∙ outcome-none verdictIn)
+          table-next ∙ entry-next verdictIn told lent (badMarks nodes m) [] (equal (length m) nodes long)
+          ∙ entry-none verdictIn told lent
 
   -- ---- What the reader's answer tells: the bytes are an archive, and the table and the marks are those that it tells
 
@@ -282,35 +251,27 @@ module _ (e : Edition) (a t m : List ℕ) where
   pub reader-done : readArchive e a t m .answer .number ≡ 0
       → (isArchive e a ≡ true)
       × (readArchive e a t m
-      ≡ record {
-        answer = answerOf (verdictOf (tableIn e a) (marksIn e a));
-        table = tableIn e a;
-        marks = marksIn e a;
-      })
-  unfolding readArchive pick
-  reader-done z =
-      let all : passes (readChecks e a t m) ≡ true =
-      accepted-pass (readChecks e a t m) verdictIn (read-plain e a t m .0) z in
-      (pass-archive all, rw (all, firstOf-all (readChecks e a t m) verdictIn all))
+      ≡ readLeft (answerOf (verdictOf (tableIn e a) (marksIn e a))) (tableIn e a) (marksIn e a))
+  unfolding readArchive
+  reader-done z = (
+    pass-archive (entry-passed verdictIn told lent (readChecks e a t m) (read-plain e a t m .0) z),
+    entry-accepted verdictIn told lent (readChecks e a t m) (read-plain e a t m .0) z,
+  )
 
   -- on refusal the table and the marks are as lent
   pub read-kept : (readArchive e a t m .answer .number ≡ 0 → ⊥)
-      → (readArchive e a t m .table ≡ t) × (readArchive e a t m .marks ≡ m)
-  unfolding readArchive pick
+      → (readArchive e a t m .left .table ≡ t) × (readArchive e a t m .left .marks ≡ m)
+  unfolding readArchive
   read-kept h =
-      let none : passes (readChecks e a t m) ≡ false = never-true (passes (readChecks e a t m)) (λ p. h (zero p)) in
-      (rw none, rw none)
-    where
-      zero : passes (readChecks e a t m) ≡ true → firstOf (readChecks e a t m) verdictIn .number ≡ 0
-      zero p =
-          ap (λ (x : Answer). x .number) (firstOf-all (readChecks e a t m) verdictIn p) ∙ archive-zero (pass-archive p)
+      let kept = entry-kept verdictIn told lent (readChecks e a t m) (λ p. archive-zero (pass-archive p)) h in
+      (ap (λ (x : ReadBuffers). x .table) kept, ap (λ (x : ReadBuffers). x .marks) kept)
 
   -- 13 is for bytes that are no archive
   pub read-thirteen : readArchive e a t m .answer .number ≡ 13 → isArchive e a ≡ false
-  unfolding readArchive backChecks badOutput badMarks every
+  unfolding checked backChecks badOutput badMarks every
   read-thirteen h =
       never-true (isArchive e a)
       (λ is.
-      let given = ap (λ (x : Answer × Bool). x .0 .number) (archive-next is) in
+      let given = ap (λ (x : Outcome Answer ReadBuffers). x .answer .number) (archive-next is) in
       let last = never-first 13 (backChecks nodes t m) verdictIn (λ p. refl) (sym given ∙ h) in
       omega (arith, last .1, archive-zero is))

@@ -1,7 +1,7 @@
 -- Writing and reading back, in an edition. The archive of a tree and a plan in which the judge that film is held
 -- against finds nothing tells that very table and those very marks, so it passes the reader's test; an archive that
 -- passes the test is written by the tree and the plan that it tells, and is of no other edition.
--- Defines tableRow. Proves judged-light, write-read, read-write, editions-apart, tableIn-bytes. Assumes nothing.
+-- Defines tableRow. Proves write-read, read-write, editions-apart, tableIn-bytes. Assumes nothing.
 use Prim.Native.Nat.{ℕ, zero, suc, _+_, _-_, _*_, _/_, _%_, _≤_, _<_}
 use native.Mathlib.Omega.{arith}
 use mathlib.Core.Bool.{Bool, true, false, _&&_, false≢true}
@@ -11,12 +11,12 @@ use mathlib.Core.List.{List, [], _∷_}
 use lib.ListN.{length, getD}
 use lib.Seq.{ext-getD}
 use lib.Dec.{eqb, ltb, leb}
-use borrow.Author.Tests.{eqb-true, eqb-false, eq-eqb, ne-eqb, ltb-true, ltb-false, lt-ltb, le-ltb, le-leb, leb-true}
+use borrow.Author.Tests.{eqb-true, eqb-false, eq-eqb, ne-eqb, ltb-true, lt-ltb, le-ltb, le-leb, leb-true}
 use Rattle.model.specs.Basics.{pick, atPlace, countTo, firstTo, listTo, sameList}
 use Rattle.model.specs.Table.{Bytes, wordAt, bytesOf, nodeCount, limitOf, fieldAt, tableBytes}
 use Rattle.model.specs.Table.{weightAt, labelAt, firstAt, nextAt}
 use Rattle.model.specs.Plan.{parentAt, stays, begins, continues, markAt, hasMark}
-use Rattle.model.specs.Plan.{heavyPage, pageCount, pageWeight, runLast}
+use Rattle.model.specs.Plan.{pageCount, runLast}
 use Rattle.model.specs.Runs.{Run}
 use Rattle.model.specs.Archive.{firstEdition, secondEdition}
 use Rattle.model.specs.Archive.{archiveOf, nodesIn, limitIn, pagesIn, pageFieldIn, nodeFieldIn, parentIn, firstIn}
@@ -29,7 +29,7 @@ use Rattle.model.specs.declared.Place.the-variants.{At, Nowhere}
 use Rattle.theory.specs.Bools.{both-true, and-true, and-false-left}
 use Rattle.theory.specs.Ranges.{Upto, pick-true, pick-false, atPlace-at, atPlace-nowhere, place-cases}
 use Rattle.theory.specs.Ranges.{countTo-none}
-use Rattle.theory.specs.Ranges.{firstTo-cong, firstTo-at, firstTo-nowhere, listTo-cong, length-listTo}
+use Rattle.theory.specs.Ranges.{firstTo-cong, firstTo-at, listTo-cong, length-listTo}
 use Rattle.theory.specs.Ranges.{getD-listTo}
 use Rattle.theory.specs.TableFacts.{SoundFacts}
 use Rattle.theory.specs.Chosen.{countTo-mono, countTo-pass, countTo-some}
@@ -42,13 +42,6 @@ use Rattle.theory.specs.Put.{length-recordsTo, getD-recordsTo}
 use Rattle.theory.specs.ArchiveWords.{Described, archive-nodes}
 use Rattle.theory.specs.ArchiveWords.{archive-limit, archive-pages, archive-begin, archive-end, archive-node}
 use Rattle.theory.specs.ArchiveWords.{archive-parent, second-word}
-
--- a feasible plan's pages are within the limit
-pub judged-light : {t m : List ℕ} → Judged t m → Upto (pageCount t m) (λ q. pageWeight t m q ≤ limitOf t)
-unfolding heavyPage
-judged-light {t} {m} p q low high =
-    ltb-false (limitOf t) (pageWeight t m q)
-    (firstTo-nowhere (pageCount t m) (λ x. ltb (limitOf t) (pageWeight t m x)) (p .light) q low high)
 
 -- ---- A table is told by its words
 

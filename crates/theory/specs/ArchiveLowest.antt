@@ -1,11 +1,10 @@
 -- Demand 3 read off the archive's bytes, in an edition: page count, the weight in page record 1 and the runs in the
 -- page records are the plan's; so where a planner promises that its plan is the lowest, the archive of that plan is the
 -- lowest too.
--- Proves archive-figures, plan-feasible, film-lowest. Assumes nothing.
+-- Proves archive-figures, archive-plan, film-lowest. Assumes nothing.
 use Prim.Native.Nat.{ℕ, suc, _-_, _≤_, _<_}
 use native.Mathlib.Omega.{arith}
 use mathlib.Core.Path.{_≡_, sym, _∙_, ap, ap₂}
-use mathlib.Core.Bool.{true}
 use mathlib.Core.List.{List, [], _∷_}
 use lib.ListN.{getD}
 use lib.Seq.{ext-getD}
@@ -13,8 +12,9 @@ use Rattle.model.specs.Basics.{listTo}
 use Rattle.model.specs.Plan.{pageCount, pageWeight, verdictOf}
 use Rattle.model.specs.Runs.{rootRun, runsOf, pageRun}
 use Rattle.model.specs.Archive.{archiveOf, pagesIn}
-use Rattle.model.specs.Refusals.{answerOf, feasiblePlan}
-use Rattle.model.specs.Demand.{PlanLent, PlanPromise, BestPromise, runIn, runsIn, rootIn, LowestOnFilm}
+use Rattle.model.specs.Refusals.{answerOf}
+use Rattle.model.specs.Demand.{PlanLent, PlanPromise, BestPromise, runIn, runsIn, rootIn, PlanOnFilm}
+use Rattle.model.specs.Demand.{LowestOnFilm}
 use Rattle.model.specs.declared.Verdict.the-variants.{Feasible, Failed}
 use Rattle.model.specs.declared.Beside.{Beside}
 use Rattle.model.specs.declared.Beside.the-variants.{Given, Nothing}
@@ -65,6 +65,9 @@ module _ {e : Edition} (d : Described e) (t m : List ℕ) where
         ap answerOf (judged-verdict judged)
         ∙ ap₂ (λ (x y : ℕ). answerOf (Feasible x y)) (sym (archive-pages d t m)) (sym root-back)
 
+    pub archive-plan : PlanOnFilm e t m (archiveOf e t m)
+    archive-plan = record { pages = archive-pages d t m; root = root-back; runs = archive-runs }
+
 -- ---- The archive of a plan that its planner promises to be the lowest
 
 -- the root weight of the verdict beside an answer
@@ -75,11 +78,8 @@ rootBeside Nothing = 0
 
 module _ {t m s marks scratch : List ℕ} {r : Answer} (p : PlanPromise t m s r marks scratch)
     (ready : PlanLent t m s) where
-  pub plan-feasible : feasiblePlan t marks ≡ true
-  plan-feasible = p .accepts ready .1
-
   judged : Judged t marks
-  judged = feasible-judged t marks plan-feasible
+  judged = feasible-judged t marks (p .accepts ready .1)
 
   module _ {e : Edition} (d : Described e) where
     abbrev film : List ℕ

@@ -1,30 +1,29 @@
 -- Lists of checks, one after the other: where all pass, which of them answers, and which numbers they never give. A
 -- list is told by its parts, so that a check put into one of them is met here and in the facts that the part stands
 -- for, and nowhere else.
--- Defines Pass, Never, Plain, andThen. Proves pass-all, passes-append, passes-both, both-pass; firstOf-pass,
--- firstOf-stop, firstOf-all, firstOf-cons, firstOf-append; never-append, never-first, accepted-pass, refused-fails;
+-- Defines Pass, Never, Plain. Proves pass-all, passes-append, passes-both, both-pass; firstOf-pass, firstOf-stop,
+-- firstOf-fails, firstOf-all, firstOf-cons, firstOf-append; never-append, never-first, accepted-pass, refused-fails;
 -- that no check gives 0 or 5, that of the weights alone 7, and that of the judge none 15 (head-plain to convert-plain);
--- then-next, then-stands, then-both, firstOf-then; of a check that a rule asks for asked-none, asked-less, node-stops.
--- Assumes nothing.
+-- of a check that a rule asks for asked-none, asked-less, node-stops. Assumes nothing.
 use Prim.Native.Nat.{ℕ}
 use mathlib.Core.Path.{_≡_, refl, sym, ap, ap₂, _∙_}
 use mathlib.Core.Bool.{Bool, true, false, not, _&&_, false≢true, true≢false}
 use mathlib.Core.Logic.{_↔_}
 use mathlib.Core.List.{List, [], _∷_, _++_, append-nil}
 use lib.Dec.{eqb}
-use borrow.Author.Tests.{eqb-true, eqb-false, eq-eqb, ne-eqb}
+use borrow.Author.Tests.{eq-eqb}
 use Rattle.model.specs.Basics.{pick, atPlace, every}
-use Rattle.model.specs.Refusals.{Rules, Check, accepted, refused, firstOf, passes, asked}
+use Rattle.model.specs.Refusals.{Rules, Check, refused, firstOf, passes, asked}
 use Rattle.model.specs.Refusals.{shortTable, badCount, badLimit, badLength, badWalk, heavyNode, badMarks}
 use Rattle.model.specs.Refusals.{shortScratch, markRefused, pageRefused, badOutput, noArchive, noLabel, manyNodes}
-use Rattle.model.specs.Refusals.{headChecks, nodeChecks, weightChecks, lentChecks, markChecks, filmChecks, backChecks}
-use Rattle.model.specs.Refusals.{sheetChecks, formChecks, treeChecks, planChecks, judgeChecks, readChecks}
+use Rattle.model.specs.Refusals.{headChecks, nodeChecks, weightChecks, lentChecks, foundChecks, markChecks, filmChecks}
+use Rattle.model.specs.Refusals.{backChecks, sheetChecks, formChecks, treeChecks, planChecks, judgeChecks, readChecks}
 use Rattle.model.specs.Refusals.{convertChecks}
 use Rattle.model.specs.declared.Place.{Place}
 use Rattle.model.specs.declared.Place.the-variants.{At, Nowhere}
 use Rattle.model.specs.declared.Answer.{Answer}
 use Rattle.model.specs.declared.Edition.{Edition}
-use Rattle.theory.specs.Ranges.{at-nowhere, pick-true, pick-false, atPlace-at}
+use Rattle.theory.specs.Ranges.{at-nowhere, atPlace-at}
 use Rattle.theory.specs.Bools.{both-true, and-true}
 
 -- ---- Checks that pass
@@ -84,6 +83,11 @@ firstOf-stop (c ∷ cs) ds a b e = go (c .place) (firstOf-stop cs ds a b) e
         → atPlace o (c .answer) (firstOf (cs ++ ds) a) ≡ atPlace o (c .answer) (firstOf cs b)
     go (At p) ih h = refl
     go Nowhere ih h = ih h
+
+-- whatever answer they are given
+pub firstOf-fails : (cs : List Check) (a b : Answer) → passes cs ≡ false → firstOf cs a ≡ firstOf cs b
+firstOf-fails cs a b e =
+    ap (λ (ds : List Check). firstOf ds a) (sym (append-nil cs)) ∙ firstOf-stop cs [] a b e
 
 -- where all checks pass, the answer stands
 pub firstOf-all : (cs : List Check) (a : Answer) → passes cs ≡ true → firstOf cs a ≡ a
@@ -192,7 +196,7 @@ unfolding every lentChecks badMarks shortScratch
 lent-plain t m s = (λ p. refl, λ p. refl, λ p. refl)
 
 pub mark-plain : (t m : List ℕ) → Plain (markChecks t m)
-unfolding every markChecks badMarks markRefused pageRefused
+unfolding every markChecks badMarks foundChecks markRefused pageRefused
 mark-plain t m = (λ p. refl, λ p. refl, λ p. refl)
 
 pub film-plain : (e : Edition) (t m out : List ℕ) → Plain (filmChecks e t m out)
@@ -228,8 +232,8 @@ judge-never r t m =
     never-append 0 (treeChecks (r .filed) t) (markChecks t m) (tree-never (r .filed) t) (mark-plain t m .0)
 
 pub judge-fifteen : (r : Rules) (t m : List ℕ) → Never 15 (judgeChecks r t m)
-unfolding every judgeChecks treeChecks formChecks headChecks nodeChecks weightChecks markChecks shortTable badCount
-    badLimit badLength asked noLabel badWalk heavyNode badMarks markRefused pageRefused
+unfolding every judgeChecks treeChecks formChecks headChecks nodeChecks weightChecks markChecks foundChecks
+    shortTable badCount badLimit badLength asked noLabel badWalk heavyNode badMarks markRefused pageRefused
 judge-fifteen r t m p = refl
 
 pub read-plain : (e : Edition) (a t m : List ℕ) → Plain (readChecks e a t m)
@@ -239,44 +243,6 @@ read-plain e a t m = (λ p. refl, λ p. refl, λ p. refl)
 pub convert-plain : (e f : Edition) (a out : List ℕ) → Plain (convertChecks e f a out)
 unfolding every convertChecks filmChecks noArchive noLabel manyNodes badOutput
 convert-plain e f a out = (λ p. refl, λ p. refl, λ p. refl)
-
--- ---- Going on from an answer
-
--- an answer that refuses stands, and one that accepts leaves it to the next
-unfoldable pub andThen : Answer → Answer → Answer
-andThen r s = pick (eqb (r .number) 0) s r
-
-pub then-next : (r s : Answer) → r .number ≡ 0 → andThen r s ≡ s
-unfolding andThen
-then-next r s e = pick-true (eqb (r .number) 0) s r (eq-eqb (r .number) 0 e)
-
-pub then-stands : (r s : Answer) → (r .number ≡ 0 → ⊥) → andThen r s ≡ r
-unfolding andThen
-then-stands r s h = pick-false (eqb (r .number) 0) s r (ne-eqb (r .number) 0 h)
-
--- both accept where the answer is acceptance
-pub then-both : (r s : Answer) → andThen r s .number ≡ 0 → (r .number ≡ 0) × (s .number ≡ 0)
-then-both r s e = go (eqb (r .number) 0) refl
-  where
-    go : (b : Bool) → eqb (r .number) 0 ≡ b → (r .number ≡ 0) × (s .number ≡ 0)
-    go true q =
-        let z = eqb-true (r .number) 0 q in (z, sym (ap (λ (x : Answer). x .number) (then-next r s z)) ∙ e)
-    go false q =
-        let other = eqb-false (r .number) 0 q in
-        absurd (other (sym (ap (λ (x : Answer). x .number) (then-stands r s other)) ∙ e))
-
--- checks after others, from the others' own answer
-pub firstOf-then : (cs ds : List Check) (a : Answer) → Never 0 cs
-    → firstOf (cs ++ ds) a ≡ andThen (firstOf cs accepted) (firstOf ds a)
-firstOf-then cs ds a never = go (passes cs) refl
-  where
-    go : (b : Bool) → passes cs ≡ b → firstOf (cs ++ ds) a ≡ andThen (firstOf cs accepted) (firstOf ds a)
-    go true e =
-        firstOf-pass cs ds a e
-        ∙ sym (then-next _ _ (ap (λ (x : Answer). x .number) (firstOf-all cs accepted e)))
-    go false e =
-        firstOf-stop cs ds a accepted e
-        ∙ sym (then-stands _ _ (λ z. true≢false (sym (accepted-pass cs accepted never z) ∙ e)))
 
 -- ---- A check that a rule asks for
 

@@ -7,8 +7,9 @@ pub mod Sums
 pub mod Chosen
 pub mod Lists
 pub mod Words
--- Lists of checks
+-- Lists of checks, and entries over them
 pub mod Checks
+pub mod Entries
 -- Tables of sound form: facts, numbering, links, siblings, marks laid by number, bytes, and words put into bytes
 pub mod TableFacts
 pub mod PlanShape
@@ -34,6 +35,7 @@ pub mod PlanBridge
 pub mod PlanWeighs
 pub mod PlanLaid
 pub mod PlanFeasible
+pub mod JudgedEntries
 -- Sequences of sibling runs, the runs of a plan and the plan of runs
 pub mod RunsFacts
 pub mod RunsSame
@@ -43,8 +45,6 @@ pub mod RunsByMarks
 pub mod RunsOfPlan
 pub mod RunsToPlan
 pub mod RunsHeld
--- The answers of an entry that writes an output
-pub mod Outputs
 -- The archive: its words, writing and reading back, the answers of its entries
 pub mod ArchiveWords
 pub mod ArchiveBack

@@ -16,9 +16,9 @@ use Rattle.model.specs.Basics.{pick}
 use Rattle.model.specs.Table.{nodeCount, limitOf, treeOf}
 use Rattle.model.specs.Plan.{markAt, pageCount, pageWeight, badMark, heavyPage, verdictOf}
 use Rattle.model.specs.Refusals.{Rules, passes, asked, noLabel, badMarks, markRefused, pageRefused, headChecks}
-use Rattle.model.specs.Refusals.{nodeChecks, weightChecks, formChecks, treeChecks, markChecks, judgeChecks, firstOf}
+use Rattle.model.specs.Refusals.{nodeChecks, weightChecks, formChecks, treeChecks, foundChecks, markChecks, judgeChecks}
 use Rattle.model.specs.Refusals.{acceptedTree, plainRules, filmRules, feasibleBy, feasiblePlan, feasibleFilm}
-use Rattle.model.specs.Refusals.{answerOf, refused, judgePlan}
+use Rattle.model.specs.Refusals.{firstOf, answerOf, refused, judgePlan}
 use Rattle.model.specs.Demand.{Filed}
 use Rattle.model.specs.declared.Answer.{Answer}
 use Rattle.model.specs.declared.Edition.{Edition}
@@ -74,7 +74,7 @@ within-limit {t} {m} j p low high =
     (firstTo-nowhere (pageCount t m) (λ q. ltb (limitOf t) (pageWeight t m q)) (j .light) p low high)
 
 pub marks-judged : (t m : List ℕ) → AcceptedFacts t → passes (markChecks t m) ≡ true → Judged t m
-unfolding Pass markChecks badMarks markRefused pageRefused
+unfolding Pass markChecks badMarks foundChecks markRefused pageRefused
 marks-judged t m a e =
     let p = pass-all (markChecks t m) .0 e in
     record {
@@ -140,7 +140,7 @@ unfolding feasiblePlan feasibleFilm
 feasible-film e t m f = stricter plainRules t m f (filmRules e) (λ h. refl)
 
 pub judged-feasible : {t m : List ℕ} → acceptedTree t ≡ true → Judged t m → feasiblePlan t m ≡ true
-unfolding Pass feasiblePlan judgeChecks acceptedTree markChecks badMarks markRefused pageRefused
+unfolding Pass feasiblePlan judgeChecks acceptedTree markChecks badMarks foundChecks markRefused pageRefused
 judged-feasible {t} {m} e j =
     both-pass (treeChecks true t) (markChecks t m) e
     (pass-all (markChecks t m) .1

@@ -10,15 +10,12 @@ use mathlib.Core.Logic.{_↔_}
 use mathlib.Core.List.{List}
 use lib.ListN.{length}
 use Rattle.model.specs.Table.{Bytes, maxNodes, nodeCount, tableBytes}
-use Rattle.model.specs.Plan.{pageCount, verdictOf}
-use Rattle.model.specs.Archive.{archiveOf, archiveBytes, nodesIn, tableIn, marksIn}
-use Rattle.model.specs.Refusals.{judgeChecks, filmChecks, firstOf, feasiblePlan, feasibleFilm, answerOf}
-use Rattle.model.specs.Refusals.{planBest, Written, writeChecked, writeChecks, writeArchive, writeFilm, isArchive}
-use Rattle.model.specs.Refusals.{Rules, filmRules, writerRules, feasibleBy, writeBy, Restored, readArchive}
-use Rattle.model.specs.Demand.{PlanLent, LowestOnFilm, WritePromise, WrittenFrom, Filed, ReadPromise}
-use Rattle.model.specs.declared.Verdict.the-variants.{Feasible, Failed}
-use Rattle.model.specs.declared.Beside.{Beside}
-use Rattle.model.specs.declared.Beside.the-variants.{Given, Nothing}
+use Rattle.model.specs.Plan.{verdictOf}
+use Rattle.model.specs.Archive.{archiveOf, nodesIn, tableIn, marksIn}
+use Rattle.model.specs.Refusals.{judgeChecks, filmChecks, firstOf, feasiblePlan, feasibleFilm, answerOf, Outcome}
+use Rattle.model.specs.Refusals.{outcome, checked, planBest, Written, writeChecks, writeArchive, writeFilm, isArchive}
+use Rattle.model.specs.Refusals.{Rules, filmRules, writerRules, feasibleBy, writeBy, ReadBuffers, readArchive}
+use Rattle.model.specs.Demand.{LowestOnFilm, WritePromise, WrittenFrom, Filed, ReadPromise}
 use Rattle.model.specs.declared.Answer.{Answer}
 use Rattle.model.specs.declared.Edition.{Edition}
 use Rattle.theory.specs.Bools.{never-true}
@@ -34,42 +31,22 @@ use Rattle.theory.specs.ArchiveAnswers.{write-done, write-many, write-fi
 use Rattle.theory.specs.ArchiveAnswers.{WriteDone, writer-done}
 use Rattle.theory.specs.ArchiveAnswers.{unfiled-stops, read-none, read-done, read-kept, reader-done}
 use Rattle.theory.specs.ArchiveAnswers.{read-thirteen}
-use Rattle.theory.specs.ArchiveLowest.{plan-feasible, film-lowest}
+use Rattle.theory.specs.ArchiveLowest.{archive-figures, archive-plan, film-lowest}
 
 -- ---- The writer
 
 module _ {e : Edition} (d : Described e) (t m out : List ℕ) where
-  -- the page count of the verdict beside an answer
-  abbrev pagesBeside : Beside → ℕ
-  pagesBeside (Given (Feasible pages root)) = pages
-  pagesBeside (Given (Failed c)) = 0
-  pagesBeside Nothing = 0
-
   -- what the best planner left
-  module _ (lent scratch : List ℕ) (z : planBest t lent scratch .answer .number ≡ 0) where
-    lent-right : PlanLent t lent scratch
-    lent-right = best-lent t lent scratch z
-
-    best-film : planBest t lent scratch .marks ≡ m
-        → LowestOnFilm e t (archiveOf e t m) (planBest t lent scratch .answer) (answerOf (verdictOf t m))
-    best-film is = rw is at (film-lowest (best-plan t lent scratch) lent-right d (best-promise t lent scratch))
-
-    best-accepted : (P W : ℕ) → planBest t lent scratch .answer ≡ answerOf (Feasible P W)
-        → planBest t lent scratch .marks ≡ m → nodeCount t ≤ e .most → length out ≡ archiveBytes e P (nodeCount t)
-        → writeArchive e t m out .answer .number ≡ 0
-    unfolding writeArchive feasiblePlan
-    best-accepted P W a is few long =
-        let f : feasiblePlan t m ≡ true = rw is at (plan-feasible (best-plan t lent scratch) lent-right) in
-        let count : P ≡ pageCount t m =
-        ap (λ (x : Answer). pagesBeside (x .beside)) (sym a ∙ best-plan t lent scratch .accepts lent-right .0)
-        ∙ ap (pageCount t) is in
-        ap (λ (w : Written). w .answer .number)
-        (write-done (writerRules e) e t m out f few (long ∙ ap (λ n. archiveBytes e n (nodeCount t)) count))
-        ∙ judged-zero (feasible-judged t m f)
+  best-film : (lent scratch : List ℕ) → planBest t lent scratch .answer .number ≡ 0
+      → planBest t lent scratch .left .marks ≡ m
+      → LowestOnFilm e t (archiveOf e t m) (planBest t lent scratch .answer) (answerOf (verdictOf t m))
+  best-film lent scratch z is =
+      rw is at
+      (film-lowest (best-plan t lent scratch) (best-lent t lent scratch z) d (best-promise t lent scratch))
 
   -- an edition that takes as many nodes as a table has never too few
   never-fifteen : maxNodes ≤ e .most → writeArchive e t m out .answer .number ≡ 15 → ⊥
-  unfolding writeArchive writeChecked writeChecks feasiblePlan
+  unfolding writeArchive checked writeChecks feasiblePlan
   never-fifteen room h =
       let judging = judgeChecks (writerRules e) t m in
       let f =
@@ -80,13 +57,18 @@ module _ {e : Edition} (d : Described e) (t m out : List ℕ) where
       ∙ h) .0 in
       write-fifteen (writerRules e) e t m out f (omega (arith, feasible-judged t m f .tree .sound .count-high)) h
 
-  pub write-promise : WritePromise e t m out (writeArchive e t m out .answer) (writeArchive e t m out .output)
+  pub write-promise : WritePromise e t m out (writeArchive e t m out .answer) (writeArchive e t m out .left)
   unfolding writeArchive feasiblePlan
   write-promise =
       record {
         accepts =
-            λ lent scratch P W a is few long.
-            best-accepted lent scratch (ap (λ (x : Answer). x .number) a) P W a is few long;
+            λ f few long.
+            ap (λ (w : Written). w .answer) (write-done (writerRules e) e t m out f few long)
+            ∙ ap answerOf (judged-verdict (feasible-judged t m f));
+        carries =
+            λ z.
+            let done = writer-done (writerRules e) e t m out z in
+            rw (done .wrote) (archive-figures d t m (done .judged), archive-plan d t m (done .judged));
         lowest =
             λ lent scratch z is done.
             rw (writer-done (writerRules e) e t m out done .wrote) (best-film lent scratch z is);
@@ -107,7 +89,7 @@ module _ {e : Edition} (d : Described e) (a : List ℕ) where
     done = writer-done rules e u n (w .out) (w .accepts)
 
     same : archiveOf e u n ≡ a
-    same = sym (ap (λ (x : Written). x .output) (done .wrote)) ∙ w .leaves
+    same = sym (ap (λ (x : Written). x .left) (done .wrote)) ∙ w .leaves
 
     back : (tableIn e a ≡ u) × (marksIn e a ≡ n) × (isArchive e a ≡ true)
     back = rw same at (write-read d (w .bytes) (film u n (done .feasible)) (done .few))
@@ -116,32 +98,32 @@ module _ {e : Edition} (d : Described e) (a : List ℕ) where
     nodes = ap (nodesIn e) (sym same) ∙ archive-nodes d u n
 
     read-back : (table marks : List ℕ) → length table ≡ length u → length marks ≡ length n
-        → (readArchive e a table marks .answer .number ≡ 0) × (readArchive e a table marks .table ≡ u)
-        × (readArchive e a table marks .marks ≡ n)
+        → (readArchive e a table marks .answer .number ≡ 0) × (readArchive e a table marks .left .table ≡ u)
+        × (readArchive e a table marks .left .marks ≡ n)
     read-back table marks long-table long-marks =
         let j = done .judged in
         let r =
         read-done e a table marks (back .2) (long-table ∙ j .tree .sound .bytes ∙ ap tableBytes (sym nodes))
         (long-marks ∙ j .long ∙ sym nodes) in (
-          ap (λ (x : Restored). x .answer .number) (sym r)
+          ap (λ (x : Outcome Answer ReadBuffers). x .answer .number) r
               ∙ ap₂ (λ x y. answerOf (verdictOf x y) .number) (back .0) (back .1)
               ∙ judged-zero j,
-          ap (λ (x : Restored). x .table) (sym r) ∙ back .0,
-          ap (λ (x : Restored). x .marks) (sym r) ∙ back .1,
+          ap (λ (x : Outcome Answer ReadBuffers). x .left .table) r ∙ back .0,
+          ap (λ (x : Outcome Answer ReadBuffers). x .left .marks) r ∙ back .1,
         )
 
   -- an archive is written again by what it tells, under rules by which that is feasible
   pub writes-again : (rules : Rules) → isArchive e a ≡ true → feasibleBy rules (tableIn e a) (marksIn e a) ≡ true
       → (out : List ℕ) → length out ≡ length a
       → writeBy rules e (tableIn e a) (marksIn e a) out
-      ≡ record { answer = answerOf (verdictOf (tableIn e a) (marksIn e a)); output = a }
+      ≡ outcome (answerOf (verdictOf (tableIn e a) (marksIn e a))) a
   writes-again rules is f out long =
       let t : List ℕ = tableIn e a in
       let m : List ℕ = marksIn e a in
       let w : WritesBack e a = read-write e a is in
       write-done rules e t m out f (omega (arith, w .few, ap (nodesIn e) (w .same), archive-nodes d t m))
       (long ∙ ap length (sym (w .same)) ∙ length-archive d t m)
-      ∙ ap (λ y. record { answer = answerOf (verdictOf t m); output = y }) (w .same)
+      ∙ ap (outcome (answerOf (verdictOf t m))) (w .same)
 
   -- what is told
   module _ (is : isArchive e a ≡ true) where
@@ -153,7 +135,7 @@ module _ {e : Edition} (d : Described e) (a : List ℕ) where
 
     again-film : (out : List ℕ) → length out ≡ length a
         → writeFilm e (tableIn e a) (marksIn e a) out
-        ≡ record { answer = answerOf (verdictOf (tableIn e a) (marksIn e a)); output = a }
+        ≡ outcome (answerOf (verdictOf (tableIn e a) (marksIn e a))) a
     unfolding writeFilm feasibleFilm
     again-film = writes-again (filmRules e) is told
 
@@ -164,7 +146,7 @@ module _ {e : Edition} (d : Described e) (a : List ℕ) where
     again-filed : Filed (tableIn e a)
         → (feasiblePlan (tableIn e a) (marksIn e a) ≡ true) × ((out : List ℕ) → length out ≡ length a
         → writeArchive e (tableIn e a) (marksIn e a) out
-        ≡ record { answer = answerOf (verdictOf (tableIn e a) (marksIn e a)); output = a })
+        ≡ outcome (answerOf (verdictOf (tableIn e a) (marksIn e a))) a)
     unfolding writeArchive feasiblePlan
     again-filed labels =
         let f = filed-feasible e (tableIn e a) (marksIn e a) told (filed-nowhere (tableIn e a) labels) in
@@ -177,7 +159,7 @@ module _ {e : Edition} (d : Described e) (a : List ℕ) where
           bytes = tableIn-bytes e a b;
           out = a;
           accepts = ap (λ (x : Written). x .answer .number) again ∙ judged-zero told-judged;
-          leaves = ap (λ (x : Written). x .output) again;
+          leaves = ap (λ (x : Written). x .left) again;
         }
 
   -- film of the edition, as far as the writer can tell
@@ -189,15 +171,15 @@ module _ {e : Edition} (d : Described e) (a : List ℕ) where
   )
 
   module _ (table marks : List ℕ) where
-    abbrev read : Restored
+    abbrev read : Outcome Answer ReadBuffers
     read = readArchive e a table marks
 
     is-archive : read .answer .number ≡ 0 → isArchive e a ≡ true
     is-archive z = reader-done e a table marks z .0
 
     pub read-promise : (f : Edition) → (isArchive e a ≡ true → isArchive f a ≡ true → ⊥) → Bytes a
-        → ReadPromise e f a table marks (readArchive e a table marks .answer) (readArchive e a table marks .table)
-        (readArchive e a table marks .marks)
+        → ReadPromise e f a table marks (readArchive e a table marks .answer) (readArchive e a table marks .left .table)
+        (readArchive e a table marks .left .marks)
     unfolding writeArchive writeFilm feasiblePlan feasibleFilm
     read-promise f apart b =
         record {
@@ -216,16 +198,16 @@ module _ {e : Edition} (d : Described e) (a : List ℕ) where
               (unfiled-first (tableIn e a) v first));
           none = (
             λ h. film-written b .0 (read-thirteen e a table marks h),
-            λ h. ap (λ (x : Restored). x .answer .number) (sym (read-none e a table marks (film-written b .1 h))),
+            λ h. ap (λ (x : Outcome Answer ReadBuffers). x .answer .number) (read-none e a table marks (film-written b .1 h)),
           );
           other =
               λ h u n.
               let none : isArchive f a ≡ false =
               never-true (isArchive f a) (λ is. h (thirteen (never-true (isArchive e a) (λ own. apart own is)))) in
-              ap (λ (x : Restored). x .answer) (sym (read-none f a u n none));
+              ap (λ (x : Outcome Answer ReadBuffers). x .answer) (read-none f a u n none);
           kept = read-kept e a table marks;
           five = read-five e a table marks;
         }
       where
         thirteen : isArchive e a ≡ false → read .answer .number ≡ 13
-        thirteen n = ap (λ (x : Restored). x .answer .number) (sym (read-none e a table marks n))
+        thirteen n = ap (λ (x : Outcome Answer ReadBuffers). x .answer .number) (read-none e a table marks n)

@@ -8,29 +8,26 @@ use Prim.Native.Nat.{ℕ, _≤_}
 use mathlib.Core.Path.{_≡_, sym, ap, _∙_}
 use mathlib.Core.Bool.{true, false, not}
 use mathlib.Core.List.{List}
-use mathlib.Core.Logic.{_↔_, ⊎-elim}
 use native.Mathlib.Omega.{arith}
 use lib.ListN.{length, replicate, length-replicate}
 use borrow.Author.Tests.{eqb-true, eq-eqb, ltb-false, le-ltb, not-false}
 use Rattle.model.specs.Table.{Chain, nodeCount, limitOf, treeOf}
-use Rattle.model.specs.Plan.{pageCount, pageWeight}
+use Rattle.model.specs.Plan.{pageCount, pageWeight, verdictOf}
 use Rattle.model.specs.Runs.{runsOf}
 use Rattle.model.specs.Steps.{bestMarks}
 use Rattle.model.specs.Refusals.{badMarks, shortScratch, scratchWords, treeChecks, lentChecks, planChecks, passes}
-use Rattle.model.specs.Refusals.{acceptedTree}
-use Rattle.model.specs.Refusals.{feasiblePlan, answerOf, accepted, firstOf, readTree, judgePlan, Planned, planned}
-use Rattle.model.specs.Refusals.{planBest}
-use Rattle.model.specs.Demand.{Lowest, PlanLent, PlanPromise, BestPromise, QuickPromise}
+use Rattle.model.specs.Refusals.{acceptedTree, feasiblePlan, answerOf, accepted, firstOf, Outcome, checked}
+use Rattle.model.specs.Refusals.{PlanBuffers, planLeft, planned, planBest}
+use Rattle.model.specs.Demand.{Lowest, WeightPromise, PlanLent, PlanPromise, BestPromise, QuickPromise}
 use Rattle.model.specs.declared.Answer.{Answer}
 use Rattle.model.specs.declared.Beside.the-variants.{Given}
 use Rattle.model.specs.declared.Verdict.the-variants.{Feasible}
-use Rattle.theory.specs.Ranges.{pick-true, pick-false, when-false, when-nowhere}
-use Rattle.theory.specs.Bools.{bool-cases, never-true}
-use Rattle.theory.specs.Checks.{Pass, pass-all, passes-both, both-pass, firstOf-all, accepted-pass, plan-never}
-use Rattle.theory.specs.Checks.{lent-plain}
+use Rattle.theory.specs.Ranges.{when-false, when-nowhere}
+use Rattle.theory.specs.Checks.{Pass, pass-all, passes-both, both-pass, plan-never, lent-plain}
+use Rattle.theory.specs.Entries.{entry-done, entry-refused, entry-passed, entry-fails, entry-kept}
 use Rattle.theory.specs.TableFacts.{AcceptedFacts, accepted-facts}
-use Rattle.theory.specs.PlanFeasible.{Judged, feasible-judged, judged-feasible, feasible-judge}
-use Rattle.theory.specs.PromiseWeight.{weight-promise, seven-tree, five-tree}
+use Rattle.theory.specs.PlanFeasible.{Judged, feasible-judged, judged-feasible, judged-verdict, judged-zero}
+use Rattle.theory.specs.PromiseWeight.{tree-weight}
 use Rattle.theory.specs.BestLowest.{best-judged, best-least-plan, best-lowest}
 
 -- ---- What is lent
@@ -72,28 +69,24 @@ module _ (steps : ℕ → Chain → List ℕ) (t m s : List ℕ) where
   made = steps (limitOf t) (treeOf t)
 
   pub planned-done : passes (planChecks t m s) ≡ true
-      → planned steps t m s ≡ record { answer = judgePlan t made; marks = made; scratch = replicate (length s) 0 }
+      → planned steps t m s ≡ planLeft (answerOf (verdictOf t made)) made (replicate (length s) 0)
   unfolding planned
-  planned-done e = pick-true (passes (planChecks t m s)) _ _ e
+  planned-done e = entry-done _ _ _ (planChecks t m s) e
 
   pub planned-refused : passes (planChecks t m s) ≡ false
-      → planned steps t m s ≡ record { answer = firstOf (planChecks t m s) accepted; marks = m; scratch = s }
+      → planned steps t m s ≡ planLeft (firstOf (planChecks t m s) accepted) m s
   unfolding planned
-  planned-refused e = pick-false (passes (planChecks t m s)) _ _ e
+  planned-refused e = entry-refused _ _ _ (planChecks t m s) accepted e
 
   -- a planner that answers 0 was lent an accepted tree and right buffers
   pub plan-passes : planned steps t m s .answer .number ≡ 0 → passes (planChecks t m s) ≡ true
-  plan-passes z = ⊎-elim (λ e. e) other (bool-cases (passes (planChecks t m s)))
-    where
-      other : passes (planChecks t m s) ≡ false → passes (planChecks t m s) ≡ true
-      other e =
-          accepted-pass (planChecks t m s) accepted (plan-never t m s)
-          (sym (ap (λ (p : Planned). p .answer .number) (planned-refused e)) ∙ z)
+  unfolding planned
+  plan-passes z = entry-passed _ _ _ (planChecks t m s) (plan-never t m s) z
 
   -- ---- Steps whose plan of an accepted tree is feasible
 
   module _ (good : AcceptedFacts t → Judged t made) where
-    made-judged : passes (planChecks t m s) ≡ true → Judged t made
+    pub made-judged : passes (planChecks t m s) ≡ true → Judged t made
     made-judged e = good (accepted-facts t (plan-parts t m s e .0))
 
     pub made-feasible : passes (planChecks t m s) ≡ true → feasiblePlan t made ≡ true
@@ -101,67 +94,41 @@ module _ (steps : ℕ → Chain → List ℕ) (t m s : List ℕ) where
 
     done-answer : passes (planChecks t m s) ≡ true
         → planned steps t m s .answer ≡ answerOf (Feasible (pageCount t made) (pageWeight t made 1))
-    done-answer e = ap (λ (p : Planned). p .answer) (planned-done e) ∙ feasible-judge t made (made-feasible e)
+    done-answer e =
+        ap (λ (p : Outcome Answer PlanBuffers). p .answer) (planned-done e)
+        ∙ ap answerOf (judged-verdict (made-judged e))
+
+    made-zero : passes (planChecks t m s) ≡ true → answerOf (verdictOf t made) .number ≡ 0
+    made-zero e = judged-zero (made-judged e)
 
     -- one that does not was not
     pub plan-fails : (planned steps t m s .answer .number ≡ 0 → ⊥) → passes (planChecks t m s) ≡ false
-    plan-fails h =
-        never-true (passes (planChecks t m s)) (λ e. h (ap (λ (a : Answer). a .number) (done-answer e)))
+    unfolding planned
+    plan-fails h = entry-fails _ _ _ (planChecks t m s) made-zero h
 
-    -- 7 is the tree reader's
-    seven-same : (planned steps t m s .answer .number ≡ 7) ↔ (readTree t .number ≡ 7)
-    unfolding readTree planChecks acceptedTree
-    seven-same = ⊎-elim accepts refuses (bool-cases (passes (planChecks t m s)))
-      where
-        accepts : passes (planChecks t m s) ≡ true → (planned steps t m s .answer .number ≡ 7)
-            ↔ (readTree t .number ≡ 7)
-        accepts e = (
-          λ h. absurd (omega (arith, ap (λ (a : Answer). a .number) (done-answer e))),
-          λ h. absurd (omega (
-            arith,
-            ap (λ (a : Answer). a .number) (firstOf-all (treeChecks true t) accepted
-                (plan-parts t m s e .0)),
-          )),
-        )
+    left-kept : (planned steps t m s .answer .number ≡ 0 → ⊥) → planned steps t m s .left ≡ record { marks = m; scratch = s }
+    unfolding planned
+    left-kept h = entry-kept _ _ _ (planChecks t m s) made-zero h
 
-        refuses : passes (planChecks t m s) ≡ false → (planned steps t m s .answer .number ≡ 7)
-            ↔ (readTree t .number ≡ 7)
-        refuses e =
-            let q = ap (λ (p : Planned). p .answer .number) (planned-refused e) in
-            let tree = seven-tree t (lentChecks t m s) accepted (lent-plain t m s .1) (λ h. omega arith) in
-            (λ h. tree .0 (sym q ∙ h), λ h. q ∙ tree .1 h)
+    plan-weight : WeightPromise t (planned steps t m s .answer)
+    unfolding planned checked planChecks
+    plan-weight = tree-weight t (lentChecks t m s) (verdictOf t made) (lent-plain t m s)
 
-    five-never : planned steps t m s .answer .number ≡ 5 → ⊥
-    unfolding planChecks
-    five-never h = ⊎-elim accepts refuses (bool-cases (passes (planChecks t m s)))
-      where
-        accepts : passes (planChecks t m s) ≡ true → ⊥
-        accepts e = omega (arith, h, ap (λ (a : Answer). a .number) (done-answer e))
-
-        refuses : passes (planChecks t m s) ≡ false → ⊥
-        refuses e =
-            five-tree t (lentChecks t m s) accepted (lent-plain t m s .2) (λ z. omega arith)
-            (sym (ap (λ (p : Planned). p .answer .number) (planned-refused e)) ∙ h)
-
-    pub plan-promise : PlanPromise t m s (planned steps t m s .answer) (planned steps t m s .marks)
-        (planned steps t m s .scratch)
+    pub plan-promise : PlanPromise t m s (planned steps t m s .answer) (planned steps t m s .left .marks)
+        (planned steps t m s .left .scratch)
     plan-promise =
         record {
           accepts =
               λ r.
               let e = lent-passes t m s r in
-              rw (planned-done e) (feasible-judge t made (made-feasible e), made-feasible e);
-          kept = λ h. ⊎-elim (λ e. absurd (h (ap (λ (a : Answer). a .number) (done-answer e)))) left
-              (bool-cases (passes (planChecks t m s)));
-          weight = weight-promise t (planned steps t m s .answer) seven-same five-never;
+              rw (planned-done e) (ap answerOf (judged-verdict (made-judged e)), made-feasible e);
+          kept =
+              λ h. (
+                ap (λ (b : PlanBuffers). b .marks) (left-kept h),
+                ap (λ (b : PlanBuffers). b .scratch) (left-kept h),
+              );
+          weight = plan-weight;
         }
-      where
-        left : passes (planChecks t m s) ≡ false → (planned steps t m s .marks ≡ m) × (planned steps t m s .scratch ≡ s)
-        left e = (
-          ap (λ (p : Planned). p .marks) (planned-refused e),
-          ap (λ (p : Planned). p .scratch)
-              (planned-refused e),
-        )
 
 -- ---- One planner after the other
 
@@ -179,9 +146,10 @@ module _ (steps : ℕ → Chain → List ℕ) (t m s : List ℕ) (good : Accepte
 
   -- which goes on as if it had been lent the same
   pub planned-again : (next : ℕ → Chain → List ℕ)
-      → planned next t (planned steps t m s .marks) (planned steps t m s .scratch) ≡ planned next t m s
+      → planned next t (planned steps t m s .left .marks) (planned steps t m s .left .scratch) ≡ planned next t m s
   planned-again next =
-      ap (λ (p : Planned). planned next t (p .marks) (p .scratch)) (planned-done steps t m s e)
+      ap (λ (p : Outcome Answer PlanBuffers). planned next t (p .left .marks) (p .left .scratch))
+      (planned-done steps t m s e)
       ∙ (rw (length-replicate {A = ℕ} (length s) 0) at
       (planned-done next t (steps (limitOf t) (treeOf t)) (replicate (length s) 0) (lent-passes t _ _ left-lent)))
       ∙ sym (planned-done next t m s e)
@@ -191,20 +159,20 @@ module _ (steps : ℕ → Chain → List ℕ) (t m s : List ℕ) (good : Accepte
 module _ (t m s : List ℕ) where
   best-low : PlanLent t m s
       → (P : ℕ) × (W : ℕ) × (planBest t m s .answer ≡ answerOf (Feasible P W))
-      × Lowest t P W (runsOf t (planBest t m s .marks))
+      × Lowest t P W (runsOf t (planBest t m s .left .marks))
   best-low r =
       let a : AcceptedFacts t = accepted-facts t (r .tree) in
       let done = planned-done bestMarks t m s (lent-passes t m s r) in (
         _,
         _,
-        ap (λ (p : Planned). p .answer) done ∙ feasible-judge t _ (judged-feasible (r .tree) (best-judged a)),
-        rw (ap (λ (p : Planned). p .marks) done) (best-lowest a),
+        ap (λ (p : Outcome Answer PlanBuffers). p .answer) done ∙ ap answerOf (judged-verdict (best-judged a)),
+        rw (ap (λ (p : Outcome Answer PlanBuffers). p .left .marks) done) (best-lowest a),
       )
 
-  pub best-promise : BestPromise t m s (planBest t m s .answer) (planBest t m s .marks)
+  pub best-promise : BestPromise t m s (planBest t m s .answer) (planBest t m s .left .marks)
   best-promise = record { lowest = best-low }
 
-  pub best-plan : PlanPromise t m s (planBest t m s .answer) (planBest t m s .marks) (planBest t m s .scratch)
+  pub best-plan : PlanPromise t m s (planBest t m s .answer) (planBest t m s .left .marks) (planBest t m s .left .scratch)
   best-plan = plan-promise bestMarks t m s best-judged
 
   -- where it answers 0 it was lent what it is to be lent

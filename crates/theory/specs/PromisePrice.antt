@@ -1,25 +1,24 @@
 -- What the price of a plan and the saving promise beside their equations (price-promise, saving-promise).
--- Proves priced-done, priced-refused (what the price gives), saved-done, saved-refused (what the saving gives and
--- leaves). Assumes nothing.
+-- Proves saved-done, saved-refused (what the saving gives) besides. Assumes nothing.
 use Prim.Native.Nat.{ℕ}
 use mathlib.Core.Bool.{true, false}
 use mathlib.Core.Path.{_≡_, _∙_, ap}
-use mathlib.Core.Logic.{⊎-elim}
 use mathlib.Core.List.{List}
 use lib.IntN.{pos}
 use Rattle.model.specs.Table.{Chain, limitOf, treeOf}
 use Rattle.model.specs.Plan.{verdictOf}
 use Rattle.model.specs.Steps.{bestMarks, singleMarks}
 use Rattle.model.specs.Prices.{totalCents, savingOf}
-use Rattle.model.specs.Refusals.{judgeChecks, planChecks, passes, feasiblePlan, answerOf, judgePlan, Planned, planned}
-use Rattle.model.specs.Refusals.{plainRules, pricePlan, saveBest}
+use Rattle.model.specs.Refusals.{Check, judgeChecks, planChecks, passes, feasiblePlan, answerOf, plainRules, Outcome}
+use Rattle.model.specs.Refusals.{outcome, checked, judgePlan, PlanBuffers, planned, pricePlan, saveBest}
 use Rattle.model.specs.Demand.{PricePromise, SavingPromise}
 use Rattle.model.specs.declared.Answer.{Answer}
-use Rattle.theory.specs.Bools.{bool-cases}
 use Rattle.theory.specs.Ranges.{pick-true, pick-false}
-use Rattle.theory.specs.Checks.{accepted-pass, judge-never}
+use Rattle.theory.specs.Checks.{judge-never}
+use Rattle.theory.specs.Entries.{entry-done, entry-passed, entry-kept}
 use Rattle.theory.specs.TableFacts.{AcceptedFacts}
-use Rattle.theory.specs.PlanFeasible.{Judged, within-limit, feasible-judged, feasible-judge}
+use Rattle.theory.specs.PlanFeasible.{Judged, within-limit, feasible-judged, judged-verdict}
+use Rattle.theory.specs.JudgedEntries.{given-zero}
 use Rattle.theory.specs.PromiseWeight.{judge-weight}
 use Rattle.theory.specs.PromisePlanner.{planned-done, plan-passes, plan-fails, made-feasible, best-plan}
 use Rattle.theory.specs.PromisePlanner.{best-promise}
@@ -29,33 +28,37 @@ use Rattle.theory.specs.PricePages.{fill-most, fill-full, total-range, l
 -- ---- The price
 
 module _ (t m : List ℕ) where
-  -- where the judge answers 0 the plan is feasible
-  judge-passes : judgePlan t m .number ≡ 0 → feasiblePlan t m ≡ true
-  unfolding judgePlan feasiblePlan
-  judge-passes z = accepted-pass (judgeChecks plainRules t m) (answerOf (verdictOf t m)) (judge-never plainRules t m) z
+  abbrev judging : List Check
+  judging = judgeChecks plainRules t m
 
-  pub priced-done : judgePlan t m .number ≡ 0 → pricePlan t m .cents ≡ totalCents t m
-  unfolding pricePlan
-  priced-done z = pick-true (feasiblePlan t m) (totalCents t m) 0 (judge-passes z)
+  priced : feasiblePlan t m ≡ true → pricePlan t m ≡ outcome (answerOf (verdictOf t m)) (totalCents t m)
+  unfolding pricePlan feasiblePlan
+  priced f = entry-done _ _ 0 judging f
 
-  pub priced-refused : (judgePlan t m .number ≡ 0 → ⊥) → pricePlan t m .cents ≡ 0
-  unfolding pricePlan
-  priced-refused h =
-      ⊎-elim (λ e. absurd (h (ap (λ (a : Answer). a .number) (feasible-judge t m e))))
-      (λ e. pick-false (feasiblePlan t m) (totalCents t m) 0 e) (bool-cases (feasiblePlan t m))
+  -- where the price is given the plan is feasible
+  price-passes : pricePlan t m .answer .number ≡ 0 → feasiblePlan t m ≡ true
+  unfolding pricePlan feasiblePlan
+  price-passes z = entry-passed _ _ 0 judging (judge-never plainRules t m) z
 
-  pub price-promise : PricePromise t m (pricePlan t m)
-  unfolding pricePlan
+  pub price-promise : PricePromise t m (pricePlan t m .answer) (pricePlan t m .left)
+  unfolding pricePlan checked judgePlan
   price-promise =
       record {
-        accepts = λ f. (feasible-judge t m f, pick-true (feasiblePlan t m) (totalCents t m) 0 f);
-        range = λ z. rw (priced-done z) (total-range (feasible-judged t m (judge-passes z)));
+        accepts =
+            λ f. (
+              ap (λ (w : Outcome Answer ℕ). w .answer) (priced f) ∙ ap answerOf (judged-verdict (feasible-judged t m f)),
+              ap (λ (w : Outcome Answer ℕ). w .left) (priced f),
+            );
+        range =
+            λ z.
+            let f = price-passes z in
+            rw (ap (λ (w : Outcome Answer ℕ). w .left) (priced f)) (total-range (feasible-judged t m f));
         fills =
             λ z p low high.
-            let j : Judged t m = feasible-judged t m (judge-passes z) in
+            let j : Judged t m = feasible-judged t m (price-passes z) in
             let within = within-limit j p low high in
             (fill-most _ _ within, fill-full _ _ within (j .tree .sound .limit-low));
-        refuses = priced-refused;
+        refuses = entry-kept _ _ 0 judging (given-zero plainRules t m);
         weight = judge-weight t m;
       }
 
@@ -64,24 +67,23 @@ module _ (t m : List ℕ) where
 -- the price of the plan that a planner left
 left-price : (steps : ℕ → Chain → List ℕ) (t m s : List ℕ)
     → (AcceptedFacts t → Judged t (steps (limitOf t) (treeOf t))) → planned steps t m s .answer .number ≡ 0
-    → pricePlan t (planned steps t m s .marks) .cents ≡ totalCents t (steps (limitOf t) (treeOf t))
+    → pricePlan t (planned steps t m s .left .marks) .left ≡ totalCents t (steps (limitOf t) (treeOf t))
 left-price steps t m s good z =
     let passed = plan-passes steps t m s z in
-    ap (λ (p : Planned). pricePlan t (p .marks) .cents) (planned-done steps t m s passed)
+    ap (λ (p : Outcome Answer PlanBuffers). pricePlan t (p .left .marks) .left) (planned-done steps t m s passed)
     ∙ price-promise t _ .accepts (made-feasible steps t m s good passed) .1
 
 module _ (t m s : List ℕ) where
-  pub saved-done : passes (planChecks t m s) ≡ true → saveBest t m s .saving ≡ savingOf t
+  pub saved-done : passes (planChecks t m s) ≡ true → saveBest t m s .left .saving ≡ savingOf t
   unfolding saveBest
   saved-done e = pick-true (passes (planChecks t m s)) (savingOf t) (pos 0) e
 
-  pub saved-refused : passes (planChecks t m s) ≡ false → saveBest t m s .saving ≡ pos 0
+  pub saved-refused : passes (planChecks t m s) ≡ false → saveBest t m s .left .saving ≡ pos 0
   unfolding saveBest
   saved-refused e = pick-false (passes (planChecks t m s)) (savingOf t) (pos 0) e
 
-  pub saving-promise : SavingPromise t m s
-      (record { answer = saveBest t m s .best .answer; saving = saveBest t m s .saving })
-      (saveBest t m s .best .marks) (saveBest t m s .best .scratch)
+  pub saving-promise : SavingPromise t m s (saveBest t m s .answer) (saveBest t m s .left .saving)
+      (saveBest t m s .left .best .marks) (saveBest t m s .left .best .scratch)
   unfolding saveBest savingOf
   saving-promise =
       record {

@@ -1,11 +1,11 @@
 -- What the printer of leader sheets promises beside its equation (print-promise): every feasible plan is printed, and
 -- the sheets, read by their columns, tell it. Every number of a feasible plan fits its field (pages-fit, sheets-fit).
--- Defines printFrom. Proves sheet-short, sheet-long, print-entry besides. Assumes nothing.
+-- Proves sheet-short, sheet-long besides. Assumes nothing.
 use Prim.Native.Nat.{ℕ, _*_, _^_, _≤_, _<_}
 use native.Mathlib.Omega.{arith}
 use native.Mathlib.Nat.{div-le-of-le-mul}
 use mathlib.Core.Bool.{true, _&&_}
-use mathlib.Core.Path.{_≡_, sym, _∙_, ap}
+use mathlib.Core.Path.{_≡_, _∙_, ap}
 use mathlib.Core.List.{List}
 use lib.ListN.{length}
 use lib.Dec.{eqb}
@@ -13,17 +13,17 @@ use Rattle.model.specs.Table.{maxNodes, nodeCount, limitOf}
 use Rattle.model.specs.Plan.{begins, hasMark, inRun, pageOf, pageCount, verdictOf}
 use Rattle.model.specs.Runs.{pageRun}
 use Rattle.model.specs.Sheets.{sheetBytes, sheetCount, pageAt, perCent, sheetsOf}
-use Rattle.model.specs.Refusals.{sheetChecks, printChecks, passes, answerOf, refused, firstOf, readTree}
-use Rattle.model.specs.Refusals.{plainRules, feasiblePlan, Written, printSheets}
+use Rattle.model.specs.Refusals.{sheetChecks, printChecks, passes, answerOf, refused, firstOf, plainRules}
+use Rattle.model.specs.Refusals.{feasiblePlan, outcome, Written, printSheets}
 use Rattle.model.specs.Demand.{PageTold, PrintPromise}
-use Rattle.model.specs.declared.Answer.{Answer}
 use Rattle.theory.specs.Ranges.{lastTo-le}
 use Rattle.theory.specs.Checks.{Never, sheet-plain}
-use Rattle.theory.specs.JudgeAnswers.{with-labels, pageCount-le}
+use Rattle.theory.specs.Entries.{entry-passed, entry-accepted, entry-kept}
+use Rattle.theory.specs.JudgeAnswers.{pageCount-le}
 use Rattle.theory.specs.PlanFeasible.{Judged, within-limit, feasible-judged, judged-verdict}
+use Rattle.theory.specs.JudgedEntries.{after-never, after-parts, after-zero, after-done, short-output}
+use Rattle.theory.specs.JudgedEntries.{long-output}
 use Rattle.theory.specs.PagesByNumber.{lastOnPage, first-found, last-found}
-use Rattle.theory.specs.Outputs.{outputFrom, short-output, long-output, with-entry, with-done, with-wrote}
-use Rattle.theory.specs.Outputs.{with-kept}
 use Rattle.theory.specs.SheetsRead.{sheet-numbers, PageFits, tells-number, tells-first, tells-last, tells-weight}
 use Rattle.theory.specs.SheetsRead.{tells-share}
 use Rattle.theory.specs.PromiseWeight.{print-weight}
@@ -72,13 +72,6 @@ module _ {t m : List ℕ} (j : Judged t m) where
 -- ---- The printer's answers
 
 module _ (t m out : List ℕ) where
-  -- the printer that goes on from the answer of what judged the tree
-  abbrev printFrom : Answer → Written
-  printFrom = outputFrom t m (sheetsOf t m) out (sheetChecks t m out)
-
-  sheet-never : Never 0 (sheetChecks t m out)
-  sheet-never = sheet-plain t m out .0
-
   -- 12: the output has the wrong length
   pub sheet-short : (length out ≡ sheetBytes * sheetCount (pageCount t m) → ⊥)
       → refused 12 (sheetBytes * sheetCount (pageCount t m))
@@ -90,17 +83,19 @@ module _ (t m out : List ℕ) where
   unfolding sheetChecks
   sheet-long fits = long-output _ out fits
 
-  pub print-entry : {w : Written} (r : Answer) → w ≡ printFrom r → r ≡ readTree t → w ≡ printSheets t m out
-  unfolding printSheets printChecks
-  print-entry r h is = with-entry plainRules t m (sheetsOf t m) out _ sheet-never r h (is ∙ sym (with-labels t))
-
   -- ---- The promise
 
+  print-never : Never 0 (printChecks t m out)
+  unfolding printChecks
+  print-never = after-never plainRules t m (sheetChecks t m out) (sheet-plain t m out .0)
+
   wrote : printSheets t m out .answer .number ≡ 0
-      → (feasiblePlan t m ≡ true)
-      × (printSheets t m out ≡ record { answer = answerOf (verdictOf t m); output = sheetsOf t m })
+      → (feasiblePlan t m ≡ true) × (printSheets t m out ≡ outcome (answerOf (verdictOf t m)) (sheetsOf t m))
   unfolding printSheets printChecks feasiblePlan
-  wrote z = with-wrote plainRules t m (sheetsOf t m) out _ sheet-never z
+  wrote z = (
+    after-parts plainRules t m (sheetChecks t m out) (entry-passed _ _ out (printChecks t m out) print-never z) .0,
+    entry-accepted _ _ out (printChecks t m out) print-never z,
+  )
 
   pages-told : Judged t m → (p : ℕ) → 1 ≤ p → p ≤ pageCount t m → PageTold t m (sheetsOf t m) p
   unfolding sheetsOf
@@ -114,19 +109,19 @@ module _ (t m out : List ℕ) where
         share = tells-share _ _ (pageAt t m) p low high fits;
       }
 
-  pub print-promise : PrintPromise t m out (printSheets t m out .answer) (printSheets t m out .output)
+  pub print-promise : PrintPromise t m out (printSheets t m out .answer) (printSheets t m out .left)
   unfolding printSheets printChecks feasiblePlan sheetsOf
   print-promise =
       record {
         accepts =
             λ f fits.
-            ap (λ (w : Written). w .answer) (with-done plainRules t m (sheetsOf t m) out _ f (sheet-long fits))
+            ap (λ (w : Written). w .answer) (after-done plainRules t m (sheetChecks t m out) _ _ f (sheet-long fits))
             ∙ ap answerOf (judged-verdict (feasible-judged t m f));
         pages = λ z. rw (wrote z .1) (pages-told (feasible-judged t m (wrote z .0)));
         sheets =
             λ z s low high.
             let fits = sheets-fit (feasible-judged t m (wrote z .0)) s high in
             rw (wrote z .1) (sheet-numbers (pageCount t m) (limitOf t) (pageAt t m) s low high (fits .0) (fits .1));
-        kept = with-kept plainRules t m (sheetsOf t m) out _ sheet-never;
+        kept = entry-kept _ _ out (printChecks t m out) (after-zero plainRules t m (sheetChecks t m out));
         weight = print-weight t m out;
       }

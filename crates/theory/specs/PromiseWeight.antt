@@ -1,8 +1,9 @@
--- Refusal 7 of every entry is the tree reader's, and exact: demand 3's last sentence, as the entries promise it. 5 is
--- never given.
--- Proves weight-promise, seven-tree (checks after the tree's that never give 7 leave it to the tree's), five-tree,
--- read-weight, judge-weight, write-weight, print-weight; and of the archive's reader and the converters read-five,
--- convert-five. Assumes nothing.
+-- Refusal 7 of every entry is what the tree reader says of a table, and exact: demand 3's last sentence, as the entries
+-- promise it. The table is the one that was handed in, or another that the entry speaks of, as the tree with a late leaf.
+-- 5 is never given.
+-- Defines SaysSeven. Proves weight-promise; tree-says, says-after, says-pass, says-stop (which lists of checks say 7 of a
+-- table); tree-weight, read-weight, judge-weight, write-weight, print-weight; and of the archive's reader and the
+-- converters read-five, convert-five. Assumes nothing.
 use Prim.Native.Nat.{ℕ}
 use native.Mathlib.Omega.{arith}
 use mathlib.Core.Path.{_≡_, refl, sym, _∙_, ap}
@@ -13,7 +14,7 @@ use Rattle.model.specs.Plan.{verdictOf}
 use Rattle.model.specs.Archive.{tableIn, marksIn}
 use Rattle.model.specs.Refusals.{Check, treeChecks, markChecks, filmChecks, sheetChecks, judgeChecks, writeChecks}
 use Rattle.model.specs.Refusals.{plainRules, printChecks, passes}
-use Rattle.model.specs.Refusals.{answerOf, accepted, firstOf, readTree, judgePlan, writeChecked}
+use Rattle.model.specs.Refusals.{answerOf, accepted, firstOf, checked, readTree, judgePlan}
 use Rattle.model.specs.Refusals.{writeArchive, printSheets, readChecks, readArchive, convertChecks, convertArchive}
 use Rattle.model.specs.Demand.{WeightPromise}
 use Rattle.model.specs.declared.Cause.the-variants.{BadMark, HeavyPage}
@@ -21,9 +22,9 @@ use Rattle.model.specs.declared.Verdict.{Verdict}
 use Rattle.model.specs.declared.Verdict.the-variants.{Feasible, Failed}
 use Rattle.model.specs.declared.Answer.{Answer}
 use Rattle.model.specs.declared.Edition.{Edition}
-use Rattle.theory.specs.Checks.{Never, Plain, firstOf-pass, firstOf-stop, firstOf-all, never-append, never-first}
-use Rattle.theory.specs.Checks.{plain-append, mark-plain, film-plain, sheet-plain, tree-never-five, read-plain}
-use Rattle.theory.specs.Checks.{convert-plain}
+use Rattle.theory.specs.Checks.{Never, Plain, firstOf-pass, firstOf-stop, firstOf-fails, firstOf-all}
+use Rattle.theory.specs.Checks.{never-append, never-first, plain-append, mark-plain, film-plain, sheet-plain}
+use Rattle.theory.specs.Checks.{tree-never-five, read-plain, convert-plain}
 use Rattle.theory.specs.RunsHeld.{refused-unheld, seven-refused}
 
 -- an entry that answers 7 just where the tree reader does, and 5 nowhere
@@ -38,28 +39,51 @@ weight-promise t r same never =
       five = never;
     }
 
-pub seven-tree : (t : List ℕ) (cs : List Check) (a : Answer) → Never 7 cs → (a .number ≡ 7 → ⊥)
-    → (firstOf (treeChecks true t ++ cs) a .number ≡ 7) ↔ (readTree t .number ≡ 7)
+-- ---- Lists of checks that say 7 of the table u, where the tree reader does, and nowhere else
+
+abbrev pub SaysSeven : List ℕ → List Check → Type 0
+SaysSeven u cs = (a : Answer) → (a .number ≡ 7 → ⊥) → (firstOf cs a .number ≡ 7) ↔ (readTree u .number ≡ 7)
+
+-- where the numbers are the same
+says-same : {n k r : ℕ} → n ≡ k → (k ≡ 7) ↔ (r ≡ 7) → (n ≡ 7) ↔ (r ≡ 7)
+says-same e h = (λ z. h .0 (sym e ∙ z), λ z. e ∙ h .1 z)
+
+module _ (u : List ℕ) (cs ds : List Check) where
+  -- checks that do not pass say it, whatever comes after
+  pub says-stop : passes cs ≡ false → SaysSeven u cs → SaysSeven u (cs ++ ds)
+  says-stop e says a other = says-same (ap (λ (x : Answer). x .number) (firstOf-stop cs ds a a e)) (says a other)
+
+  -- checks that pass leave it to those after them
+  pub says-pass : passes cs ≡ true → SaysSeven u ds → SaysSeven u (cs ++ ds)
+  says-pass e says a other = says-same (ap (λ (x : Answer). x .number) (firstOf-pass cs ds a e)) (says a other)
+
+  -- and those that never give 7 add nothing
+  pub says-after : SaysSeven u cs → Never 7 ds → SaysSeven u (cs ++ ds)
+  says-after says never = go (passes cs) refl
+    where
+      go : (b : Bool) → passes cs ≡ b → SaysSeven u (cs ++ ds)
+      go false e = says-stop e says
+      go true e = λ a other. (
+        λ z. absurd
+            (other (never-first 7 ds a never (sym (ap (λ (x : Answer). x .number) (firstOf-pass cs ds a e)) ∙ z) .1)),
+        λ z. absurd (other (sym (ap (λ (x : Answer). x .number) (firstOf-all cs a e)) ∙ says a other .1 z)),
+      )
+
+-- the tree's own checks
+pub tree-says : (t : List ℕ) → SaysSeven t (treeChecks true t)
 unfolding readTree
-seven-tree t cs a never other = go (passes (treeChecks true t)) refl
+tree-says t a other = go (passes (treeChecks true t)) refl
   where
-    go : (b : Bool) → passes (treeChecks true t) ≡ b → (firstOf (treeChecks true t ++ cs) a .number ≡ 7)
-        ↔ (firstOf (treeChecks true t) accepted .number ≡ 7)
+    go : (b : Bool) → passes (treeChecks true t) ≡ b
+        → (firstOf (treeChecks true t) a .number ≡ 7) ↔ (firstOf (treeChecks true t) accepted .number ≡ 7)
     go true e = (
-      λ h. absurd (other (never-first 7 cs a never
-          (sym (ap (λ (x : Answer). x .number) (firstOf-pass (treeChecks true t) cs a e)) ∙ h) .1)),
-      λ h. absurd (omega (arith, ap (λ (x : Answer). x .number) (firstOf-all (treeChecks true t) accepted e))),
+      λ z. absurd (other (sym (ap (λ (x : Answer). x .number) (firstOf-all (treeChecks true t) a e)) ∙ z)),
+      λ z. absurd (omega (arith, ap (λ (x : Answer). x .number) (firstOf-all (treeChecks true t) accepted e))),
     )
     go false e =
-        let q = ap (λ (x : Answer). x .number) (firstOf-stop (treeChecks true t) cs a accepted e) in
-        (λ h. sym q ∙ h, λ h. q ∙ h)
+        says-same (ap (λ (x : Answer). x .number) (firstOf-fails (treeChecks true t) a accepted e)) (λ z. z, λ z. z)
 
-pub five-tree : (t : List ℕ) (cs : List Check) (a : Answer) → Never 5 cs → (a .number ≡ 5 → ⊥)
-    → firstOf (treeChecks true t ++ cs) a .number ≡ 5 → ⊥
-five-tree t cs a never other h =
-    other
-    (never-first 5 (treeChecks true t ++ cs) a
-    (never-append 5 (treeChecks true t) cs (tree-never-five true t) never) h .1)
+-- ---- The entries
 
 -- no verdict has number 7 or 5
 verdict-never : (v : Verdict) → (answerOf v .number ≡ 7 → ⊥) × (answerOf v .number ≡ 5 → ⊥)
@@ -74,16 +98,18 @@ read-weight t =
     (λ h. omega (arith, never-first 5 (treeChecks true t) accepted (tree-never-five true t) h .1))
 
 -- an entry that checks the tree, then cs, and else has a verdict
-tree-weight : (t : List ℕ) (cs : List Check) (v : Verdict) → Never 7 cs → Never 5 cs
+pub tree-weight : (t : List ℕ) (cs : List Check) (v : Verdict) → Plain cs
     → WeightPromise t (firstOf (treeChecks true t ++ cs) (answerOf v))
-tree-weight t cs v seven five =
-    weight-promise t _ (seven-tree t cs (answerOf v) seven (verdict-never v .0))
-    (five-tree t cs (answerOf v) five (verdict-never v .1))
+tree-weight t cs v plain =
+    weight-promise t _
+    (says-after t (treeChecks true t) cs (tree-says t) (plain .1) (answerOf v) (verdict-never v .0))
+    (λ h. verdict-never v .1 (never-first 5 (treeChecks true t ++ cs) (answerOf v)
+    (never-append 5 (treeChecks true t) cs (tree-never-five true t) (plain .2)) h .1))
 
 module _ (t m : List ℕ) where
   pub judge-weight : WeightPromise t (judgePlan t m)
   unfolding judgePlan judgeChecks
-  judge-weight = tree-weight t (markChecks t m) (verdictOf t m) (mark-plain t m .1) (mark-plain t m .2)
+  judge-weight = tree-weight t (markChecks t m) (verdictOf t m) (mark-plain t m)
 
   -- an entry that checks more after the judge
   judge-more : (cs : List Check) → Plain cs
@@ -92,24 +118,24 @@ module _ (t m : List ℕ) where
   judge-more cs more =
       let plain = plain-append (markChecks t m) cs (mark-plain t m) more in
       rw (append-assoc (treeChecks true t) (markChecks t m) cs)
-      (tree-weight t (markChecks t m ++ cs) (verdictOf t m) (plain .1) (plain .2))
+      (tree-weight t (markChecks t m ++ cs) (verdictOf t m) plain)
 
   pub write-weight : (e : Edition) (out : List ℕ) → WeightPromise t (writeArchive e t m out .answer)
-  unfolding writeArchive writeChecked writeChecks
+  unfolding writeArchive checked writeChecks
   write-weight e out = judge-more (filmChecks e t m out) (film-plain e t m out)
 
   pub print-weight : (out : List ℕ) → WeightPromise t (printSheets t m out .answer)
-  unfolding printSheets writeChecked printChecks
+  unfolding printSheets checked printChecks
   print-weight out = judge-more (sheetChecks t m out) (sheet-plain t m out)
 
 pub read-five : (e : Edition) (a t m : List ℕ) → readArchive e a t m .answer .number ≡ 5 → ⊥
-unfolding readArchive
+unfolding readArchive checked
 read-five e a t m h =
     verdict-never (verdictOf (tableIn e a) (marksIn e a)) .1
     (never-first 5 (readChecks e a t m) _ (read-plain e a t m .2) h .1)
 
 pub convert-five : (e f : Edition) (a out : List ℕ) → convertArchive e f a out .answer .number ≡ 5 → ⊥
-unfolding convertArchive writeChecked
+unfolding convertArchive checked
 convert-five e f a out h =
     verdict-never (verdictOf (tableIn e a) (marksIn e a)) .1
     (never-first 5 (convertChecks e f a out) _ (convert-plain e f a out .2) h .1)

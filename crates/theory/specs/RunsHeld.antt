@@ -7,7 +7,7 @@ use native.Mathlib.Omega.{arith}
 use mathlib.Core.Bool.{Bool, true, false, not, _&&_, true≢false, false≢true}
 use mathlib.Core.Path.{_≡_, refl, sym, _∙_, ap}
 use mathlib.Core.Logic.{_↔_}
-use mathlib.Core.List.{List, [], _∷_}
+use mathlib.Core.List.{List, []}
 use lib.ListN.{length, getD, replicate, getD-replicate}
 use lib.Dec.{eqb, leb, ltb}
 use borrow.Author.Tests.{eqb-true, eqb-false, eq-eqb, ne-eqb, leb-true, le-ltb, not-true}
@@ -15,7 +15,7 @@ use Rattle.model.specs.Basics.{pick, countTo}
 use Rattle.model.specs.Table.{nodeCount, limitOf, weightAt}
 use Rattle.model.specs.Plan.{begins, continues, markAt, hasMark, goodMark, badMark, pageOf, pageCount, pageWeight}
 use Rattle.model.specs.Plan.{heavyPage}
-use Rattle.model.specs.Runs.{Run, countOf, holds, homeOf, runWeight, withinLimit, runCount, rootWeight, runsOf}
+use Rattle.model.specs.Runs.{Run, OrderApart, holds, homeOf, runWeight, withinLimit, runCount, rootWeight, runsOf}
 use Rattle.model.specs.Refusals.{formChecks, weightChecks, treeChecks, passes, soundForm, acceptedTree}
 use Rattle.model.specs.Refusals.{refusedForWeight}
 use Rattle.model.specs.Refusals.{firstOf, accepted, readTree}
@@ -32,7 +32,7 @@ use Rattle.theory.specs.PlanPages.{bad-none, good-first, good-later, pag
 use Rattle.theory.specs.Lists.{every-all}
 use Rattle.theory.specs.RunsFacts.{HoldFacts, holds-facts, home-first}
 use Rattle.theory.specs.RunsMarked.{length-runsOf}
-use Rattle.theory.specs.RunsSame.{SameRuns, sameRun, same-home, same-weight, same-root, same-limit, same-length}
+use Rattle.theory.specs.RunsSame.{SameRuns, same-home, same-weight, same-root, same-limit, same-length}
 use Rattle.theory.specs.RunsSame.{same-times}
 use Rattle.theory.specs.RunsOfPlan.{runs-facts, runs-hold, root-weight, within-heavy}
 use Rattle.theory.specs.RunsToPlan.{marksOf, marks-length, marks-good, runs-of-marks, one-plan}
@@ -64,7 +64,7 @@ pub record RunsPlan (t : List ℕ) (rs : List Run) : Type 0 where
   pub long : length marks ≡ nodeCount t
   pub good : badMark t marks ≡ Nowhere
   pub runs : SameRuns (runsOf t marks) rs
-  pub times : (r : Run) → countOf (sameRun r) (runsOf t marks) ≡ countOf (sameRun r) rs
+  pub times : OrderApart (runsOf t marks) rs
   pub only : (m : List ℕ) → length m ≡ nodeCount t → badMark t m ≡ Nowhere → SameRuns (runsOf t m) rs → m ≡ marks
   pub count : pageCount t marks ≡ runCount rs
   pub home : (v : ℕ) → homeOf t (runsOf t marks) v ≡ homeOf t rs v

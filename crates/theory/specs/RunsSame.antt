@@ -1,12 +1,12 @@
 -- Two sequences with the same runs, in whatever order, say the same: a sequence that holds the tree and one with the
 -- same runs have the same homes, page weights and verdict on the limit, and, where the other holds the tree too, the
 -- same length and each run as often.
--- Defines SameRuns, sameRun. Assumes nothing.
+-- Defines SameRuns. Assumes nothing.
 use Prim.Native.Nat.{ℕ, zero, suc, _+_, _≤_}
 use native.Mathlib.Omega.{arith}
 use native.Mathlib.Nat.{eq-zero-or-pos}
-use mathlib.Core.Bool.{Bool, true, _&&_}
-use mathlib.Core.Path.{_≡_, refl, sym, _∙_, ap}
+use mathlib.Core.Bool.{Bool, true}
+use mathlib.Core.Path.{_≡_, refl, sym, _∙_, ap, subst}
 use mathlib.Core.Logic.{⊎-elim}
 use mathlib.Core.List.{List, [], _∷_, List·Memᴰ·head, List·Memᴰ·tail}
 use lib.ListN.{length}
@@ -16,29 +16,45 @@ use Rattle.model.specs.Basics.{pick, atPlace, sumTo, every}
 use Rattle.model.specs.Table.{nodeCount, limitOf, weightAt}
 use Rattle.model.specs.Plan.{parentAt}
 use Rattle.model.specs.Runs.{Run, isMember, rootRun, countOf, runWith, homeFrom, homeOf, runWeight, withinLimit}
-use Rattle.model.specs.Runs.{rootWeight}
+use Rattle.model.specs.Runs.{sameRun, OrderApart, rootWeight}
 use Rattle.model.specs.declared.Place.{Place}
 use Rattle.model.specs.declared.Place.the-variants.{At, Nowhere}
-use Rattle.theory.specs.Bools.{both-true, same-true}
+use Rattle.theory.specs.Bools.{both-true, and-true, same-true}
 use Rattle.theory.specs.Ranges.{Upto, sumTo-cong, sumTo-add, sumTo-none}
 use Rattle.theory.specs.Sums.{sumTo-only}
 use Rattle.theory.specs.TableFacts.{SoundFacts}
 use Rattle.theory.specs.Lists.{Mem, every-all, all-every, countOf-nil, countOf-some, countOf-cons, countOf-find}
 use Rattle.theory.specs.Lists.{countOf-le}
-use Rattle.theory.specs.RunsFacts.{RunFacts, FoundRun, HoldFacts, first-member, runWith-found, runWith-none}
+use Rattle.theory.specs.RunsFacts.{RunFacts, run-path, FoundRun, HoldFacts, first-member, runWith-found, runWith-none}
 use Rattle.theory.specs.RunsFacts.{none-runWith, runWith-at}
 
 pub record SameRuns (rs rs′ : List Run) : Type 0 where
   pub there : (r : Run) → Mem r rs → Mem r rs′
   pub back : (r : Run) → Mem r rs′ → Mem r rs
 
-unfoldable pub sameRun : Run → Run → Bool
-sameRun r r′ = eqb (r .first) (r′ .first) && eqb (r .last) (r′ .last)
-
 same-first : (r r′ : Run) → sameRun r r′ ≡ true → r .first ≡ r′ .first
 unfolding sameRun
 same-first r r′ e =
     eqb-true (r .first) (r′ .first) (both-true (eqb (r .first) (r′ .first)) (eqb (r .last) (r′ .last)) e .0)
+
+same-last : (r r′ : Run) → sameRun r r′ ≡ true → r .last ≡ r′ .last
+unfolding sameRun
+same-last r r′ e =
+    eqb-true (r .last) (r′ .last) (both-true (eqb (r .first) (r′ .first)) (eqb (r .last) (r′ .last)) e .1)
+
+same-itself : (r : Run) → sameRun r r ≡ true
+unfolding sameRun
+same-itself r = and-true _ _ (eq-eqb (r .first) (r .first) refl) (eq-eqb (r .last) (r .last) refl)
+
+-- a run that is somewhere as often is there
+apart-mem : (rs rs′ : List Run) → OrderApart rs rs′ → (r : Run) → Mem r rs → Mem r rs′
+apart-mem rs rs′ apart r m =
+    let f = countOf-find (sameRun r) rs′ (omega (arith, apart r, countOf-some (sameRun r) rs r m (same-itself r))) in
+    let same : r ≡ f .0 = run-path (same-first r (f .0) (f .2)) (same-last r (f .0) (f .2)) in
+    subst (λ (x : Run). Mem x rs′) (sym same) (f .1)
+
+pub apart-same : (rs rs′ : List Run) → OrderApart rs rs′ → SameRuns rs rs′
+apart-same rs rs′ apart = record { there = apart-mem rs rs′ apart; back = apart-mem rs′ rs (λ r. sym (apart r)) }
 
 -- ---- Homes and weights
 
