@@ -1,2 +1,3 @@
--- What the contracts of the judge cite.
-pub mod Rows
+-- What the contracts of the judge cite, and what it promises.
+pub mod Found
+pub mod PromiseJudge

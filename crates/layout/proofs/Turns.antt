@@ -3,7 +3,7 @@
 use mathlib.Core.Path.{_≡_, refl, sym, ap, ap₂, _∙_}
 use mathlib.Core.Bool.{Bool, true, false, not, _&&_, _||_}
 use mathlib.Core.List.{List, [], _∷_}
-use lib.Dec.{eqb, ltb}
+use lib.Dec.{eqb}
 use Prim.Native.Nat.{ℕ, zero, suc, _+_, _-_, _*_, _≤_, _<_}
 use native.Mathlib.Omega.{arith}
 use native.Mathlib.Numerals.{add-one}
@@ -11,13 +11,13 @@ use lib.ListN.{length, getD, set, replicate, getD-replicate, length-set}
 use lib.Seq.{getD-set-other}
 use borrow.Author.Tests.{ne-eqb}
 use Rattle.model.specs.Basics.{pick, when, atPlace, countTo, firstTo}
-use Rattle.model.specs.Table.{maxNodes, maxLimit, slots, nodeCount, limitOf, weightAt, nextAt}
+use Rattle.model.specs.Table.{maxNodes, maxLimit, slots, nodeCount, weightAt, nextAt}
 use Rattle.model.specs.Plan.{prevAt, parentAt, markAt, hasMark, begins, inRun, goodMark, pageOf}
-use Rattle.model.specs.Plan.{pageCount, pageWeight, badMark, heavyPage}
+use Rattle.model.specs.Plan.{pageCount, pageWeight, badMark}
 use Rattle.model.specs.declared.Place.{Place}
 use Rattle.model.specs.declared.Place.the-variants.{At}
 use Rattle.theory.specs.Ranges.{countTo-zero, countTo-suc, countTo-le}
-use Rattle.theory.specs.Ranges.{firstTo-zero, firstTo-suc, firstTo-cong, lastTo-zero}
+use Rattle.theory.specs.Ranges.{firstTo-zero, firstTo-suc, lastTo-zero}
 use Rattle.theory.specs.Sums.{sumTo-most}
 use Rattle.theory.specs.TableFacts.{AcceptedFacts}
 use Rattle.theory.specs.TableLinks.{next-le, prevAt-less}
@@ -28,7 +28,7 @@ use Rattle.theory.specs.Slots.{parent-is, home-is}
 use Rattle.theory.specs.PagesByNumber.{lastOnPage, lastOnPage-zero, lastOnPage-on, lastOnPage-off}
 use Rattle.theory.specs.PagesByNumber.{first-found, last-found}
 use Rattle.theory.specs.JudgeAnswers.{pageCount-le}
-use Rattle.judge.specs.Rows.{goodCase, Layout, layoutOf, IsLayout}
+use Rattle.layout.specs.Rows.{goodCase, Layout, layoutOf, IsLayout}
 
 -- ---- Pages
 
@@ -337,13 +337,3 @@ layout-end {t} {m} {v} {before} {r} {bad} a h le ge =
     )
 
 -- ---- Heavy pages
-
-pub heavy-is : {t : List ℕ} → AcceptedFacts t → (m : List ℕ) (r : Layout) (limit : ℕ) (o : Place) → IsLayout t m r
-    → o ≡ firstTo (r .pages) (λ p. ltb limit (getD (r .weights) p 0)) → limit ≡ limitOf t → o ≡ heavyPage t m
-unfolding heavyPage
-heavy-is {t} a m r limit o laid e d =
-    e
-    ∙ ap₂ (λ (n k : ℕ). firstTo n (λ p. ltb k (getD (r .weights) p 0))) (laid .pages-are) d
-    ∙ firstTo-cong (pageCount t m) (λ p. ltb (limitOf t) (getD (r .weights) p 0))
-    (λ p. ltb (limitOf t) (pageWeight t m p))
-    (λ p low high. ap (ltb (limitOf t)) (laid .weights-are p (omega (arith, pageCount-le t m, a .sound .count-high))))

@@ -2,21 +2,17 @@
 // mark that is not allowed.
 use crate::marks::is_good;
 use crate::marks::mark_at;
-use model::Place;
 use table::SLOTS;
 use words::read::next_at;
 use words::read::node_count;
 use words::read::weight_at;
 ghost use mathlib.Core.Path.{_≡_};
-ghost use Prim.Native.Nat.{_<_};
 ghost use mathlib.Core.Bool.{not};
-ghost use lib.Dec.{eqb, ltb};
-ghost use lib.ListN.{getD};
-ghost use Rattle.model.specs.Basics.{pick, when, firstTo};
-ghost use Rattle.model.specs.Table.{slots};
+ghost use lib.Dec.{eqb};
+ghost use Rattle.model.specs.Basics.{pick, when};
 ghost use Rattle.model.specs.Plan.{badMark};
 ghost use Rattle.theory.specs.TableFacts.{AcceptedFacts};
-ghost use Rattle.judge.specs.Rows.{Cleared, IsLayout, layoutOf};
+ghost use Rattle.layout.specs.Rows.{Cleared, IsLayout, layoutOf};
 
 // What a plan makes of a tree is left in rows: by node its parent and its page; by page its first node and the last
 // sibling of its run.
@@ -82,19 +78,4 @@ pub fn lay_pages(
         before[next_at(table, v) as usize] = v;
     }
     Laid { pages, bad }
-}
-
-// The first page that weighs over the limit.
-pub fn first_heavy(weights: &[u32; SLOTS], pages: u16, limit: u16) -> Place
-    requires { ⌜ pages < slots ⌝ }
-    ensures { λ r. ⌜ r ≡ firstTo pages (λ p. ltb limit (getD (now (weights .entry)) p 0)) ⌝ }
-{
-    let mut p: u16 = 0;
-    while p < pages {
-        p += 1;
-        if (limit as u32) < weights[p as usize] {
-            return Place::At(p as u32);
-        }
-    }
-    Place::Nowhere
 }

@@ -1,4 +1,4 @@
--- `judge::pages::lay_pages` meets its contract. Assumes nothing.
+-- `layout::pages::lay_pages` meets its contract. Assumes nothing.
 use mathlib.Core.Path.{_≡_, _∙_, ap}
 use Prim.Native.Nat.{ℕ, _+_, _-_, _≤_, _<_}
 use native.Mathlib.Omega.{arith}
@@ -9,13 +9,13 @@ use lib.Dec.{eqb}
 use Rattle.model.specs.Basics.{pick}
 use Rattle.model.specs.Table.{slots, nodeCount}
 use Rattle.model.specs.Plan.{pageOf}
-use Rattle.judge.proofs.Turns.{LayoutTo, layout-start, u-fits, next-fits, count-fits, home-fits, page-here}
-use Rattle.judge.proofs.Turns.{page-fits, weight-fits, rows-next, rows-turn, layout-turn, layout-end}
-use Rattle.judge.specs.Rows.{layoutOf}
+use Rattle.layout.proofs.Turns.{LayoutTo, layout-start, u-fits, next-fits, count-fits, home-fits, page-here}
+use Rattle.layout.proofs.Turns.{page-fits, weight-fits, rows-next, rows-turn, layout-turn, layout-end}
+use Rattle.layout.specs.Rows.{layoutOf}
 use denote.Ref.{now}
 use borrow.Author.Needs.{needs}
-use Rattle.judge.proofs.pages.lay_pages.Statement.{statement}
-use Rattle.judge.proofs.pages.lay_pages.Tie as tie
+use Rattle.layout.proofs.pages.lay_pages.Statement.{statement}
+use Rattle.layout.proofs.pages.lay_pages.Tie as tie
 
 abbrev Inv-loop : tie.InvT-loop
 Inv-loop table marks rows₀ weights₀ nodes before₀ pages₀ bad₀ v₀ rows weights before pages bad v =

@@ -1,4 +1,4 @@
--- `judge::marks::mark_at` meets its contract. Assumes nothing.
+-- `layout::marks::mark_at` meets its contract. Assumes nothing.
 use mathlib.Core.Path.{sym, ap, _∙_}
 use mathlib.Core.Logic.{⊎-elim}
 use Prim.Native.Nat.{ℕ}
@@ -7,8 +7,8 @@ use denote.Ref.{now}
 use lib.ListN.{getD, List·getD-eq-default}
 use Rattle.model.specs.Plan.{markAt}
 use borrow.Author.Needs.{needs}
-use Rattle.judge.proofs.marks.mark_at.Statement.{statement}
-use Rattle.judge.proofs.marks.mark_at.Tie as tie
+use Rattle.layout.proofs.marks.mark_at.Statement.{statement}
+use Rattle.layout.proofs.marks.mark_at.Tie as tie
 
 returns : tie.Need-returns
 unfolding markAt

@@ -1,4 +1,4 @@
--- `judge::pages::first_heavy` meets its contract: no page passed so far weighs over the limit. Assumes nothing.
+-- `judge::heavy::first_heavy` meets its contract: no page passed so far weighs over the limit. Assumes nothing.
 use mathlib.Core.Path.{_≡_, sym}
 use Prim.Native.Nat.{_-_, _≤_}
 use lib.Dec.{ltb}
@@ -9,8 +9,8 @@ use Rattle.model.specs.declared.Place.the-variants.{Nowhere}
 use Rattle.theory.specs.Ranges.{firstTo-zero}
 use Rattle.theory.specs.Search.{search-on, search-found, search-none}
 use borrow.Author.Needs.{needs}
-use Rattle.judge.proofs.pages.first_heavy.Statement.{statement}
-use Rattle.judge.proofs.pages.first_heavy.Tie as tie
+use Rattle.judge.proofs.heavy.first_heavy.Statement.{statement}
+use Rattle.judge.proofs.heavy.first_heavy.Tie as tie
 
 abbrev Inv-loop : tie.InvT-loop
 Inv-loop weights pages limit p₀ p =

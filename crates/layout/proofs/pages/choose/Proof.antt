@@ -1,8 +1,8 @@
--- `judge::pages::choose` meets its contract. Assumes nothing.
+-- `layout::pages::choose` meets its contract. Assumes nothing.
 use mathlib.Core.Path.{sym}
 use Rattle.theory.specs.Ranges.{pick-true, pick-false}
-use Rattle.judge.proofs.pages.choose.Statement.{statement}
-use Rattle.judge.proofs.pages.choose.Tie as tie
+use Rattle.layout.proofs.pages.choose.Statement.{statement}
+use Rattle.layout.proofs.pages.choose.Tie as tie
 
 returns : tie.Need-returns
 returns c = sym (pick-true (c .before .args .test) _ _ (c .if1 .taken))

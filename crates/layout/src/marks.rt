@@ -1,7 +1,7 @@
 // The marks of a plan, and the test of one.
 ghost use mathlib.Core.Path.{_≡_};
 ghost use Rattle.model.specs.Plan.{markAt};
-ghost use Rattle.judge.specs.Rows.{goodCase};
+ghost use Rattle.layout.specs.Rows.{goodCase};
 
 // The mark of node v; what lies past the end reads as 0.
 pub fn mark_at(marks: &[u8], v: u16) -> u8

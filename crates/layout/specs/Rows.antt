@@ -1,5 +1,7 @@
--- What the arrays of the judge hold, what its pass over a plan finds, and the test of a mark by numbers.
--- Defines goodCase, Layout, layoutOf, Cleared, IsLayout, LightPages. Proves light-pages. Assumes nothing.
+-- What the arrays of a layout hold, what the pass over a plan finds, whatever the judge says of it, and what is known of
+-- the layout of a feasible plan; and the test of a mark by numbers.
+-- Defines goodCase, Layout, layoutOf, Cleared, IsLayout, LightPages, FeasibleLayout. Proves feasible-layout. Assumes
+-- nothing.
 use Prim.Native.Nat.{ℕ, _≤_, _<_}
 use native.Mathlib.Omega.{arith}
 use mathlib.Core.Path.{_≡_}
@@ -8,7 +10,7 @@ use mathlib.Core.List.{List, []}
 use lib.ListN.{getD, replicate}
 use lib.Dec.{eqb}
 use Rattle.model.specs.Basics.{pick}
-use Rattle.model.specs.Table.{maxLimit, slots, nodeCount, limitOf}
+use Rattle.model.specs.Table.{maxNodes, maxLimit, slots, nodeCount, limitOf}
 use Rattle.model.specs.Plan.{parentAt, pageOf, pageWeight, pageCount, badMark}
 use Rattle.model.specs.Runs.{pageRun}
 use Rattle.model.specs.declared.Place.the-variants.{Nowhere}
@@ -64,20 +66,45 @@ pub record LightPages (weights : List ℕ) (pages limit : ℕ) : Type 0 where
   pub high : limit ≤ maxLimit
   pub within : Upto pages (λ p. getD weights p 0 ≤ limit)
 
--- as a feasible plan's are
-pub light-pages : {t m : List ℕ} {l : Layout} → Judged t m → IsLayout t m l
-    → LightPages (l .weights) (l .pages) (limitOf t)
-light-pages {t} {m} {l} j is =
+-- the layout of a feasible plan, and what is known of it
+pub record FeasibleLayout (t m : List ℕ) (l : Layout) : Type 0 where
+  pub judged : Judged t m
+  pub parents-are : Row (nodeCount t) (parentAt t) (l .parents)
+  pub page-is : Row (nodeCount t) (pageOf t m) (l .page)
+  pub firsts-are : Row (pageCount t m) (λ p. pageRun t m p .first) (l .firsts)
+  pub lasts-are : Row (pageCount t m) (λ p. pageRun t m p .last) (l .lasts)
+  pub weights-are : Row (pageCount t m) (pageWeight t m) (l .weights)
+  pub root-is : getD (l .weights) 1 0 ≡ pageWeight t m 1
+  pub pages-are : l .pages ≡ pageCount t m
+  pub pages-most : pageCount t m ≤ maxNodes
+  pub light : LightPages (l .weights) (l .pages) (limitOf t)
+
+pub feasible-layout : {t m : List ℕ} {l : Layout} → Judged t m → IsLayout t m l → FeasibleLayout t m l
+feasible-layout {t} {m} {l} j is =
     record {
-      few = omega (arith, is .pages-are, pageCount-le t m, j .tree .sound .count-high);
-      low = j .tree .sound .limit-low;
-      high = j .tree .sound .limit-high;
-      within =
-          λ p low high.
-          let upto : p ≤ pageCount t m = omega (arith, is .pages-are) in
-          omega (
-            arith,
-            is .weights-are p (omega (arith, is .pages-are, pageCount-le t m, j .tree .sound .count-high)),
-            within-limit j p low upto,
-          );
+      judged = j;
+      parents-are = is .parents-are;
+      page-is = is .page-is;
+      firsts-are = is .firsts-are (j .marked);
+      lasts-are = is .lasts-are (j .marked);
+      weights-are = weights;
+      root-is = is .weights-are 1 (omega arith);
+      pages-are = is .pages-are;
+      pages-most = most;
+      light =
+          record {
+            few = omega (arith, is .pages-are, most);
+            low = j .tree .sound .limit-low;
+            high = j .tree .sound .limit-high;
+            within =
+                λ p low high.
+                let upto : p ≤ pageCount t m = omega (arith, is .pages-are) in
+                omega (arith, weights p low upto, within-limit j p low upto);
+          };
     }
+  where
+    most : pageCount t m ≤ maxNodes
+    most = omega (arith, pageCount-le t m, j .tree .sound .count-high)
+
+    weights : Row (pageCount t m) (pageWeight t m) (l .weights)
+    weights p low high = is .weights-are p (omega (arith, most))

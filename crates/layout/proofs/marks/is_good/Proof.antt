@@ -1,11 +1,11 @@
--- `judge::marks::is_good` meets its contract. Assumes nothing.
+-- `layout::marks::is_good` meets its contract. Assumes nothing.
 use mathlib.Core.Path.{sym, _∙_}
 use lib.Dec.{eqb}
 use borrow.Author.Tests.{eq-eqb, ne-eqb}
 use Rattle.theory.specs.Ranges.{pick-true, pick-false}
-use Rattle.judge.specs.Rows.{goodCase}
-use Rattle.judge.proofs.marks.is_good.Statement.{statement}
-use Rattle.judge.proofs.marks.is_good.Tie as tie
+use Rattle.layout.specs.Rows.{goodCase}
+use Rattle.layout.proofs.marks.is_good.Statement.{statement}
+use Rattle.layout.proofs.marks.is_good.Tie as tie
 
 returns : tie.Need-returns
 unfolding goodCase

@@ -1,0 +1,2 @@
+-- What the contracts of the layout cite, and what is known of a feasible plan's.
+pub mod Rows
