@@ -4,7 +4,7 @@ use native.Mathlib.Omega.{arith}
 use mathlib.Core.Path.{_≡_, refl, _∙_, ap}
 use mathlib.Core.List.{List}
 use lib.ListN.{length}
-use Rattle.judge.specs.Rows.{Layout}
+use Rattle.layout.specs.Rows.{Layout}
 use Rattle.theory.specs.Appended.{Appended, Filled, filled-first, filled-then}
 use Rattle.pages.specs.Text.{lineBytes}
 use Rattle.pages.specs.Listing.{lineOf, headOf, linesTo, layoutLines, lines-start, lines-more}

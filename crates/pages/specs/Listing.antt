@@ -1,7 +1,6 @@
 -- The lines of a plan, from its layout, and those of a planner's answer, by its number.
 -- Defines lineOf, headOf, linesTo, layoutLines. Proves layout-lines, lines-refused, lines-planned. Assumes nothing.
-use Prim.Native.Nat.{ℕ, suc, _+_, _≤_, _<_}
-use native.Mathlib.Omega.{arith}
+use Prim.Native.Nat.{ℕ, suc, _+_}
 use native.Mathlib.Numerals.{add-one}
 use mathlib.Core.Path.{_≡_, sym, _∙_, ap, ap₂}
 use mathlib.Core.List.{List, _++_, append-assoc, append-nil}
@@ -9,16 +8,13 @@ use lib.Dec.{eqb}
 use lib.ListN.{getD}
 use borrow.Author.Tests.{eq-eqb, ne-eqb}
 use Rattle.model.specs.Basics.{listTo}
-use Rattle.model.specs.Table.{maxNodes, slots, limitOf}
+use Rattle.model.specs.Table.{limitOf}
 use Rattle.model.specs.Plan.{pageCount, pageWeight}
 use Rattle.model.specs.Runs.{pageRun}
-use Rattle.model.specs.Refusals.{Planned}
+use Rattle.model.specs.Refusals.{Outcome, PlanBuffers, planLeft}
 use Rattle.model.specs.declared.Answer.{Answer}
-use Rattle.theory.specs.Ranges.{Upto, pick-true, pick-false, listTo-zero, listTo-suc, listTo-cong}
-use Rattle.theory.specs.JudgeAnswers.{pageCount-le}
-use Rattle.theory.specs.PlanFeasible.{Judged}
-use Rattle.judge.specs.Rows.{Layout, IsLayout}
-use Rattle.planner.specs.Outcome.{outcome}
+use Rattle.theory.specs.Ranges.{pick-true, pick-false, listTo-zero, listTo-suc, listTo-cong}
+use Rattle.layout.specs.Rows.{Layout, FeasibleLayout}
 use Rattle.pages.specs.Text.{headLine, pageLine, refusalLine, planLines, answerLines}
 
 -- ---- Lines of a layout
@@ -49,35 +45,19 @@ module _ (l : Layout) (limit : ℕ) where
       (ap (λ (x : List ℕ). headOf l limit ++ x) (listTo-suc n (lineOf l))
       ∙ sym (append-assoc (headOf l limit) (listTo n (lineOf l)) (lineOf l (suc n))))
 
-module _ {t m : List ℕ} (j : Judged t m) {l : Layout} (is : IsLayout t m l) where
-  -- a page's number is a place of the arrays
-  page-slot : (q : ℕ) → q ≤ pageCount t m → q < slots
-  page-slot q high = omega (arith, pageCount-le t m, j .tree .sound .count-high)
-
-  pub pages-most : l .pages ≤ maxNodes
-  pages-most = omega (arith, is .pages-are, page-slot (pageCount t m) (omega arith))
-
-  -- the layout of a plan gives the plan's lines
-  pub layout-lines : layoutLines l (limitOf t) ≡ planLines t m
-  unfolding layoutLines linesTo lineOf planLines
-  layout-lines =
-      ap₂ (λ (h x : List ℕ). h ++ x)
-      (ap₂ (λ n w. headLine n w (limitOf t)) (is .pages-are) (is .weights-are 1 (omega arith)))
-      (ap (λ n. listTo n (lineOf l)) (is .pages-are)
-      ∙ listTo-cong (pageCount t m) (lineOf l)
-      (λ q. pageLine q (pageRun t m q .first) (pageRun t m q .last) (pageWeight t m q)) line)
-    where
-      line : Upto (pageCount t m)
-          (λ q. lineOf l q ≡ pageLine q (pageRun t m q .first) (pageRun t m q .last) (pageWeight t m q))
-      line q low high =
-          let good = j .marked in
-          ap₂ (λ x y. pageLine q x y (getD (l .weights) q 0)) (is .firsts-are good q low high)
-          (is .lasts-are good q low high)
-          ∙ ap (pageLine q (pageRun t m q .first) (pageRun t m q .last)) (is .weights-are q (page-slot q high))
+-- the layout of a plan gives the plan's lines
+pub layout-lines : {t m : List ℕ} {l : Layout} → FeasibleLayout t m l → layoutLines l (limitOf t) ≡ planLines t m
+unfolding layoutLines linesTo lineOf planLines
+layout-lines {t} {m} {l} f =
+    ap₂ (λ (h x : List ℕ). h ++ x) (ap₂ (λ n w. headLine n w (limitOf t)) (f .pages-are) (f .root-is))
+    (ap (λ n. listTo n (lineOf l)) (f .pages-are)
+    ∙ listTo-cong (pageCount t m) (lineOf l)
+    (λ q. pageLine q (pageRun t m q .first) (pageRun t m q .last) (pageWeight t m q))
+    (λ q low high. rw (f .firsts-are q low high, f .lasts-are q low high, f .weights-are q low high)))
 
 -- ---- The planner's answer
 
-module _ (t : List ℕ) (r : Answer) (m s : List ℕ) {made : Planned} (is : outcome r m s ≡ made) where
+module _ (t : List ℕ) (r : Answer) (m s : List ℕ) {made : Outcome Answer PlanBuffers} (is : planLeft r m s ≡ made) where
   pub lines-refused : (r .number ≡ 0 → ⊥) → refusalLine (r .number) (r .place) ≡ answerLines t made
   unfolding answerLines
   lines-refused h =

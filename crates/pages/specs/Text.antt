@@ -9,7 +9,8 @@ use Rattle.model.specs.Decimal.{decimal, bytes}
 use Rattle.model.specs.Table.{maxNodes, nodeCount, limitOf}
 use Rattle.model.specs.Plan.{pageCount, pageWeight}
 use Rattle.model.specs.Runs.{pageRun}
-use Rattle.model.specs.Refusals.{Planned, planBest}
+use Rattle.model.specs.Refusals.{Outcome, PlanBuffers, planBest}
+use Rattle.model.specs.declared.Answer.{Answer}
 
 -- ---- Lines; each ends in one newline byte
 
@@ -49,9 +50,9 @@ planLines t m =
     ++ listTo (pageCount t m) (λ p. pageLine p (pageRun t m p .first) (pageRun t m p .last) (pageWeight t m p))
 
 -- an answer with the marks beside it: a refusal is one line
-unfoldable pub answerLines : List ℕ → Planned → List ℕ
+unfoldable pub answerLines : List ℕ → Outcome Answer PlanBuffers → List ℕ
 answerLines t made =
-    pick (eqb (made .answer .number) 0) (planLines t (made .marks))
+    pick (eqb (made .answer .number) 0) (planLines t (made .left .marks))
     (refusalLine (made .answer .number) (made .answer .place))
 
 -- the scratch words that the program lends

@@ -2,11 +2,11 @@
 use crate::text::head_line;
 use crate::text::page_line;
 use crate::text::refusal_line;
-use judge::FIRSTS;
-use judge::LASTS;
-use judge::ROWS;
-use judge::lay_pages;
-use planner::plan_best;
+use layout::FIRSTS;
+use layout::LASTS;
+use layout::ROWS;
+use planner::Planner;
+use planner::make_laid;
 use table::SLOTS;
 use words::read::limit_of;
 use words::read::node_count;
@@ -18,7 +18,7 @@ ghost use Rattle.model.specs.Table.{maxNodes};
 ghost use Rattle.model.specs.Refusals.{planBest};
 ghost use Rattle.theory.specs.Appended.{Filled};
 ghost use Rattle.pages.specs.Text.{reportBytes, answerLines, reportOf};
-ghost use Rattle.judge.specs.Rows.{layoutOf};
+ghost use Rattle.layout.specs.Rows.{layoutOf};
 ghost use Rattle.pages.specs.Listing.{layoutLines};
 
 // As many marks as a word can ask for: N may be anything until it is checked.
@@ -58,14 +58,21 @@ fn report_plan(table: &[u8], marks: &mut [u8], scratch: &mut [u32], out: &mut [u
         (planBest (now (table .entry)) (now (marks .entry)) (now (scratch .entry)))) (now (out .exit)) r ⌝ }
     ensures { λ r. ⌜ r ≤ reportBytes ⌝ }
 {
-    let answer = plan_best(table, marks, scratch);
+    let mut rows = [[0u16; SLOTS]; ROWS];
+    let mut weights = [0u32; SLOTS];
+    let made = make_laid(
+        Planner::Best,
+        table,
+        marks,
+        scratch,
+        &mut rows,
+        &mut weights,
+    );
+    let answer = made.answer;
     if answer.number != 0 {
         return refusal_line(out, 0, answer.number, answer.place);
     }
-    let mut rows = [[0u16; SLOTS]; ROWS];
-    let mut weights = [0u32; SLOTS];
-    let laid = lay_pages(table, marks, &mut rows, &mut weights);
-    list_pages(&rows, &weights, laid.pages, limit_of(table), out)
+    list_pages(&rows, &weights, made.pages, limit_of(table), out)
 }
 
 // All that the program writes for a table.

@@ -1,2 +1,2 @@
 -- What the planners' contracts cite.
-pub mod Outcome
+pub mod Steps

@@ -5,7 +5,7 @@ ghost use Prim.Native.Nat.{_≤_};
 ghost use lib.ListN.{getD};
 ghost use Rattle.model.specs.Basics.{sumTo};
 ghost use Rattle.model.specs.Prices.{fullFill, fillOf, priceAt, centsFor};
-ghost use Rattle.judge.specs.Rows.{LightPages};
+ghost use Rattle.layout.specs.Rows.{LightPages};
 
 const FULL_FILL: u32 = 15;
 

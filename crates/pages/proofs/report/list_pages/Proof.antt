@@ -4,7 +4,7 @@ use Prim.Native.Nat.{_-_, _≤_}
 use native.Mathlib.Omega.{arith}
 use lib.ListN.{length}
 use Rattle.model.specs.Table.{maxNodes}
-use Rattle.judge.specs.Rows.{layoutOf}
+use Rattle.layout.specs.Rows.{layoutOf}
 use Rattle.pages.specs.Text.{reportBytes}
 use Rattle.pages.specs.Listing.{lineOf}
 use Rattle.pages.proofs.Listed.{Listed, listed-start, listed-turn, listed-end}

@@ -1,2 +1,0 @@
--- What the contract of the saving cites.
-pub mod Saved
