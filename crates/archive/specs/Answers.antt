@@ -1,7 +1,6 @@
--- What the reader promises: an answer with what is left in the lent buffers; and what it learns of a candidate, and of
--- the film.
--- Defines restored, CopyJudged, Told. Proves read-both; copy-refused to copy-same; told-many, told-copy. Assumes
--- nothing.
+-- What the reader learns of a candidate, and of the film.
+-- Defines CopyJudged, Told. Proves copy-refused, copy-long, copy-stopped, copy-differs, copy-same; told-many,
+-- told-copy. Assumes nothing.
 use Prim.Native.Nat.{ℕ, _≤_, _<_}
 use native.Mathlib.Omega.{arith}
 use mathlib.Core.Bool.{true, false, _&&_, true≢false}
@@ -13,37 +12,16 @@ use Rattle.model.specs.Basics.{sameList}
 use Rattle.model.specs.Table.{Bytes, tableBytes}
 use Rattle.model.specs.Plan.{verdictOf}
 use Rattle.model.specs.Archive.{archiveOf, nodesIn, tableIn, marksIn}
-use Rattle.model.specs.Refusals.{feasibleFilm, refused, answerOf, Written, isArchive, Restored}
-use Rattle.model.specs.Refusals.{filmRules, writeBy, readArchive}
-use Rattle.model.specs.Demand.{ReadPromise}
+use Rattle.model.specs.Refusals.{feasibleFilm, refused, answerOf, outcome, Written, filmRules, writeBy, isArchive}
 use Rattle.model.specs.declared.Answer.{Answer}
 use Rattle.model.specs.declared.Edition.{Edition}
 use Rattle.theory.specs.Bools.{never-true, both-true, and-false-right}
 use Rattle.theory.specs.JudgeAnswers.{pageCount-le}
-use Rattle.theory.specs.Outputs.{written}
-use Rattle.theory.specs.ArchiveWords.{Described, length-archive, archive-nodes}
+use Rattle.theory.specs.ArchiveWords.{length-archive, archive-nodes}
 use Rattle.theory.specs.ArchiveBack.{sameList-true, write-read}
 use Rattle.theory.specs.ArchiveAnswers.{WriteDone, writer-done, writer-refused}
-use Rattle.theory.specs.PromiseArchive.{read-promise}
 use Rattle.records.specs.Size.{longestArchive, InRoom, fits-longest}
 use Rattle.film.specs.Decoded.{Decoded, too-many}
-
-abbrev pub restored : Answer → List ℕ → List ℕ → Restored
-restored r t m = record { answer = r; table = t; marks = m }
-
--- an answer and what is left, with the promise that they carry
-pub read-both : {e : Edition} → Described e → (f : Edition) {a table marks t m : List ℕ} {r : Answer}
-    → (isArchive e a ≡ true → isArchive f a ≡ true → ⊥) → Bytes a → restored r t m ≡ readArchive e a table marks
-    → (restored r t m ≡ readArchive e a table marks) × ReadPromise e f a table marks r t m
-read-both d f {a} {table} {marks} apart b w = (
-  w,
-  rw (
-    ap (λ (x : Restored). x .answer) w,
-    ap (λ (x : Restored). x .table) w,
-    ap (λ (x : Restored). x .marks) w,
-  )
-      (read-promise d a table marks f apart b),
-)
 
 -- ---- A candidate: an archive of bytes and the tree and the plan that were decoded of it
 
@@ -80,7 +58,7 @@ module _ {e : Edition} (room : InRoom e) (a t m : List ℕ) where
       ))
 
   -- the answer and the output of the writer that film is held against, compared with the archive
-  module _ (start out : List ℕ) (r : Answer) (w : written r out ≡ writeBy (filmRules e) e t m start) where
+  module _ (start out : List ℕ) (r : Answer) (w : outcome r out ≡ writeBy (filmRules e) e t m start) where
     number-is : r .number ≡ writeBy (filmRules e) e t m start .answer .number
     number-is = ap (λ (x : Written). x .answer .number) w
 
@@ -94,7 +72,7 @@ module _ {e : Edition} (room : InRoom e) (a t m : List ℕ) where
       done = writer-done (filmRules e) e t m start (sym number-is ∙ z)
 
       out-is : out ≡ archiveOf e t m
-      out-is = ap (λ (x : Written). x .output) (w ∙ done .wrote)
+      out-is = ap (λ (x : Written). x .left) (w ∙ done .wrote)
 
       pub copy-differs : sameList out a ≡ false → (feasibleFilm e t m && sameList (archiveOf e t m) a) ≡ false
       copy-differs n =

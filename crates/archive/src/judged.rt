@@ -3,7 +3,6 @@
 use film::nodes_in;
 use model::Answer;
 use model::Edition;
-use table::check_tree;
 use table::refuse;
 use table::table_bytes;
 use writer::write::write_edition;
@@ -44,8 +43,7 @@ fn judge_copy(e: Edition, archive: &[u8], tree: &[u8], plan: &[u8], copy: &mut [
     if copy.len() < size {
         return refuse(13, 0);
     }
-    let judged = check_tree(tree, e.filed);
-    let answer = write_edition(e, judged, tree, plan, &mut copy[..size]);
+    let answer = write_edition(e, e.filed, tree, plan, &mut copy[..size]);
     if answer.number != 0 {
         return refuse(13, 0);
     }

@@ -17,10 +17,9 @@ use table::table_bytes;
 ghost use mathlib.Core.Path.{_≡_};
 ghost use lib.ListN.{length};
 ghost use Rattle.model.specs.Archive.{firstEdition, secondEdition};
-ghost use Rattle.model.specs.Refusals.{readArchive};
+ghost use Rattle.model.specs.Refusals.{readLeft, readArchive};
 ghost use Rattle.model.specs.Demand.{ReadPromise};
 ghost use Rattle.archive.specs.Room.{Room};
-ghost use Rattle.archive.specs.Answers.{restored};
 
 // A string of bytes over another of its length.
 fn copy_bytes(from: &[u8], to: &mut [u8])
@@ -46,7 +45,7 @@ fn read_edition(
     marks: &mut [u8],
 ) -> Answer
     requires { ⌜ Room e (length (now tree)) (length (now plan)) (length (now copy)) ⌝ }
-    ensures { λ r. ⌜ restored r (now (table .exit)) (now (marks .exit))
+    ensures { λ r. ⌜ readLeft r (now (table .exit)) (now (marks .exit))
         ≡ readArchive e (now (archive .entry)) (now (table .entry)) (now (marks .entry)) ⌝ }
 {
     decode(e, archive, tree, plan);
@@ -72,7 +71,7 @@ fn read_edition(
 // Entry: the archive reader. What was written reads back, and what is read is what writing gives, but that film may
 // have labels 0, which are not written again.
 pub fn read_archive(archive: &[u8], table: &mut [u8], marks: &mut [u8]) -> Answer
-    ensures { λ r. ⌜ restored r (now (table .exit)) (now (marks .exit))
+    ensures { λ r. ⌜ readLeft r (now (table .exit)) (now (marks .exit))
         ≡ readArchive firstEdition (now (archive .entry)) (now (table .entry)) (now (marks .entry)) ⌝ }
     ensures { λ r. ⌜ ReadPromise firstEdition secondEdition (now (archive .entry)) (now (table .entry))
         (now (marks .entry)) r (now (table .exit)) (now (marks .exit)) ⌝ }
@@ -93,7 +92,7 @@ pub fn read_archive(archive: &[u8], table: &mut [u8], marks: &mut [u8]) -> Answe
 
 // Entry: the reader of edition 2, which has no label 0.
 pub fn read_archive2(archive: &[u8], table: &mut [u8], marks: &mut [u8]) -> Answer
-    ensures { λ r. ⌜ restored r (now (table .exit)) (now (marks .exit))
+    ensures { λ r. ⌜ readLeft r (now (table .exit)) (now (marks .exit))
         ≡ readArchive secondEdition (now (archive .entry)) (now (table .entry)) (now (marks .entry)) ⌝ }
     ensures { λ r. ⌜ ReadPromise secondEdition firstEdition (now (archive .entry)) (now (table .entry))
         (now (marks .entry)) r (now (table .exit)) (now (marks .exit)) ⌝ }

@@ -13,13 +13,12 @@ use records::size::SECOND_TABLE;
 use records::size::first_edition;
 use records::size::second_edition;
 use table::table_bytes;
-use writer::write::write_filed;
+use writer::write::write_edition;
 ghost use mathlib.Core.Path.{_≡_};
 ghost use lib.ListN.{length};
 ghost use Rattle.model.specs.Archive.{firstEdition, secondEdition};
-ghost use Rattle.model.specs.Refusals.{convertArchive};
+ghost use Rattle.model.specs.Refusals.{outcome, convertArchive};
 ghost use Rattle.model.specs.Demand.{ConvertPromise};
-ghost use Rattle.theory.specs.Outputs.{written};
 ghost use Rattle.records.specs.Size.{InRoom};
 ghost use Rattle.archive.specs.Room.{Room};
 
@@ -35,7 +34,7 @@ fn convert_edition(
     out: &mut [u8],
 ) -> Answer
     requires { ⌜ Room e (length (now tree)) (length (now plan)) (length (now copy)) × InRoom f ⌝ }
-    ensures { λ r. ⌜ written r (now (out .exit)) ≡ convertArchive e f (now (archive .entry)) (now (out .entry)) ⌝ }
+    ensures { λ r. ⌜ outcome r (now (out .exit)) ≡ convertArchive e f (now (archive .entry)) (now (out .entry)) ⌝ }
 {
     decode(e, archive, tree, plan);
     let answer = judge_film(e, archive, tree, plan, copy);
@@ -45,12 +44,12 @@ fn convert_edition(
     let nodes = nodes_in(e, archive);
     let count = nodes as usize;
     let bytes = table_bytes(nodes) as usize;
-    write_filed(f, &tree[..bytes], &plan[..count], out)
+    write_edition(f, true, &tree[..bytes], &plan[..count], out)
 }
 
 // Entry: the converter from the archive of document 01 to edition 2. 13, 14 and 12.
 pub fn convert_to_2(archive: &[u8], out: &mut [u8]) -> Answer
-    ensures { λ r. ⌜ written r (now (out .exit))
+    ensures { λ r. ⌜ outcome r (now (out .exit))
         ≡ convertArchive firstEdition secondEdition (now (archive .entry)) (now (out .entry)) ⌝ }
     ensures { λ r. ⌜ ConvertPromise firstEdition secondEdition (now (archive .entry)) (now (out .entry))
         r (now (out .exit)) ⌝ }
@@ -71,7 +70,7 @@ pub fn convert_to_2(archive: &[u8], out: &mut [u8]) -> Answer
 
 // Entry: the converter back, from edition 2 to the archive of document 01. 13, 15 and 12.
 pub fn convert_to_1(archive: &[u8], out: &mut [u8]) -> Answer
-    ensures { λ r. ⌜ written r (now (out .exit))
+    ensures { λ r. ⌜ outcome r (now (out .exit))
         ≡ convertArchive secondEdition firstEdition (now (archive .entry)) (now (out .entry)) ⌝ }
     ensures { λ r. ⌜ ConvertPromise secondEdition firstEdition (now (archive .entry)) (now (out .entry))
         r (now (out .exit)) ⌝ }

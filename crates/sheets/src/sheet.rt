@@ -12,7 +12,7 @@ ghost use lib.ListN.{length};
 ghost use Rattle.model.specs.Table.{slots};
 ghost use Rattle.model.specs.Sheets.{sheetLines, sheetBytes, sheetCount, lineAt, sheetAt, sheetsBy};
 ghost use Rattle.theory.specs.Appended.{Appended};
-ghost use Rattle.judge.specs.Rows.{LightPages};
+ghost use Rattle.layout.specs.Rows.{LightPages};
 ghost use Rattle.sheets.specs.Lines.{pageIn};
 
 const SHEET_LINES: u16 = 60;

@@ -1,11 +1,11 @@
 // The archive's writer. It judges the plan, and puts head, page records and node records of the layout that the judge
 // found.
-use judge::FIRSTS;
-use judge::LASTS;
-use judge::PAGE;
-use judge::PARENTS;
-use judge::ROWS;
 use judge::judge_pages;
+use layout::FIRSTS;
+use layout::LASTS;
+use layout::PAGE;
+use layout::PARENTS;
+use layout::ROWS;
 use model::Answer;
 use model::Edition;
 use records::counts::count_nodes;
@@ -18,7 +18,6 @@ use records::size::archive_bytes;
 use records::size::first_edition;
 use records::size::second_edition;
 use table::SLOTS;
-use table::check_tree;
 use table::earlier;
 use table::place_if;
 use words::read::limit_of;
@@ -31,13 +30,9 @@ ghost use lib.Dec.{eqb, ltb};
 ghost use Rattle.model.specs.Basics.{when, atPlace};
 ghost use Rattle.model.specs.Table.{nodeCount};
 ghost use Rattle.model.specs.Archive.{firstEdition, secondEdition, archiveOf, archiveBytes};
-ghost use Rattle.model.specs.Refusals.{refused, writeArchive};
+ghost use Rattle.model.specs.Refusals.{refused, outcome, writeBy, writeArchive};
 ghost use Rattle.model.specs.Demand.{WritePromise};
-ghost use Rattle.theory.specs.TableFacts.{AcceptedFacts};
-ghost use Rattle.theory.specs.PlanFeasible.{Judged};
-ghost use Rattle.theory.specs.Outputs.{written};
-ghost use Rattle.theory.specs.ArchiveAnswers.{writeFrom};
-ghost use Rattle.judge.specs.Rows.{layoutOf, IsLayout};
+ghost use Rattle.layout.specs.Rows.{layoutOf, FeasibleLayout};
 ghost use Rattle.records.specs.Size.{InRoom};
 
 // The whole archive of an accepted tree and a feasible plan, into an output of its length.
@@ -50,8 +45,7 @@ fn fill_archive<'a>(
     pages: u16,
     out: &mut [u8],
 )
-    requires { ⌜ InRoom e × Judged (now table) (now marks)
-        × IsLayout (now table) (now marks) (layoutOf (now rows) (now weights) pages)
+    requires { ⌜ InRoom e × FeasibleLayout (now table) (now marks) (layoutOf (now rows) (now weights) pages)
         × (nodeCount (now table) ≤ e .most)
         × (length (now out) ≡ archiveBytes e pages (nodeCount (now table))) ⌝ }
     ensures { λ r. ⌜ now (out .exit) ≡ archiveOf e (now (table .entry)) (now (marks .entry)) ⌝ }
@@ -76,15 +70,15 @@ fn check_film(e: Edition, nodes: u16, size: u32, length: usize, judged: Answer) 
     earlier(15, many, earlier(12, output, judged))
 }
 
-// The writer of an edition, going on from the answer of what judged the tree.
-pub fn write_edition(e: Edition, tree: Answer, table: &[u8], marks: &[u8], out: &mut [u8]) -> Answer
-    requires { ⌜ InRoom e × (tree .number ≡ 0 → AcceptedFacts (now table)) ⌝ }
-    ensures { λ r. ⌜ written r (now (out .exit))
-        ≡ writeFrom e (now (table .entry)) (now (marks .entry)) (now (out .entry)) tree ⌝ }
+// The writer of an edition, of a tree with no label 0 or of any.
+pub fn write_edition(e: Edition, filed: bool, table: &[u8], marks: &[u8], out: &mut [u8]) -> Answer
+    requires { ⌜ InRoom e ⌝ }
+    ensures { λ r. ⌜ outcome r (now (out .exit))
+        ≡ writeBy (record { filed = filed }) e (now (table .entry)) (now (marks .entry)) (now (out .entry)) ⌝ }
 {
     let mut rows = [[0u16; SLOTS]; ROWS];
     let mut weights = [0u32; SLOTS];
-    let judged = judge_pages(tree, table, marks, &mut rows, &mut weights);
+    let judged = judge_pages(filed, table, marks, &mut rows, &mut weights);
     let pages = judged.pages;
     let answer = judged.answer;
     if answer.number != 0 {
@@ -100,32 +94,23 @@ pub fn write_edition(e: Edition, tree: Answer, table: &[u8], marks: &[u8], out: 
     checked
 }
 
-// The writer of an edition, for a table and marks that are handed in: no label is 0.
-pub fn write_filed(e: Edition, table: &[u8], marks: &[u8], out: &mut [u8]) -> Answer
-    requires { ⌜ InRoom e ⌝ }
-    ensures { λ r. ⌜ written r (now (out .exit))
-        ≡ writeArchive e (now (table .entry)) (now (marks .entry)) (now (out .entry)) ⌝ }
-{
-    let tree = check_tree(table, true);
-    write_edition(e, tree, table, marks, out)
-}
-
-// Entry: the archive writer. The refusals of the judge, 15 and 12. The archive of a best plan is the lowest there is.
+// Entry: the archive writer. The refusals of the judge, 15 and 12. Any feasible plan is written, and the archive of a
+// best one is the lowest there is.
 pub fn write_archive(table: &[u8], marks: &[u8], out: &mut [u8]) -> Answer
-    ensures { λ r. ⌜ written r (now (out .exit))
+    ensures { λ r. ⌜ outcome r (now (out .exit))
         ≡ writeArchive firstEdition (now (table .entry)) (now (marks .entry)) (now (out .entry)) ⌝ }
     ensures { λ r. ⌜ WritePromise firstEdition (now (table .entry)) (now (marks .entry)) (now (out .entry))
         r (now (out .exit)) ⌝ }
 {
-    write_filed(first_edition(), table, marks, out)
+    write_edition(first_edition(), true, table, marks, out)
 }
 
 // Entry: the writer of edition 2. The refusals of the judge, and 12: it takes as many nodes as a table has.
 pub fn write_archive2(table: &[u8], marks: &[u8], out: &mut [u8]) -> Answer
-    ensures { λ r. ⌜ written r (now (out .exit))
+    ensures { λ r. ⌜ outcome r (now (out .exit))
         ≡ writeArchive secondEdition (now (table .entry)) (now (marks .entry)) (now (out .entry)) ⌝ }
     ensures { λ r. ⌜ WritePromise secondEdition (now (table .entry)) (now (marks .entry)) (now (out .entry))
         r (now (out .exit)) ⌝ }
 {
-    write_filed(second_edition(), table, marks, out)
+    write_edition(second_edition(), true, table, marks, out)
 }

@@ -1,9 +1,8 @@
 -- `sheets::print::fill_sheets` meets its contract. Assumes nothing.
 use mathlib.Core.List.{[]}
-use mathlib.Core.Path.{sym, _∙_, ap, subst}
+use mathlib.Core.Path.{_∙_, ap}
 use lib.ListN.{getD}
 use Rattle.model.specs.Sheets.{sheetsBy}
-use Rattle.judge.specs.Rows.{LightPages, light-pages}
 use Rattle.sheets.specs.Lines.{pageIn}
 use Rattle.sheets.specs.LayoutSheets.{layout-sheets}
 use borrow.Author.Needs.{needs}
@@ -13,11 +12,8 @@ use Rattle.sheets.proofs.print.fill_sheets.Tie as tie
 put-sheets-requires : tie.Need-put-sheets-requires
 put-sheets-requires c κs =
     let l = c .before .before .before in
-    let s = l .before .before .before .before in (
-      subst (λ k. LightPages (s .args .weights .now) (s .args .pages) k) (sym (l .limit-of .ensures))
-          (light-pages (s .pre .0) (s .pre .1)),
-      s .pre .2,
-    )
+    let s = l .before .before .before .before in
+    (rw (l .limit-of .ensures) (s .pre .0 .light), s .pre .1)
 
 returns : tie.Need-returns
 returns c =
@@ -28,7 +24,7 @@ returns c =
     p .put-sheets .ensures
     ∙ ap (λ k. sheetsBy (a .pages) k (pageIn (getD (a .rows .now) 2 []) (getD (a .rows .now) 3 []) (a .weights .now)))
     (l .limit-of .ensures)
-    ∙ layout-sheets (s .pre .0) (s .pre .1)
+    ∙ layout-sheets (s .pre .0)
 
 pub fill-sheets-spec : {M : Type 1} → statement M
 fill-sheets-spec =

@@ -2,10 +2,9 @@
 use mathlib.Core.Path.{refl, _∙_}
 use Prim.Native.Nat.{_<_}
 use native.Mathlib.Omega.{arith}
-use Rattle.model.specs.Table.{slots, nodeCount}
+use Rattle.model.specs.Table.{nodeCount}
 use Rattle.theory.specs.JudgeAnswers.{pageCount-le}
-use Rattle.theory.specs.ArchiveBack.{judged-light}
-use Rattle.judge.specs.Rows.{Layout, layoutOf}
+use Rattle.layout.specs.Rows.{Layout, layoutOf}
 use Rattle.records.specs.Size.{filmSlots}
 use Rattle.records.specs.Links.{Fit}
 use Rattle.records.specs.Counts.{counted-pages}
@@ -26,11 +25,11 @@ module _ (c : tie.After-limit-of) where
 
   -- the nodes are places of the arrays, and so are their pages
   few : nodeCount (start .args .table .now) < filmSlots
-  few = omega (arith, start .pre .3, start .pre .0 .most-high)
+  few = omega (arith, start .pre .2, start .pre .0 .most-high)
 
   fit : Fit (c .before .node-count .result) (layout .page)
   fit v low high =
-      page-fits (start .args .table .now) (start .args .marks .now) (layout .page) few (start .pre .2 .page-is) v low
+      page-fits (start .args .table .now) (start .args .marks .now) (layout .page) few (start .pre .1 .page-is) v low
       (omega (arith, c .before .node-count .ensures))
 
 count-nodes-requires : tie.Need-count-nodes-requires
@@ -39,7 +38,7 @@ count-nodes-requires c κs =
     let count = l .before .node-count .ensures in (
       omega (arith, few l),
       fit l,
-      omega (arith, start l .pre .1 .tree .sound .count-high),
+      omega (arith, start l .pre .1 .judged .tree .sound .count-high),
       refl,
     )
 
@@ -49,40 +48,29 @@ link-next-requires c κs =
     let count = l .before .node-count .ensures in (
       omega (arith, few l),
       fit l,
-      omega (arith, start l .pre .1 .tree .sound .count-high),
+      omega (arith, start l .pre .1 .judged .tree .sound .count-high),
     )
 
 put-pages-requires : tie.Need-put-pages-requires
 put-pages-requires c κs =
     let h = c .before .before .before .before .before .before in
     let lent = start (h .before .before .before .before .before .before .before .before .before) in
-    let a = lent .args in
-    let few = pageCount-le (a .table .now) (a .marks .now) in
-    let sound = lent .pre .1 .tree .sound in
-    let pages : a .pages < slots = omega (arith, lent .pre .2 .pages-are) in (
+    let light = lent .pre .1 .light in (
       lent .pre .0,
-      pages,
-      λ q low high.
-          omega (
-            arith,
-            lent .pre .2 .weights-are q (omega arith),
-            judged-light (lent .pre .1) q low (omega (arith, lent .pre .2 .pages-are)),
-          ),
-      omega (arith, h .put-head .kept .1 .1 .1 .1 .0, lent .pre .4),
+      light .few,
+      λ q low high. omega (arith, light .within q low high, light .high),
+      omega (arith, h .put-head .kept .1 .1 .1 .1 .0, lent .pre .3),
     )
 
 put-nodes-requires : tie.Need-put-nodes-requires
 put-nodes-requires c κs =
     let p = c .before .before .before .before .before in
     let h = p .before .before .before .before .before .before .before in
-    let l = h .before .before .before .before .before .before .before .before .before in
-    let a = start l .args in
-    let pages = pageCount-le (a .table .now) (a .marks .now) in
-    let sound = start l .pre .1 .tree .sound in (
+    let l = h .before .before .before .before .before .before .before .before .before in (
       start l .pre .0,
       few l,
-      omega (arith, start l .pre .2 .pages-are),
-      p .put-pages .kept .1 .1 .1 .1 .1 .1 .0 ∙ h .put-head .kept .1 .1 .1 .1 .0 ∙ start l .pre .4,
+      start l .pre .1 .light .few,
+      p .put-pages .kept .1 .1 .1 .1 .1 .1 .0 ∙ h .put-head .kept .1 .1 .1 .1 .0 ∙ start l .pre .3,
     )
 
 returns : tie.Need-returns
@@ -100,12 +88,10 @@ returns c =
     let l = layout limited in
     let t = a .table .now in
     let m = a .marks .now in
-    let plan = lent .pre .2 in
-    let good = lent .pre .1 .marked in
+    let plan = lent .pre .1 in
     let count = limited .before .node-count .ensures in
     all-put (lent .pre .0) t m (l .firsts) (l .lasts) (l .weights) counts (l .parents) (nexts .result)
-    (a .pages) (plan .pages-are) (plan .firsts-are good) (plan .lasts-are good)
-    (λ q low high. plan .weights-are q (omega (arith, pageCount-le t m, lent .pre .1 .tree .sound .count-high)))
+    (a .pages) (plan .pages-are) (plan .firsts-are) (plan .lasts-are) (plan .weights-are)
     (λ five.
     counted-pages t m (l .page) counts _ count (plan .page-is)
     (omega (arith, pageCount-le t m, few limited)) (counted .count-nodes .ensures five))
@@ -113,10 +99,10 @@ returns c =
     _ _ _
     (head-put (lent .pre .0) t m (a .out .now) _ _ _ _ (h .put-head .ensures) count (limited .limit-of .ensures)
     (plan .pages-are)
-    (omega (arith, lent .pre .4)))
+    (omega (arith, lent .pre .3)))
     (pages .ensures) (nodes .ensures)
     (nodes .kept .1 .1 .1 .1 .1 .0 ∙ pages .kept .1 .1 .1 .1 .1 .1 .0 ∙ h .put-head .kept .1 .1 .1 .1 .0
-    ∙ lent .pre .4)
+    ∙ lent .pre .3)
 
 pub fill-archive-spec : {M : Type 1} → statement M
 fill-archive-spec =

@@ -1,31 +1,32 @@
 -- `writer::write::write_archive` meets its contract. Assumes nothing.
-use mathlib.Core.Path.{sym, ap, subst, _∙_}
+use mathlib.Core.Path.{ap, _∙_}
+use denote.Ref.{now}
 use Rattle.model.specs.Archive.{firstEdition}
 use Rattle.model.specs.Refusals.{writeArchive}
 use Rattle.model.specs.Demand.{WritePromise}
 use Rattle.model.specs.declared.Edition.{Edition}
 use Rattle.theory.specs.ArchiveWords.{first-described}
-use Rattle.theory.specs.Outputs.{promised}
+use Rattle.theory.specs.Entries.{promised}
 use Rattle.theory.specs.PromiseArchive.{write-promise}
-use Rattle.records.specs.Size.{InRoom, first-room}
+use Rattle.records.specs.Size.{first-room}
 use borrow.Author.Needs.{needs}
 use Rattle.writer.proofs.write.write_archive.Statement.{statement}
 use Rattle.writer.proofs.write.write_archive.Tie as tie
 
-write-filed-requires : tie.Need-write-filed-requires
-write-filed-requires c κs =
-    subst (λ (x : Edition). InRoom x) (sym (c .before .first-edition .ensures)) first-room
-
 returns : tie.Need-returns
+unfolding writeArchive
 returns c =
     let w = c .before .before in
     let f = w .before .before in
     let a = f .before .before .before .before .args in
-    promised (WritePromise firstEdition (a .table .now) (a .marks .now) (a .out .now))
-    (write-promise first-described (a .table .now) (a .marks .now) (a .out .now))
-    (w .write-filed .ensures
-    ∙ ap (λ (x : Edition). writeArchive x (a .table .now) (a .marks .now) (a .out .now)) (f .first-edition .ensures))
+    promised (WritePromise firstEdition (now (a .table)) (now (a .marks)) (now (a .out)))
+    (write-promise first-described (now (a .table)) (now (a .marks)) (now (a .out)))
+    (w .write-edition .ensures
+    ∙ ap (λ (x : Edition). writeArchive x (now (a .table)) (now (a .marks)) (now (a .out)))
+    (f .first-edition .ensures))
 
 pub write-archive-spec : {M : Type 1} → statement M
 write-archive-spec =
-    tie.close (tie.spec (λ c κs. search needs) write-filed-requires (λ c. search needs) returns)
+    tie.close
+    (tie.spec (λ c κs. search needs) (λ c κs. rw (c .before .first-edition .ensures) first-room) (λ c. search needs)
+    returns)
