@@ -1,17 +1,17 @@
-// Doors for C and Rust: each entry of the library under a plain name, with its answer as four numbers, or as three with
-// an amount.
+// Doors for C and Rust: each entry of the library under a plain name, with its answer as four numbers, and an amount as
+// a fifth.
 use model::Answer;
 use model::Beside;
 use model::Verdict;
 ghost use mathlib.Core.Path.{_≡_};
 ghost use Rattle.model.specs.Archive.{firstEdition, secondEdition};
-ghost use Rattle.model.specs.Refusals.{readTree, judgePlan, planBest, planLevel, planSingle, planPair, writeArchive};
-ghost use Rattle.model.specs.Refusals.{planRightmost, planDepthFirst, readArchive, convertArchive, printSheets};
-ghost use Rattle.model.specs.Refusals.{pricePlan, saveBest};
+ghost use Rattle.model.specs.Refusals.{outcome, readTree, judgePlan, planLeft, planBest, planLevel, planSingle};
+ghost use Rattle.model.specs.Refusals.{planPair, planRightmost, planDepthFirst, writeArchive, readLeft, readArchive};
+ghost use Rattle.model.specs.Refusals.{convertArchive, printSheets, pricePlan, saveBest};
 ghost use Rattle.embed.specs.Figures.{figuresBy, figuresOf, priceAnswer};
-ghost use Rattle.embed.specs.Left.{WeightFigures, left, leftBy, PlanFigures, BestFigures, QuickFigures};
-ghost use Rattle.embed.specs.Left.{filled, filledBy, WriteFigures, PrintFigures, refilled, refilledBy};
-ghost use Rattle.embed.specs.Left.{ReadFigures, ConvertFigures, PriceFigures, SavingFigures, savedBy};
+ghost use Rattle.embed.specs.Left.{told, savingLeft, WeightFigures, JudgeFigures, PlanFigures, BestFigures};
+ghost use Rattle.embed.specs.Left.{QuickFigures, WriteFigures, ReadFigures, ConvertFigures, PrintFigures};
+ghost use Rattle.embed.specs.Left.{PriceFigures, SavingFigures};
 
 // A number and a place, and the verdict's page count and root weight, both 0 unless the number is 0.
 #[repr(C)]
@@ -22,19 +22,23 @@ pub struct Figures {
     pub root: u32,
 }
 
-// A number and a place, and the cents of a plan, 0 unless the number is 0.
+// The figures of a plan, and its cents, 0 unless the number is 0.
 #[repr(C)]
 pub struct PriceAnswer {
     pub number: u32,
     pub place: u32,
+    pub pages: u32,
+    pub root: u32,
     pub cents: u32,
 }
 
-// A number and a place, and the saving in cents, of either sign, 0 unless the number is 0.
+// The figures of the best plan, and the saving in cents, of either sign, 0 unless the number is 0.
 #[repr(C)]
 pub struct SavingAnswer {
     pub number: u32,
     pub place: u32,
+    pub pages: u32,
+    pub root: u32,
     pub saving: i32,
 }
 
@@ -86,15 +90,15 @@ pub extern "C" fn balduqen_read_tree(table: &[u8]) -> Figures
 #[no_mangle]
 pub extern "C" fn balduqen_judge(table: &[u8], marks: &[u8]) -> Figures
     ensures { λ r. ⌜ r ≡ figuresOf (judgePlan (now (table .entry)) (now (marks .entry))) ⌝ }
-    ensures { λ r. ⌜ WeightFigures (now (table .entry)) r ⌝ }
+    ensures { λ r. ⌜ JudgeFigures (now (table .entry)) (now (marks .entry)) r ⌝ }
 {
     flatten(judge::judge_plan(table, marks))
 }
 
 #[no_mangle]
 pub extern "C" fn balduqen_plan_best(table: &[u8], marks: &mut [u8], scratch: &mut [u32]) -> Figures
-    ensures { λ r. ⌜ left r (now (marks .exit)) (now (scratch .exit))
-        ≡ leftBy (planBest (now (table .entry)) (now (marks .entry)) (now (scratch .entry))) ⌝ }
+    ensures { λ r. ⌜ planLeft r (now (marks .exit)) (now (scratch .exit))
+        ≡ told figuresOf (planBest (now (table .entry)) (now (marks .entry)) (now (scratch .entry))) ⌝ }
     ensures { λ r. ⌜ PlanFigures (now (table .entry)) (now (marks .entry)) (now (scratch .entry))
         r (now (marks .exit)) (now (scratch .exit)) ⌝ }
     ensures { λ r. ⌜ BestFigures (now (table .entry)) (now (marks .entry)) (now (scratch .entry))
@@ -109,8 +113,8 @@ pub extern "C" fn balduqen_plan_level(
     marks: &mut [u8],
     scratch: &mut [u32],
 ) -> Figures
-    ensures { λ r. ⌜ left r (now (marks .exit)) (now (scratch .exit))
-        ≡ leftBy (planLevel (now (table .entry)) (now (marks .entry)) (now (scratch .entry))) ⌝ }
+    ensures { λ r. ⌜ planLeft r (now (marks .exit)) (now (scratch .exit))
+        ≡ told figuresOf (planLevel (now (table .entry)) (now (marks .entry)) (now (scratch .entry))) ⌝ }
     ensures { λ r. ⌜ PlanFigures (now (table .entry)) (now (marks .entry)) (now (scratch .entry))
         r (now (marks .exit)) (now (scratch .exit)) ⌝ }
 {
@@ -123,8 +127,8 @@ pub extern "C" fn balduqen_plan_single(
     marks: &mut [u8],
     scratch: &mut [u32],
 ) -> Figures
-    ensures { λ r. ⌜ left r (now (marks .exit)) (now (scratch .exit))
-        ≡ leftBy (planSingle (now (table .entry)) (now (marks .entry)) (now (scratch .entry))) ⌝ }
+    ensures { λ r. ⌜ planLeft r (now (marks .exit)) (now (scratch .exit))
+        ≡ told figuresOf (planSingle (now (table .entry)) (now (marks .entry)) (now (scratch .entry))) ⌝ }
     ensures { λ r. ⌜ PlanFigures (now (table .entry)) (now (marks .entry)) (now (scratch .entry))
         r (now (marks .exit)) (now (scratch .exit)) ⌝ }
 {
@@ -133,8 +137,8 @@ pub extern "C" fn balduqen_plan_single(
 
 #[no_mangle]
 pub extern "C" fn balduqen_plan_pair(table: &[u8], marks: &mut [u8], scratch: &mut [u32]) -> Figures
-    ensures { λ r. ⌜ left r (now (marks .exit)) (now (scratch .exit))
-        ≡ leftBy (planPair (now (table .entry)) (now (marks .entry)) (now (scratch .entry))) ⌝ }
+    ensures { λ r. ⌜ planLeft r (now (marks .exit)) (now (scratch .exit))
+        ≡ told figuresOf (planPair (now (table .entry)) (now (marks .entry)) (now (scratch .entry))) ⌝ }
     ensures { λ r. ⌜ PlanFigures (now (table .entry)) (now (marks .entry)) (now (scratch .entry))
         r (now (marks .exit)) (now (scratch .exit)) ⌝ }
 {
@@ -147,8 +151,8 @@ pub extern "C" fn balduqen_plan_rightmost(
     marks: &mut [u8],
     scratch: &mut [u32],
 ) -> Figures
-    ensures { λ r. ⌜ left r (now (marks .exit)) (now (scratch .exit))
-        ≡ leftBy (planRightmost (now (table .entry)) (now (marks .entry)) (now (scratch .entry))) ⌝ }
+    ensures { λ r. ⌜ planLeft r (now (marks .exit)) (now (scratch .exit))
+        ≡ told figuresOf (planRightmost (now (table .entry)) (now (marks .entry)) (now (scratch .entry))) ⌝ }
     ensures { λ r. ⌜ PlanFigures (now (table .entry)) (now (marks .entry)) (now (scratch .entry))
         r (now (marks .exit)) (now (scratch .exit)) ⌝ }
     ensures { λ r. ⌜ QuickFigures (now (table .entry)) r ⌝ }
@@ -162,8 +166,8 @@ pub extern "C" fn balduqen_plan_depth_first(
     marks: &mut [u8],
     scratch: &mut [u32],
 ) -> Figures
-    ensures { λ r. ⌜ left r (now (marks .exit)) (now (scratch .exit))
-        ≡ leftBy (planDepthFirst (now (table .entry)) (now (marks .entry)) (now (scratch .entry))) ⌝ }
+    ensures { λ r. ⌜ planLeft r (now (marks .exit)) (now (scratch .exit))
+        ≡ told figuresOf (planDepthFirst (now (table .entry)) (now (marks .entry)) (now (scratch .entry))) ⌝ }
     ensures { λ r. ⌜ PlanFigures (now (table .entry)) (now (marks .entry)) (now (scratch .entry))
         r (now (marks .exit)) (now (scratch .exit)) ⌝ }
     ensures { λ r. ⌜ QuickFigures (now (table .entry)) r ⌝ }
@@ -173,8 +177,8 @@ pub extern "C" fn balduqen_plan_depth_first(
 
 #[no_mangle]
 pub extern "C" fn balduqen_write_archive(table: &[u8], marks: &[u8], archive: &mut [u8]) -> Figures
-    ensures { λ r. ⌜ filled r (now (archive .exit))
-        ≡ filledBy (writeArchive firstEdition (now (table .entry)) (now (marks .entry)) (now (archive .entry))) ⌝ }
+    ensures { λ r. ⌜ outcome r (now (archive .exit))
+        ≡ told figuresOf (writeArchive firstEdition (now (table .entry)) (now (marks .entry)) (now (archive .entry))) ⌝ }
     ensures { λ r. ⌜ WriteFigures firstEdition (now (table .entry)) (now (marks .entry)) (now (archive .entry))
         r (now (archive .exit)) ⌝ }
 {
@@ -187,8 +191,8 @@ pub extern "C" fn balduqen_read_archive(
     table: &mut [u8],
     marks: &mut [u8],
 ) -> Figures
-    ensures { λ r. ⌜ refilled r (now (table .exit)) (now (marks .exit))
-        ≡ refilledBy (readArchive firstEdition (now (archive .entry)) (now (table .entry)) (now (marks .entry))) ⌝ }
+    ensures { λ r. ⌜ readLeft r (now (table .exit)) (now (marks .exit))
+        ≡ told figuresOf (readArchive firstEdition (now (archive .entry)) (now (table .entry)) (now (marks .entry))) ⌝ }
     ensures { λ r. ⌜ ReadFigures firstEdition secondEdition (now (archive .entry)) (now (table .entry))
         (now (marks .entry)) r (now (table .exit)) (now (marks .exit)) ⌝ }
 {
@@ -197,8 +201,8 @@ pub extern "C" fn balduqen_read_archive(
 
 #[no_mangle]
 pub extern "C" fn balduqen_write_archive2(table: &[u8], marks: &[u8], archive: &mut [u8]) -> Figures
-    ensures { λ r. ⌜ filled r (now (archive .exit))
-        ≡ filledBy (writeArchive secondEdition (now (table .entry)) (now (marks .entry)) (now (archive .entry))) ⌝ }
+    ensures { λ r. ⌜ outcome r (now (archive .exit))
+        ≡ told figuresOf (writeArchive secondEdition (now (table .entry)) (now (marks .entry)) (now (archive .entry))) ⌝ }
     ensures { λ r. ⌜ WriteFigures secondEdition (now (table .entry)) (now (marks .entry)) (now (archive .entry))
         r (now (archive .exit)) ⌝ }
 {
@@ -211,8 +215,8 @@ pub extern "C" fn balduqen_read_archive2(
     table: &mut [u8],
     marks: &mut [u8],
 ) -> Figures
-    ensures { λ r. ⌜ refilled r (now (table .exit)) (now (marks .exit))
-        ≡ refilledBy (readArchive secondEdition (now (archive .entry)) (now (table .entry)) (now (marks .entry))) ⌝ }
+    ensures { λ r. ⌜ readLeft r (now (table .exit)) (now (marks .exit))
+        ≡ told figuresOf (readArchive secondEdition (now (archive .entry)) (now (table .entry)) (now (marks .entry))) ⌝ }
     ensures { λ r. ⌜ ReadFigures secondEdition firstEdition (now (archive .entry)) (now (table .entry))
         (now (marks .entry)) r (now (table .exit)) (now (marks .exit)) ⌝ }
 {
@@ -221,8 +225,8 @@ pub extern "C" fn balduqen_read_archive2(
 
 #[no_mangle]
 pub extern "C" fn balduqen_convert_to_2(archive: &[u8], out: &mut [u8]) -> Figures
-    ensures { λ r. ⌜ filled r (now (out .exit))
-        ≡ filledBy (convertArchive firstEdition secondEdition (now (archive .entry)) (now (out .entry))) ⌝ }
+    ensures { λ r. ⌜ outcome r (now (out .exit))
+        ≡ told figuresOf (convertArchive firstEdition secondEdition (now (archive .entry)) (now (out .entry))) ⌝ }
     ensures { λ r. ⌜ ConvertFigures firstEdition secondEdition (now (archive .entry)) (now (out .entry))
         r (now (out .exit)) ⌝ }
 {
@@ -231,8 +235,8 @@ pub extern "C" fn balduqen_convert_to_2(archive: &[u8], out: &mut [u8]) -> Figur
 
 #[no_mangle]
 pub extern "C" fn balduqen_convert_to_1(archive: &[u8], out: &mut [u8]) -> Figures
-    ensures { λ r. ⌜ filled r (now (out .exit))
-        ≡ filledBy (convertArchive secondEdition firstEdition (now (archive .entry)) (now (out .entry))) ⌝ }
+    ensures { λ r. ⌜ outcome r (now (out .exit))
+        ≡ told figuresOf (convertArchive secondEdition firstEdition (now (archive .entry)) (now (out .entry))) ⌝ }
     ensures { λ r. ⌜ ConvertFigures secondEdition firstEdition (now (archive .entry)) (now (out .entry))
         r (now (out .exit)) ⌝ }
 {
@@ -241,8 +245,8 @@ pub extern "C" fn balduqen_convert_to_1(archive: &[u8], out: &mut [u8]) -> Figur
 
 #[no_mangle]
 pub extern "C" fn balduqen_print_sheets(table: &[u8], marks: &[u8], out: &mut [u8]) -> Figures
-    ensures { λ r. ⌜ filled r (now (out .exit))
-        ≡ filledBy (printSheets (now (table .entry)) (now (marks .entry)) (now (out .entry))) ⌝ }
+    ensures { λ r. ⌜ outcome r (now (out .exit))
+        ≡ told figuresOf (printSheets (now (table .entry)) (now (marks .entry)) (now (out .entry))) ⌝ }
     ensures { λ r. ⌜ PrintFigures (now (table .entry)) (now (marks .entry)) (now (out .entry))
         r (now (out .exit)) ⌝ }
 {
@@ -256,9 +260,12 @@ pub extern "C" fn balduqen_price(table: &[u8], marks: &[u8]) -> PriceAnswer
 {
     let priced = price::price(table, marks);
     let answer = priced.answer;
+    let judged = flatten(answer);
     PriceAnswer {
-        number: answer.number,
-        place: answer.place,
+        number: judged.number,
+        place: judged.place,
+        pages: judged.pages,
+        root: judged.root,
         cents: priced.cents,
     }
 }
@@ -269,16 +276,19 @@ pub extern "C" fn balduqen_saving(
     marks: &mut [u8],
     scratch: &mut [u32],
 ) -> SavingAnswer
-    ensures { λ r. ⌜ left r (now (marks .exit)) (now (scratch .exit))
-        ≡ savedBy (saveBest (now (table .entry)) (now (marks .entry)) (now (scratch .entry))) ⌝ }
+    ensures { λ r. ⌜ planLeft r (now (marks .exit)) (now (scratch .exit))
+        ≡ savingLeft (saveBest (now (table .entry)) (now (marks .entry)) (now (scratch .entry))) ⌝ }
     ensures { λ r. ⌜ SavingFigures (now (table .entry)) (now (marks .entry)) (now (scratch .entry))
         r (now (marks .exit)) (now (scratch .exit)) ⌝ }
 {
     let saved = price::saving(table, marks, scratch);
-    let best = saved.answer;
+    let answer = saved.answer;
+    let best = flatten(answer);
     SavingAnswer {
         number: best.number,
         place: best.place,
+        pages: best.pages,
+        root: best.root,
         saving: saved.saving,
     }
 }

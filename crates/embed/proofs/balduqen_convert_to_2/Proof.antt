@@ -1,13 +1,11 @@
 -- `embed::balduqen_convert_to_2` meets its contract. Assumes nothing.
-use Rattle.embed.proofs.Doors.{fills}
+use Rattle.embed.proofs.Doors.{opens}
 use borrow.Author.Needs.{needs}
 use Rattle.embed.proofs.balduqen_convert_to_2.Statement.{statement}
 use Rattle.embed.proofs.balduqen_convert_to_2.Tie as tie
 
 returns : tie.Need-returns
-returns c =
-    let p = c .before .before .before .convert-to-2 in
-    fills (p .result) (c .flatten .ensures) (p .ensures .1) (p .ensures .0)
+returns c = search opens
 
 pub balduqen-convert-to-2-spec : {M : Type 1} → statement M
 balduqen-convert-to-2-spec =

@@ -1,13 +1,11 @@
 -- `embed::balduqen_read_archive` meets its contract. Assumes nothing.
-use Rattle.embed.proofs.Doors.{refills}
+use Rattle.embed.proofs.Doors.{opens}
 use borrow.Author.Needs.{needs}
 use Rattle.embed.proofs.balduqen_read_archive.Statement.{statement}
 use Rattle.embed.proofs.balduqen_read_archive.Tie as tie
 
 returns : tie.Need-returns
-returns c =
-    let p = c .before .before .before .before .before .read-archive in
-    refills (p .result) (c .flatten .ensures) (p .ensures .1) (p .ensures .0)
+returns c = search opens
 
 pub balduqen-read-archive-spec : {M : Type 1} → statement M
 balduqen-read-archive-spec =

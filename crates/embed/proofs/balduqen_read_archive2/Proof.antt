@@ -1,13 +1,11 @@
 -- `embed::balduqen_read_archive2` meets its contract. Assumes nothing.
-use Rattle.embed.proofs.Doors.{refills}
+use Rattle.embed.proofs.Doors.{opens}
 use borrow.Author.Needs.{needs}
 use Rattle.embed.proofs.balduqen_read_archive2.Statement.{statement}
 use Rattle.embed.proofs.balduqen_read_archive2.Tie as tie
 
 returns : tie.Need-returns
-returns c =
-    let p = c .before .before .before .before .before .read-archive2 in
-    refills (p .result) (c .flatten .ensures) (p .ensures .1) (p .ensures .0)
+returns c = search opens
 
 pub balduqen-read-archive2-spec : {M : Type 1} → statement M
 balduqen-read-archive2-spec =

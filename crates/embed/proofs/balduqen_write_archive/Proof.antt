@@ -1,13 +1,11 @@
 -- `embed::balduqen_write_archive` meets its contract. Assumes nothing.
-use Rattle.embed.proofs.Doors.{fills}
+use Rattle.embed.proofs.Doors.{opens}
 use borrow.Author.Needs.{needs}
 use Rattle.embed.proofs.balduqen_write_archive.Statement.{statement}
 use Rattle.embed.proofs.balduqen_write_archive.Tie as tie
 
 returns : tie.Need-returns
-returns c =
-    let p = c .before .before .before .write-archive in
-    fills (p .result) (c .flatten .ensures) (p .ensures .1) (p .ensures .0)
+returns c = search opens
 
 pub balduqen-write-archive-spec : {M : Type 1} → statement M
 balduqen-write-archive-spec =
