@@ -118,14 +118,16 @@ static bool print_sheet(const uint8_t *marks, balduqen_answer planned)
 
 /* What the plan costs, and what it saves against the plan that cuts single branches. The saving
  * leaves the best plan in the marks, which is this one again. */
-static bool price(const uint8_t *marks)
+static bool price(const uint8_t *marks, balduqen_answer planned)
 {
     uint8_t best[NODES] = {0};
     uint32_t scratch[SCRATCH] = {0};
     balduqen_price_answer priced = balduqen_price(table, TABLE, marks, NODES);
     balduqen_saving_answer saved = balduqen_saving(table, TABLE, best, NODES, scratch, SCRATCH);
     if (!accepted("price", priced.number, priced.place) ||
-        !accepted("saving", saved.number, saved.place))
+        !accepted("saving", saved.number, saved.place) ||
+        !same_verdict("price", planned, priced.pages, priced.root) ||
+        !same_verdict("saving", planned, saved.pages, saved.root))
         return false;
     printf("price %u saving %d\n", (unsigned)priced.cents, (int)saved.saving);
     return memcmp(marks, best, NODES) == 0;
@@ -149,7 +151,7 @@ static bool run(void)
 
     list_pages(archive);
     return read_back(archive, length, marks, planned) && convert(archive, length, planned) &&
-           print_sheet(marks, planned) && price(marks);
+           print_sheet(marks, planned) && price(marks, planned);
 }
 
 int main(void)

@@ -74,7 +74,7 @@ extern "C" {
 #endif
 
 /* The version of CHANGELOG.md. Each request that lands adds one to its middle number. */
-#define BALDUQEN_VERSION "0.7.0"
+#define BALDUQEN_VERSION "0.7.1"
 
 /* The most nodes of a table, and the highest page limit. */
 #define BALDUQEN_MAX_NODES 2048
@@ -149,15 +149,16 @@ typedef struct {
     uint32_t number, place, pages, root;
 } balduqen_answer;
 
-/* What a plan costs. Number and place are as in balduqen_answer; cents is 0 unless number is 0. */
+/* What a plan costs, in cents: 0 unless number is 0. The words before are that plan's, as in
+ * balduqen_answer. */
 typedef struct {
-    uint32_t number, place, cents;
+    uint32_t number, place, pages, root, cents;
 } balduqen_price_answer;
 
-/* What a plan costs less than another, in cents: below 0 where it costs more, and 0 unless number
- * is 0. */
+/* What the best plan costs less than the single planner's, in cents: below 0 where it costs more,
+ * and 0 unless number is 0. The words before are the best plan's, as in balduqen_answer. */
 typedef struct {
-    uint32_t number, place;
+    uint32_t number, place, pages, root;
     int32_t saving;
 } balduqen_saving_answer;
 

@@ -2,7 +2,6 @@
 //! with all that the library's entries do: the tree is read and checked, plans are made and judged,
 //! and the whole scratch is cleared.
 
-use crate::planner::Answer;
 use crate::tree::Tree;
 use crate::{columns, plain};
 use balduqen::doors::{Price, Saving};
@@ -19,42 +18,34 @@ pub type Pricer = fn(&[u8], &[u8]) -> Price;
 pub type Saver = fn(&[u8], &mut [u8], &mut [u32]) -> Saving;
 
 pub fn price(table: &[u8], marks: &[u8]) -> Price {
-    let (Answer { number, place, .. }, cents) = match Tree::read(table) {
-        Err(refusal) => (refusal, 0),
-        Ok(tree) if marks.len() != tree.count() => (Answer::refused(8, tree.count()), 0),
-        Ok(tree) => (Answer::default(), total(&tree, marks)),
-    };
-    Price {
-        number,
-        place,
-        cents,
+    match Tree::read(table) {
+        Err(refusal) => Price::refused(refusal.number, refusal.place as usize),
+        Ok(tree) if marks.len() != tree.count() => Price::refused(8, tree.count()),
+        Ok(tree) => price_of(&tree, marks),
     }
 }
 
 pub fn saving(table: &[u8], marks: &mut [u8], scratch: &mut [u32]) -> Saving {
-    let (Answer { number, place, .. }, saving) = match plain::read(table, marks, scratch) {
-        Err(refusal) => (refusal, 0),
+    match plain::read(table, marks, scratch) {
+        Err(refusal) => Saving::refused(refusal.number, refusal.place as usize),
         Ok(tree) => {
             plain::single(&tree, marks, scratch);
-            let single = total(&tree, marks);
+            let single = price_of(&tree, marks);
             columns::best(&tree, marks, scratch);
             scratch.fill(0);
-            let best = total(&tree, marks);
-            (Answer::default(), single as i32 - best as i32)
+            let best = price_of(&tree, marks);
+            let saving = single.cents as i32 - best.cents as i32;
+            Saving::accepted(best.pages as usize, best.root, saving)
         }
-    };
-    Saving {
-        number,
-        place,
-        saving,
     }
 }
 
-/// What the pages of a plan cost, which is judged before.
-fn total(tree: &Tree, marks: &[u8]) -> u32 {
+/// The price of a plan, which is judged before.
+fn price_of(tree: &Tree, marks: &[u8]) -> Price {
     let pages = tree.pages(marks);
     let fills = pages
         .iter()
         .map(|page| 15 * page.weight as usize / tree.limit);
-    fills.map(|fill| CENTS[fill]).sum()
+    let cents = fills.map(|fill| CENTS[fill]).sum();
+    Price::accepted(pages.len(), pages[0].weight, cents)
 }

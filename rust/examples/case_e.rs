@@ -66,10 +66,7 @@ fn main() -> Result<(), Refusal> {
     for line in sheets.lines().take(1 + best.verdict.pages) {
         println!("{line}");
     }
-    println!(
-        "price {} saving {}",
-        price(&table, &best.marks)?,
-        saving(&table)?
-    );
+    let (priced, saved) = (price(&table, &best.marks)?, saving(&table)?);
+    println!("price {} saving {}", priced.cents, saved.cents);
     Ok(())
 }

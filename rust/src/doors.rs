@@ -7,7 +7,7 @@
 //! nobody else, which is what makes the unsafe blocks sound.
 
 use crate::refusal::Refusal;
-use crate::Verdict;
+use crate::{Priced, Saved, Verdict};
 
 /// A number and a place, and the verdict beside them where a plan is given or made and accepted.
 #[must_use = "an answer may be a refusal"]
@@ -24,7 +24,7 @@ pub struct Answer {
     pub root: u32,
 }
 
-/// A number and a place as an `Answer` has them, and what a plan costs.
+/// The words of an `Answer`, and what the plan costs.
 #[must_use = "a price may be a refusal"]
 #[repr(C)]
 #[derive(Clone, Copy, Debug, Default, PartialEq, Eq)]
@@ -33,11 +33,15 @@ pub struct Price {
     pub number: u32,
     /// Where it is refused, as its `Cause` has it, or 0.
     pub place: u32,
+    /// The plan's page count, or 0 where it is refused.
+    pub pages: u32,
+    /// The weight of the plan's root page, or 0 where it is refused.
+    pub root: u32,
     /// The plan's total in cents, or 0 where it is refused.
     pub cents: u32,
 }
 
-/// A number and a place as an `Answer` has them, and what a plan costs less than another.
+/// The words of an `Answer` on the best plan, and what this costs less than the single planner's.
 #[must_use = "a saving may be a refusal"]
 #[repr(C)]
 #[derive(Clone, Copy, Debug, Default, PartialEq, Eq)]
@@ -46,6 +50,10 @@ pub struct Saving {
     pub number: u32,
     /// Where it is refused, as its `Cause` has it, or 0.
     pub place: u32,
+    /// The best plan's page count, or 0 where it is refused.
+    pub pages: u32,
+    /// The weight of the best plan's root page, or 0 where it is refused.
+    pub root: u32,
     /// The difference in cents, which can be below 0; 0 where it is refused.
     pub saving: i32,
 }
@@ -100,9 +108,12 @@ impl Answer {
 }
 
 impl Price {
-    /// Acceptance of a plan that costs this.
-    pub fn accepted(cents: u32) -> Price {
+    /// Acceptance of a plan with this page count, at most `u32::MAX`, and root weight, that costs
+    /// this.
+    pub fn accepted(pages: usize, root: u32, cents: u32) -> Price {
         Price {
+            pages: in_word(pages),
+            root,
             cents,
             ..Price::default()
         }
@@ -113,30 +124,36 @@ impl Price {
         Price {
             number,
             place: in_word(place),
-            cents: 0,
+            ..Price::default()
         }
     }
 
-    /// Number and place as an answer without a plan.
+    /// All but the cents.
     pub fn answer(&self) -> Answer {
         Answer {
             number: self.number,
             place: self.place,
-            ..Answer::ACCEPTED
+            pages: self.pages,
+            root: self.root,
         }
     }
 
-    /// The cents, or the refusal with its cause.
-    pub fn result(self) -> Result<u32, Refusal> {
-        Refusal::unless_accepted(self.number, self.place)?;
-        Ok(self.cents)
+    /// The verdict and the cents, or the refusal with its cause.
+    pub fn result(self) -> Result<Priced, Refusal> {
+        Ok(Priced {
+            verdict: self.answer().result()?,
+            cents: self.cents,
+        })
     }
 }
 
 impl Saving {
-    /// Acceptance with this saving.
-    pub fn accepted(saving: i32) -> Saving {
+    /// Acceptance with this page count, at most `u32::MAX`, and root weight of the best plan, and
+    /// this saving.
+    pub fn accepted(pages: usize, root: u32, saving: i32) -> Saving {
         Saving {
+            pages: in_word(pages),
+            root,
             saving,
             ..Saving::default()
         }
@@ -147,23 +164,26 @@ impl Saving {
         Saving {
             number,
             place: in_word(place),
-            saving: 0,
+            ..Saving::default()
         }
     }
 
-    /// Number and place as an answer without a plan.
+    /// All but the saving.
     pub fn answer(&self) -> Answer {
         Answer {
             number: self.number,
             place: self.place,
-            ..Answer::ACCEPTED
+            pages: self.pages,
+            root: self.root,
         }
     }
 
-    /// The saving in cents, or the refusal with its cause.
-    pub fn result(self) -> Result<i32, Refusal> {
-        Refusal::unless_accepted(self.number, self.place)?;
-        Ok(self.saving)
+    /// The verdict on the best plan and the saving, or the refusal with its cause.
+    pub fn result(self) -> Result<Saved, Refusal> {
+        Ok(Saved {
+            verdict: self.answer().result()?,
+            cents: self.saving,
+        })
     }
 }
 

@@ -35,7 +35,7 @@ pub use length::{
     archive_length, scratch_length, sheets_length, table_length, ARCHIVE_NODES, MAX_LIMIT,
     MAX_NODES, STACK,
 };
-pub use plan::{judge, plan, price, print_sheets, saving, Plan, Planner};
+pub use plan::{judge, plan, price, print_sheets, saving, Plan, Planner, Priced, Saved};
 pub use refusal::{Cause, Refusal};
 pub use unknown::{UnknownEdition, UnknownPlanner};
 

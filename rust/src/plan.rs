@@ -89,6 +89,24 @@ pub struct Plan {
     pub verdict: Verdict,
 }
 
+/// What a plan costs.
+#[derive(Clone, Copy, Debug, PartialEq, Eq)]
+pub struct Priced {
+    /// The plan's page count and root weight.
+    pub verdict: Verdict,
+    /// The film maker's price for all its pages.
+    pub cents: u32,
+}
+
+/// What the best plan of a tree saves.
+#[derive(Clone, Copy, Debug, PartialEq, Eq)]
+pub struct Saved {
+    /// The best plan's page count and root weight.
+    pub verdict: Verdict,
+    /// What the best plan costs less than the single planner's; below 0 where it costs more.
+    pub cents: i32,
+}
+
 /// The planner's plan for the tree. Refuses 1 to 4, 6, 7 and 14: what is no tree, or has no plan.
 pub fn plan(planner: Planner, table: &[u8]) -> Result<Plan, Refusal> {
     let (mut marks, mut scratch) = buffers(table)?;
@@ -99,7 +117,7 @@ pub fn plan(planner: Planner, table: &[u8]) -> Result<Plan, Refusal> {
 
 /// What the best plan of the tree costs less than the single planner's, in cents; below 0 where it
 /// costs more. Refuses as `plan` does.
-pub fn saving(table: &[u8]) -> Result<i32, Refusal> {
+pub fn saving(table: &[u8]) -> Result<Saved, Refusal> {
     let (mut marks, mut scratch) = buffers(table)?;
     doors::saving(table, &mut marks, &mut scratch).result()
 }
@@ -119,7 +137,7 @@ pub fn judge(table: &[u8], marks: &[u8]) -> Result<Verdict, Refusal> {
 }
 
 /// What the plan costs, in cents. Refuses where `judge` does.
-pub fn price(table: &[u8], marks: &[u8]) -> Result<u32, Refusal> {
+pub fn price(table: &[u8], marks: &[u8]) -> Result<Priced, Refusal> {
     doors::price(table, marks).result()
 }
 

@@ -113,6 +113,8 @@ fn counts_of_an_answer_saturate() {
     let over = [1 << 32, (1 << 32) + 7, usize::MAX].map(|count| (count, u32::MAX));
     for (count, word) in counts.into_iter().chain(over) {
         assert_eq!(Answer::accepted(count, 7).pages, word);
+        assert_eq!(Price::accepted(count, 7, 8).answer().pages, word);
+        assert_eq!(Saving::accepted(count, 7, 8).answer().pages, word);
         assert_eq!(Answer::refused(12, count).place, word);
         assert_eq!(Price::refused(12, count).answer().place, word);
         assert_eq!(Saving::refused(12, count).answer().place, word);
@@ -157,11 +159,12 @@ fn any_bytes_have_a_result() {
         for planner in Planner::ALL {
             assert_eq!(plan(planner, &bytes).map(|_| ()), accepted);
         }
-        assert_eq!(saving(&bytes).map(|_| ()), accepted);
+        let best = plan(Planner::Best, &bytes).map(|plan| plan.verdict);
+        assert_eq!(saving(&bytes).map(|saved| saved.verdict), best);
         for marks in [&[], &[1][..], &bytes] {
             let judged = judge(&bytes, marks);
             plans += u32::from(judged.is_ok());
-            assert_eq!(price(&bytes, marks).err(), judged.err());
+            assert_eq!(price(&bytes, marks).map(|priced| priced.verdict), judged);
             assert_eq!(print_sheets(&bytes, marks).err(), judged.err());
             for edition in Edition::ALL {
                 assert_eq!(write_archive(edition, &bytes, marks).err(), judged.err());

@@ -1,6 +1,9 @@
-//! The header for C and this crate name the same numbers, limits and lengths.
+//! The header for C and this crate name the same numbers, answers, limits and lengths.
 
+use balduqen::doors::{Answer, Price, Saving};
 use balduqen::*;
+use std::any::type_name_of_val;
+use std::mem::{offset_of, size_of};
 
 const HEADER: &str = include_str!("../../include/balduqen.h");
 
@@ -40,6 +43,44 @@ fn the_list_is_the_headers() {
         assert_eq!(cause.is_some(), (1..=15).contains(&number) && number != 5);
         assert!(cause.is_none_or(|cause| cause.number() == number));
     }
+}
+
+/// The words of an answer in the header, in their order: `uint32_t number, place;` tells `number`
+/// and `place`, each as a `u32`.
+fn words(answer: &str) -> Vec<(&'static str, &'static str)> {
+    let (before, _) = HEADER.split_once(&format!("}} {answer};")).expect(answer);
+    let (_, body) = before.rsplit_once("typedef struct {").expect("a struct");
+    let declared = body
+        .split(';')
+        .filter_map(|line| line.trim().split_once(' '));
+    let words = declared.flat_map(|(word, names)| {
+        let word = match word {
+            "uint32_t" => "u32",
+            "int32_t" => "i32",
+            _ => panic!("{answer} has {word}"),
+        };
+        names.split(", ").map(move |name| (name, word))
+    });
+    words.collect()
+}
+
+/// An answer of this crate has the header's words, at the same offsets, and no more.
+macro_rules! same_words {
+    ($answer:ty, $of_header:expr, $($name:ident)*) => {
+        let ours = <$answer>::default();
+        let names = [$((stringify!($name), type_name_of_val(&ours.$name))),*];
+        assert_eq!(names[..], words($of_header));
+        let offsets = [$(offset_of!($answer, $name)),*];
+        assert!(offsets.into_iter().eq((0..names.len()).map(|index| 4 * index)));
+        assert_eq!(size_of::<$answer>(), 4 * names.len());
+    };
+}
+
+#[test]
+fn answers_are_the_headers() {
+    same_words!(Answer, "balduqen_answer", number place pages root);
+    same_words!(Price, "balduqen_price_answer", number place pages root cents);
+    same_words!(Saving, "balduqen_saving_answer", number place pages root saving);
 }
 
 #[test]

@@ -43,8 +43,10 @@ fn case_e() {
     assert_eq!(best.marks, [1, 1, 2, 1, 2, 2]);
     assert_eq!(best.verdict, verdict(3, 5));
     assert_eq!(judge(&table, &best.marks), Ok(best.verdict));
-    assert_eq!(price(&table, &best.marks), Ok(578));
-    assert_eq!(saving(&table), Ok(347));
+    let priced = price(&table, &best.marks).expect("a price");
+    assert_eq!((priced.verdict, priced.cents), (best.verdict, 578));
+    let saved = saving(&table).expect("a saving");
+    assert_eq!((saved.verdict, saved.cents), (best.verdict, 347));
     let sheet = include_bytes!("../../examples/case_e.sheet");
     assert_eq!(print_sheets(&table, &best.marks), Ok(sheet.to_vec()));
     for edition in Edition::ALL {
@@ -63,7 +65,7 @@ fn case_e() {
     }
 }
 
-/// The page count of each planner, and that it is the door's.
+/// The page count of each planner, and that it is the door's and the price's.
 #[test]
 fn planners() {
     let pages =
@@ -75,6 +77,8 @@ fn planners() {
         let made = plan(planner, &table).expect("a plan");
         let (mut marks, mut scratch) = (vec![7; 6], vec![7; scratch_length(6, 5)]);
         let answer = planner.door()(&table, &mut marks, &mut scratch);
+        let priced = price(&table, &marks).expect("a price");
+        assert_eq!(priced.verdict, made.verdict);
         assert_eq!((answer.result(), marks), (Ok(made.verdict), made.marks));
     }
 }

@@ -29,7 +29,7 @@ fn versions(text: &str) -> Vec<&str> {
     lines.filter_map(version).collect()
 }
 
-/// The versions that CHANGELOG.md heads: `## 0.7.0 (2026-11-17)` tells `0.7.0`.
+/// The versions that CHANGELOG.md heads: `## 0.7.1 (2026-11-17)` tells `0.7.1`.
 fn changes() -> Vec<String> {
     let text = file("CHANGELOG.md");
     let headings = text.lines().filter_map(|line| line.strip_prefix("## "));

@@ -5,7 +5,7 @@
 use crate::gen::Table;
 use crate::model::{
     plan_best, plan_depth_first, plan_level, plan_pair, plan_rightmost, plan_single, word, Answer,
-    Edition, Planner,
+    Edition, Planner, Price, Saving,
 };
 use balduqen::doors;
 
@@ -488,8 +488,9 @@ pub fn made() -> Vec<Made> {
     list
 }
 
-/// The marks of a plan, and what each of its pages costs in cents, in the order of their numbers.
-pub type PricedPlan = (&'static [u8], &'static [u32]);
+/// The marks of a plan, the weight of its root page, and what each of its pages costs in cents, in
+/// the order of their numbers.
+pub type PricedPlan = (&'static [u8], u32, &'static [u32]);
 
 /// The best plan of a tree and the single-cut plan, and the saving of the one against the other.
 pub struct Priced {
@@ -498,6 +499,19 @@ pub struct Priced {
     pub best: PricedPlan,
     pub single: PricedPlan,
     pub saving: i32,
+}
+
+impl Priced {
+    /// The answer of the saving, with the verdict on the best plan.
+    pub fn saved(&self) -> Saving {
+        let (_, root, cents) = self.best;
+        Saving::accepted(cents.len(), root, self.saving)
+    }
+}
+
+/// The answer of the price, with the verdict on this plan.
+pub fn price_of((_, root, cents): PricedPlan) -> Price {
+    Price::accepted(cents.len(), root, cents.iter().sum())
 }
 
 /// Root 2, children 1 1, K 3: best leaves both pages two thirds full, and single fills one of them.
@@ -537,31 +551,31 @@ pub fn priced() -> Vec<Priced> {
     add(
         "E",
         case_e(),
-        (&MARKS_OF_E, &[90, 244, 244]),
-        (&[1, 1, 1, 0, 0, 1], &[90, 355, 90, 390]),
+        (&MARKS_OF_E, 5, &[90, 244, 244]),
+        (&[1, 1, 1, 0, 0, 1], 5, &[90, 355, 90, 390]),
         347,
     );
     // One page.
     let mut add_same = |name, table, plan: PricedPlan| add(name, table, plan, plan, 0);
-    add_same("A", case_a(), (&[1], &[90]));
-    add_same("a note alone", Table::new(1, &[0], &[0]), (&[1], &[410]));
-    add_same("C", case_c(), (&[1, 0, 0, 0], &[90]));
+    add_same("A", case_a(), (&[1], 1, &[90]));
+    add_same("a note alone", Table::new(1, &[0], &[0]), (&[1], 0, &[410]));
+    add_same("C", case_c(), (&[1, 0, 0, 0], 5, &[90]));
     // Two pages, the same by both planners.
-    add_same("F", case_f(), (&[1, 1, 0], &[90, 266]));
-    add_same("G", case_g(), (&[1, 1, 0, 0, 0], &[90, 90]));
+    add_same("F", case_f(), (&[1, 1, 0], 4, &[90, 266]));
+    add_same("G", case_g(), (&[1, 1, 0, 0, 0], 5, &[90, 90]));
     // As many pages: best has the lighter root page, and single has a full one.
     add(
         "dear best",
         dear_best(),
-        (&[1, 1, 2], &[287, 287]),
-        (&[1, 1, 0], &[90, 368]),
+        (&[1, 1, 2], 2, &[287, 287]),
+        (&[1, 1, 0], 3, &[90, 368]),
         -116,
     );
     add(
         "D",
         case_d(),
-        (&[1, 1, 2, 2], &[340, 266]),
-        (&[1, 1, 0, 0], &[90, 390]),
+        (&[1, 1, 2, 2], 2, &[340, 266]),
+        (&[1, 1, 0, 0], 4, &[90, 390]),
         -126,
     );
     // Single has a page more, and costs less all the same.
@@ -570,10 +584,12 @@ pub fn priced() -> Vec<Priced> {
         even_run(),
         (
             &[1, 1, 2, 1, 2, 1, 2, 1, 2, 1, 2],
+            7,
             &[90, 244, 244, 244, 244, 244],
         ),
         (
             &[1, 1, 1, 0, 1, 0, 1, 0, 1, 0, 1],
+            7,
             &[90, 398, 90, 90, 90, 90, 398],
         ),
         -64,
@@ -582,46 +598,46 @@ pub fn priced() -> Vec<Priced> {
     add(
         "equal prices",
         Table::new(2, &[0, 1, 1], &[1, 1, 1]),
-        (&[1, 1, 2], &[340, 90]),
-        (&[1, 1, 0], &[90, 340]),
+        (&[1, 1, 2], 1, &[340, 90]),
+        (&[1, 1, 0], 2, &[90, 340]),
         0,
     );
     // As many pages, and here best has the full one.
     add(
         "lighter rest",
         Table::new(3, &[0, 1, 1], &[1, 2, 1]),
-        (&[1, 1, 2], &[368, 90]),
-        (&[1, 1, 0], &[287, 287]),
+        (&[1, 1, 2], 1, &[368, 90]),
+        (&[1, 1, 0], 2, &[287, 287]),
         116,
     );
     // Single has a page more.
     add(
         "equal runs",
         Table::new(5, &[0, 1, 1, 1], &[5, 2, 2, 2]),
-        (&[1, 1, 2, 1], &[90, 244, 355]),
-        (&[1, 1, 1, 1], &[90, 355, 355, 355]),
+        (&[1, 1, 2, 1], 5, &[90, 244, 355]),
+        (&[1, 1, 1, 1], 5, &[90, 355, 355, 355]),
         466,
     );
     add(
         "larger gain",
         Table::new(10, &[0, 1, 2, 1, 4, 1], &[10, 1, 1, 1, 8, 2]),
-        (&[1, 1, 0, 2, 1, 2], &[90, 340, 244]),
-        (&[1, 1, 0, 1, 0, 1], &[90, 390, 221, 390]),
+        (&[1, 1, 0, 2, 1, 2], 10, &[90, 340, 244]),
+        (&[1, 1, 0, 1, 0, 1], 10, &[90, 390, 221, 390]),
         417,
     );
     add(
         "note between",
         note_between(),
-        (&[1, 1, 2, 2], &[90, 90]),
-        (&[1, 1, 0, 1], &[90, 340, 340]),
+        (&[1, 1, 2, 2], 2, &[90, 90]),
+        (&[1, 1, 0, 1], 2, &[90, 340, 340]),
         590,
     );
     // Two more.
     add(
         "notes at the ends",
         notes_at_the_ends(),
-        (&[1, 1, 0, 2, 2, 2, 0], &[90, 90]),
-        (&[1, 1, 0, 0, 1, 1, 0], &[90, 368, 368, 368]),
+        (&[1, 1, 0, 2, 2, 2, 0], 3, &[90, 90]),
+        (&[1, 1, 0, 0, 1, 1, 0], 3, &[90, 368, 368, 368]),
         1014,
     );
     list

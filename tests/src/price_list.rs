@@ -3,7 +3,7 @@
 //! its judge is asked.
 
 use crate::exhaustive::{for_each_plan, page_weights, score_of_plan};
-use crate::model::Tree;
+use crate::model::{Price, Tree};
 use std::collections::BTreeMap;
 
 /// What a page costs, in cents, from so many fifteenths of the limit on.
@@ -41,6 +41,16 @@ pub fn cents_of_pages(weights: &[u32], limit: u32) -> u32 {
 /// The total of a plan with allowed marks.
 pub fn cents_of_plan(tree: &Tree, marks: &[u8]) -> u32 {
     cents_of_pages(&page_weights(tree, marks), tree.limit)
+}
+
+/// The answer for a feasible plan whose pages weigh so much, the root page first.
+pub fn price_of_pages(weights: &[u32], limit: u32) -> Price {
+    Price::accepted(weights.len(), weights[0], cents_of_pages(weights, limit))
+}
+
+/// The answer for a feasible plan.
+pub fn price_of_plan(tree: &Tree, marks: &[u8]) -> Price {
+    price_of_pages(&page_weights(tree, marks), tree.limit)
 }
 
 /// For each number of pages that feasible plans have, the least that one of them costs.

@@ -8,7 +8,7 @@
 
 use balduqen_tests::cases::{
     archive_of_note_between, case_e, dear_best, even_chain, even_run, film_of_e, long_case_e, made,
-    note_between, once_refused_tables, priced, Kind, KINDS, MARKS_OF_E,
+    note_between, once_refused_tables, price_of, priced, Kind, KINDS, MARKS_OF_E,
 };
 use balduqen_tests::check::{first_unfiled, show, with_copy, Lent, Seen, RETIRED};
 use balduqen_tests::entries::{Entries, Writer, LIBRARY, MODEL};
@@ -22,7 +22,7 @@ use balduqen_tests::model::{
     read, read_sound, scratch_length, sheets_length, word, Answer, Edition, Price, Saving,
     ARCHIVE_NODES, EDITIONS, FIRST, MAX_LIMIT, MAX_NODES, SECOND,
 };
-use balduqen_tests::price_list::{cents_of_page, cents_of_pages, cheapest_by_pages, PRICE_LIST};
+use balduqen_tests::price_list::{cents_of_page, cheapest_by_pages, price_of_pages, PRICE_LIST};
 use balduqen_tests::sheet_reader::read_sheets;
 use balduqen_tools::rule_sheet::rebuild;
 use std::collections::{BTreeMap, BTreeSet};
@@ -93,7 +93,7 @@ impl Asked {
         }
     }
 
-    /// Of prices and savings, number and place.
+    /// Of prices and savings, all but the amounts.
     fn all(&self) -> Vec<Answer> {
         let [first, second] = self.write;
         let of_plan = [self.judge, first, second, self.print_sheets];
@@ -106,8 +106,8 @@ impl Asked {
         assert_eq!(self.all(), [refusal; 7 + KINDS.len()], "{}", show(table));
     }
 
-    /// The verdicts of the planners and the saving are not looked at. The archive's first edition
-    /// has no more than 1,024 nodes.
+    /// The verdicts of the planners are not looked at; the saving's is best's. The archive's first
+    /// edition has no more than 1,024 nodes.
     fn expect_accepted(&self, table: &[u8]) {
         let count = word(table, 0);
         let of_ones = Answer::accepted(count, word(table, 2) as u32);
@@ -122,7 +122,8 @@ impl Asked {
         assert_eq!(self.price, price_of_ones(table), "{}", show(table));
         let planned = self.planners.iter().all(Answer::is_accepted);
         assert!(planned, "{:?}: {}", self.planners, show(table));
-        assert_eq!(self.saving.answer(), Answer::ACCEPTED, "{}", show(table));
+        assert_eq!(KINDS[0], Kind::Best);
+        assert_eq!(self.saving.answer(), self.planners[0], "{}", show(table));
     }
 }
 
@@ -144,19 +145,23 @@ fn make_plan(entries: &Entries, kind: Kind, table: &[u8], marks: usize, scratch:
 fn price_of_ones(table: &[u8]) -> Price {
     let weights = table[4..].chunks(8).map(|record| word(record, 0) as u32);
     let weights: Vec<u32> = weights.collect();
-    Price::accepted(cents_of_pages(&weights, word(table, 1) as u32))
+    price_of_pages(&weights, word(table, 1) as u32)
 }
 
-/// What a plan costs; nothing, where it is refused.
+/// What a plan costs. Where it is refused there are no pages and no cents.
 fn price(entries: &Entries, table: &[u8], plan: &[u8]) -> Price {
     let price = with_copy(table, |table| {
         with_copy(plan, |plan| (entries.price)(table, plan))
     });
-    assert_eq!(price.cents == 0, price.number != 0, "{price:?}");
+    match price.number {
+        0 => assert!(price.cents > 0, "{price:?}"),
+        number => assert_eq!(price, Price::refused(number, price.place as usize)),
+    }
     price
 }
 
-/// What the best plan saves, with the buffers of a planner.
+/// What the best plan saves, with the buffers of a planner. Where it is refused all is kept, and
+/// there are no pages and no saving.
 fn saving(entries: &Entries, table: &[u8], marks: usize, scratch: usize) -> Saving {
     let mut marks = Lent::new(&vec![7; marks], 0xa5);
     let mut scratch = Lent::new(&vec![7; scratch], 0xa5a5_a5a5);
@@ -166,7 +171,8 @@ fn saving(entries: &Entries, table: &[u8], marks: usize, scratch: usize) -> Savi
     let kept = saving.number != 0;
     assert!(marks.content().iter().all(|&mark| (mark == 7) == kept));
     assert!(scratch.content().iter().all(|&word| (word == 7) == kept));
-    assert!(!kept || saving.saving == 0, "{saving:?}");
+    let refusal = Saving::refused(saving.number, saving.place as usize);
+    assert!(!kept || saving == refusal, "{saving:?}");
     saving
 }
 
@@ -349,11 +355,8 @@ fn long_trees_in_all_lengths(entries: &Entries) {
                 assert_eq!(answer.is_accepted(), !is_short, "{kind:?} {answer:?}");
             }
             let saving = saving(entries, &table, count, scratch).answer();
-            let expected = match scratch < right.scratch {
-                true => refusal,
-                false => Answer::ACCEPTED,
-            };
-            assert_eq!(saving, expected);
+            let best = make_plan(entries, Kind::Best, &table, count, scratch);
+            assert_eq!(saving, best);
         }
         for edition in EDITIONS {
             let right = right.archives[edition.number - 1];
@@ -536,8 +539,9 @@ fn longest_scratch(entries: &Entries) {
             assert_eq!(answer, Answer::refused(9, 8_413_184), "{kind:?}");
         }
     }
+    let best = make_plan(entries, Kind::Best, &table, 2048, 8_413_184);
     let answer = saving(entries, &table, 2048, 8_413_184).answer();
-    assert_eq!(answer, Answer::ACCEPTED);
+    assert_eq!(answer, best);
     let refusal = saving(entries, &table, 2048, 8_413_183);
     assert_eq!(refusal, Saving::refused(9, 8_413_184));
 }
@@ -824,8 +828,8 @@ fn on_film(entries: &Entries, table: &[u8], marks: &[u8], weights: &[usize]) {
     on_archive(entries, table, marks, weights);
     on_sheets(entries, table, marks, weights);
     let weights: Vec<u32> = weights.iter().map(|&weight| weight as u32).collect();
-    let cents = cents_of_pages(&weights, word(table, 1) as u32);
-    assert_eq!(price(entries, table, marks), Price::accepted(cents));
+    let expected = price_of_pages(&weights, word(table, 1) as u32);
+    assert_eq!(price(entries, table, marks), expected);
 }
 
 /// In both editions, and from the one to the other; with more than 1,024 nodes in the second.
@@ -1085,26 +1089,27 @@ fn best_plans_on_film(entries: &Entries) {
 fn prices_by_hand(entries: &Entries) {
     for priced in priced() {
         let table = priced.table.bytes();
-        let [best, single] = [priced.best, priced.single].map(|(marks, cents)| {
-            let total: u32 = cents.iter().sum();
-            let price = price(entries, &table, marks);
-            assert_eq!(price, Price::accepted(total), "{}", priced.name);
-            total as i32
+        let [best, single] = [priced.best, priced.single].map(|plan| {
+            let price = price(entries, &table, plan.0);
+            assert_eq!(price, price_of(plan), "{}", priced.name);
+            price.cents as i32
         });
         assert_eq!(single - best, priced.saving, "{}", priced.name);
         let (count, limit) = (word(&table, 0), word(&table, 1));
         let mut marks = vec![7; count];
         let mut scratch = vec![7; scratch_length(count, limit) + 3];
         let saving = (entries.saving)(&table, &mut marks, &mut scratch);
-        assert_eq!(saving, Saving::accepted(priced.saving), "{}", priced.name);
+        assert_eq!(saving, priced.saved(), "{}", priced.name);
         assert_eq!(marks, priced.best.0, "{}", priced.name);
         assert!(scratch.iter().all(|&word| word == 0), "{}", priced.name);
     }
     let table = case_e().bytes();
     let single = [1, 1, 1, 0, 0, 1];
-    assert_eq!(price(entries, &table, &MARKS_OF_E), Price::accepted(578));
-    assert_eq!(price(entries, &table, &single), Price::accepted(925));
-    assert_eq!(saving(entries, &table, 6, 192), Saving::accepted(347));
+    let [best, single] = [&MARKS_OF_E, &single].map(|marks| price(entries, &table, marks));
+    assert_eq!(best, Price::accepted(3, 5, 578));
+    assert_eq!(single, Price::accepted(4, 5, 925));
+    let saved = saving(entries, &table, 6, 192);
+    assert_eq!(saved, Saving::accepted(3, 5, 347));
 }
 
 /// Each weight under each limit, by itself on a page: every line of the price list is reached, and
@@ -1116,7 +1121,8 @@ fn cents_of_every_fill(entries: &Entries) {
             let table = Table::new(limit, &[0], &[weight]).bytes();
             let price = (entries.price)(&table, &[1]);
             let cents = cents_of_page(weight.into(), limit.into());
-            assert_eq!(price, Price::accepted(cents), "{weight} of {limit}");
+            let expected = Price::accepted(1, weight.into(), cents);
+            assert_eq!(price, expected, "{weight} of {limit}");
             assert_eq!(price.cents == 90, weight == limit, "{weight} of {limit}");
             met.insert(price.cents);
         }
@@ -1142,7 +1148,7 @@ fn totals_of_many_pages(entries: &Entries) {
             (1024, 1024, 90),
         ] {
             let table = Table::new(limit, &parents, &vec![weight; count]).bytes();
-            let expected = Price::accepted(count as u32 * cents);
+            let expected = Price::accepted(count, weight.into(), count as u32 * cents);
             assert_eq!(price(entries, &table, &vec![1; count]), expected);
         }
     }
@@ -1150,7 +1156,7 @@ fn totals_of_many_pages(entries: &Entries) {
     for (weight, total) in [(0, 839_680), (7, 184_320)] {
         let table = Table::new(7, &parents, &[weight; 2048]).bytes();
         let price = price(entries, &table, &[1; 2048]);
-        assert_eq!(price, Price::accepted(total));
+        assert_eq!(price, Price::accepted(2048, weight.into(), total));
     }
 }
 
@@ -1166,7 +1172,8 @@ fn every_page_counts(entries: &Entries) {
                 weights[place] = one;
                 let table = Table::new(9, &parents, &weights).bytes();
                 let price = price(entries, &table, &[1; 60]);
-                assert_eq!(price, Price::accepted(total), "{form:?} {place}");
+                let expected = Price::accepted(60, weights[0].into(), total);
+                assert_eq!(price, expected, "{form:?} {place}");
             }
         }
     }
@@ -1189,7 +1196,7 @@ fn totals_of_one_page(entries: &Entries) {
                 left -= part;
             }
             let table = Table::new(1024, &parents, &weights).bytes();
-            let expected = Price::accepted(cents_of_page(weight.into(), 1024));
+            let expected = price_of_pages(&[weight.into()], 1024);
             assert_eq!(price(entries, &table, &one_page), expected);
         }
     }
@@ -1207,14 +1214,15 @@ fn savings_of_many_pages(entries: &Entries) {
     }
     let table = Table::new(3, &parents, &weights).bytes();
     let dear = saving(entries, &table, 2047, scratch_length(2047, 3));
-    assert_eq!(dear, Saving::accepted(-79_112));
+    // The root page, and two for each of the trees.
+    assert_eq!(dear, Saving::accepted(1365, 3, -79_112));
 
     let parents = [&[0][..], &[1; 2047]].concat();
     let weights = [&[1024][..], &[1; 2047]].concat();
     let table = Table::new(1024, &parents, &weights).bytes();
     let saved = saving(entries, &table, 2048, scratch_length(2048, 1024));
     // 90 and 2,047 times 410, less 90, 90 and 196.
-    assert_eq!(saved, Saving::accepted(838_984));
+    assert_eq!(saved, Saving::accepted(3, 1024, 838_984));
 }
 
 /// For each number of pages, the least that a plan costs: all plans are priced.
@@ -1225,6 +1233,7 @@ fn cheapest(entries: &Entries, table: &[u8]) -> BTreeMap<usize, u32> {
         let price = price(entries, table, marks);
         if price.number == 0 {
             let pages = marks.iter().filter(|&&mark| mark == 1).count();
+            assert_eq!(price.pages as usize, pages, "{}", show(table));
             let least = cheapest.entry(pages).or_insert(price.cents);
             *least = price.cents.min(*least);
         }
@@ -1239,7 +1248,9 @@ fn best_price(entries: &Entries, table: &[u8]) -> (usize, u32) {
     let mut marks = vec![7; count];
     let mut scratch = vec![7; scratch_length(count, limit)];
     let answer = (entries.planner)(Kind::Best)(table, &mut marks, &mut scratch);
-    (answer.pages as usize, price(entries, table, &marks).cents)
+    let price = price(entries, table, &marks);
+    assert_eq!(price.answer(), answer, "{}", show(table));
+    (price.pages as usize, price.cents)
 }
 
 /// Fewest pages is not lowest price: another plan with the fewest pages costs less, or one with
@@ -1417,11 +1428,13 @@ fn declarations_of_the_header() {
         ("saving", "saving", "int32_t"),
     ] {
         let answer = format!("balduqen_{kind}_answer");
-        again += &format!("_Static_assert(sizeof({answer}) == 12, \"three words\");\n");
+        again += &format!("_Static_assert(sizeof({answer}) == 20, \"five words\");\n");
         for (offset, name, word) in [
             (0, "number", "uint32_t"),
             (4, "place", "uint32_t"),
-            (8, field, word),
+            (8, "pages", "uint32_t"),
+            (12, "root", "uint32_t"),
+            (16, field, word),
         ] {
             again += &format!(
                 "_Static_assert(offsetof({answer}, {name}) == {offset} && \

@@ -294,20 +294,20 @@ pub fn sheet(_: &Usage, given: &Given) -> Result<Made, Stop> {
 }
 
 pub fn price(_: &Usage, given: &Given) -> Result<Made, Stop> {
-    let cents = Planned::chosen(given)?.made(balduqen::price)?;
-    Ok(report(format!("price {cents} cents\n")))
+    let priced = Planned::chosen(given)?.made(balduqen::price)?;
+    Ok(report(format!("price {} cents\n", priced.cents)))
 }
 
 pub fn saving(_: &Usage, given: &Given) -> Result<Made, Stop> {
     let tree = read_tree(given.operand(0))?;
     let refused = of_tree(&tree);
-    let saving = balduqen::saving(&tree.table).map_err(&refused)?;
-    let price = |planner| {
+    let saving = balduqen::saving(&tree.table).map_err(&refused)?.cents;
+    let cents = |planner| {
         let plan = balduqen::plan(planner, &tree.table)?;
-        balduqen::price(&tree.table, &plan.marks)
+        balduqen::price(&tree.table, &plan.marks).map(|priced| priced.cents)
     };
-    let best = price(Planner::Best).map_err(&refused)?;
-    let single = price(Planner::Single).map_err(&refused)?;
+    let best = cents(Planner::Best).map_err(&refused)?;
+    let single = cents(Planner::Single).map_err(&refused)?;
     Ok(report(format!(
         "saving {saving} cents, best {best}, single {single}\n"
     )))

@@ -17,7 +17,12 @@ fn total(tree: &Tree, marks: &[u8]) -> u32 {
 }
 
 pub fn price(table: &[u8], marks: &[u8]) -> Price {
-    let Answer { number, place, .. } = judge(table, marks);
+    let Answer {
+        number,
+        place,
+        pages,
+        root,
+    } = judge(table, marks);
     let cents = match number {
         0 => total(&read(table).expect("the judge accepts the tree"), marks),
         _ => 0,
@@ -25,12 +30,19 @@ pub fn price(table: &[u8], marks: &[u8]) -> Price {
     Price {
         number,
         place,
+        pages,
+        root,
         cents,
     }
 }
 
 pub fn saving(table: &[u8], marks: &mut [u8], scratch: &mut [u32]) -> Saving {
-    let Answer { number, place, .. } = plan_best(table, marks, scratch);
+    let Answer {
+        number,
+        place,
+        pages,
+        root,
+    } = plan_best(table, marks, scratch);
     let saving = match number {
         0 => {
             let tree = read(table).expect("the planner accepts the tree");
@@ -41,6 +53,8 @@ pub fn saving(table: &[u8], marks: &mut [u8], scratch: &mut [u32]) -> Saving {
     Saving {
         number,
         place,
+        pages,
+        root,
         saving,
     }
 }

@@ -6,11 +6,11 @@ use balduqen_tests::check::{show, with_copy, Lent, Seen};
 use balduqen_tests::exhaustive::for_each_plan;
 use balduqen_tests::gen::*;
 use balduqen_tests::model::{self, read, scratch_length, sheets_length, word, Price, Saving, Tree};
-use balduqen_tests::price_list::{cents_of_pages, cents_of_plan};
+use balduqen_tests::price_list::{price_of_pages, price_of_plan};
 use balduqen_tests::sheet_reader::read_sheets;
 
-/// The library's answer, checked against the model's, against the price list, and against what the
-/// library's judge says.
+/// The library's answer, checked against the model's, against pages weighed anew and the price list,
+/// and against what the library's judge says.
 fn price(table: &[u8], marks: &[u8]) -> Price {
     let price = with_copy(table, |table| {
         with_copy(marks, |marks| doors::price(table, marks))
@@ -18,13 +18,12 @@ fn price(table: &[u8], marks: &[u8]) -> Price {
     let expected = model::price(table, marks);
     assert_eq!(price, expected, "{}; {}", show(table), show(marks));
     let judged = doors::judge(table, marks);
-    let refusal = (judged.number, judged.place);
-    assert_eq!((price.number, price.place), refusal, "{}", show(table));
-    let cents = match judged.is_accepted() {
-        true => cents_of_plan(&tree_of(table), marks),
-        false => 0,
+    assert_eq!(price.answer(), judged, "{}; {}", show(table), show(marks));
+    let expected = match judged.is_accepted() {
+        true => price_of_plan(&tree_of(table), marks),
+        false => Price::refused(judged.number, judged.place as usize),
     };
-    assert_eq!(price.cents, cents, "{}; {}", show(table), show(marks));
+    assert_eq!(price, expected, "{}; {}", show(table), show(marks));
     price
 }
 
@@ -50,19 +49,21 @@ fn saving(table: &[u8], marks: &[u8], scratch: &[u32]) -> (Saving, Vec<u8>) {
 
     let (mut best_marks, mut best_scratch) = (marks.to_vec(), scratch.to_vec());
     let best = doors::plan_best(table, &mut best_marks, &mut best_scratch);
-    let refusal = (best.number, best.place);
-    assert_eq!((saving.number, saving.place), refusal, "{}", show(table));
+    assert_eq!(saving.answer(), best, "{}", show(table));
     assert!(new_marks == best_marks && new_scratch == best_scratch);
     if best.is_accepted() {
         let mut single = marks.to_vec();
         let answer = doors::plan_single(table, &mut single, &mut best_scratch);
         assert!(answer.is_accepted(), "{answer:?}: {}", show(table));
         let tree = tree_of(table);
-        let [best, single] = [&best_marks, &single].map(|marks| cents_of_plan(&tree, marks) as i32);
-        assert_eq!(saving.saving, single - best, "{}", show(table));
+        let [best, single] = [&best_marks, &single].map(|marks| price_of_plan(&tree, marks));
+        let saved = single.cents as i32 - best.cents as i32;
+        let expected = Saving::accepted(best.pages as usize, best.root, saved);
+        assert_eq!(saving, expected, "{}", show(table));
         assert!(new_scratch.iter().all(|&word| word == 0));
     } else {
-        assert_eq!(saving.saving, 0, "{}", show(table));
+        let refusal = Saving::refused(best.number, best.place as usize);
+        assert_eq!(saving, refusal, "{}", show(table));
         assert!(new_marks == marks && new_scratch == scratch);
     }
     (saving, new_marks.to_vec())
@@ -105,10 +106,9 @@ mod prices {
     #[test]
     fn cases() {
         for priced in priced() {
-            for (marks, cents) in [priced.best, priced.single] {
-                let expected = Price::accepted(cents.iter().sum());
-                let price = price(&priced.table.bytes(), marks);
-                assert_eq!(price, expected, "{}", priced.name);
+            for plan in [priced.best, priced.single] {
+                let price = price(&priced.table.bytes(), plan.0);
+                assert_eq!(price, price_of(plan), "{}", priced.name);
             }
         }
         for made in made() {
@@ -122,11 +122,7 @@ mod prices {
             assert_eq!(price(&table, &[]), Price::refused(number, place));
         }
         for (table, marks, expected) in once_refused_plans() {
-            let price = price(&table, &marks);
-            assert_eq!(
-                (price.number, price.place),
-                (expected.number, expected.place)
-            );
+            assert_eq!(price(&table, &marks).answer(), expected);
         }
     }
 
@@ -136,11 +132,7 @@ mod prices {
     fn order_of_the_checks() {
         let faulty = faulty_plans().into_iter().chain(faulty_long_plans(2048));
         for (table, marks, expected) in faulty {
-            let price = price(&table, &marks);
-            assert_eq!(
-                (price.number, price.place),
-                (expected.number, expected.place)
-            );
+            assert_eq!(price(&table, &marks).answer(), expected);
         }
     }
 
@@ -237,9 +229,8 @@ mod prices {
                     let mut sheets = vec![7; sheets_length(planned.pages as usize)];
                     assert_eq!(doors::print_sheets(&table, &marks, &mut sheets), planned);
                     let told = read_sheets(&sheets).expect("sound sheets").pages;
-                    let weights = told.iter().map(|page| page.weight as u32);
-                    let cents = cents_of_pages(&weights.collect::<Vec<u32>>(), limit as u32);
-                    let expected = Price::accepted(cents);
+                    let weights: Vec<u32> = told.iter().map(|page| page.weight as u32).collect();
+                    let expected = price_of_pages(&weights, limit as u32);
                     assert_eq!(price(&table, &marks), expected, "{kind:?} {form:?}");
                 }
             }
@@ -299,7 +290,7 @@ mod prices {
         }
         // 2,047 full pages and one with a single thousandth.
         let price = price(&table, &[1; 2048]);
-        assert_eq!(price, Price::accepted(2047 * 90 + 410));
+        assert_eq!(price, Price::accepted(2048, 1024, 2047 * 90 + 410));
     }
 }
 
@@ -315,7 +306,7 @@ mod savings {
             for more in [0, 1, 7, 1000] {
                 let marks = random.bytes(word(&table, 0));
                 let answer = saving(&table, &marks, &vec![7; asked + more]);
-                let expected = (Saving::accepted(priced.saving), priced.best.0.to_vec());
+                let expected = (priced.saved(), priced.best.0.to_vec());
                 assert_eq!(answer, expected, "{}", priced.name);
             }
         }
@@ -343,7 +334,11 @@ mod savings {
                     let answer = saving(&table, &vec![7; marks], &vec![7; scratch]).0;
                     let expected = match (number, marks, scratch) {
                         (0, 6, 0 | 191) => Saving::refused(9, 192),
-                        (0, 6, _) => Saving::accepted(answer.saving),
+                        (0, 6, _) => Saving {
+                            number: 0,
+                            place: 0,
+                            ..answer
+                        },
                         (0, _, _) => Saving::refused(8, 6),
                         _ => Saving::refused(number, place),
                     };
@@ -408,7 +403,7 @@ mod savings {
             let parents = random_parents(random, form, 2048);
             let table = Table::new(1, &parents, &[0; 2048]).bytes();
             let saving = saving_with_good_buffers(random, &table);
-            assert_eq!(saving, Saving::accepted(0), "{form:?}");
+            assert_eq!(saving, Saving::accepted(1, 0, 0), "{form:?}");
         }
     }
 

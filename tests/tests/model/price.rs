@@ -5,32 +5,34 @@ use super::plan;
 use balduqen_tests::cases::*;
 use balduqen_tests::exhaustive::for_each_plan;
 use balduqen_tests::gen::*;
-use balduqen_tests::model::{judge, plan_best, price, read, saving, scratch_length, Saving};
-use balduqen_tests::price_list::{cents_of_plan, cheapest_by_pages};
+use balduqen_tests::model::{judge, plan_best, price, read, saving, scratch_length, Price, Saving};
+use balduqen_tests::price_list::{cents_of_plan, cheapest_by_pages, price_of_plan};
 use std::collections::BTreeMap;
 
-/// Number and place are the judge's; the total is that of the price list, or 0 with a refusal.
+/// Number and place are the judge's; page count and root weight are those of the pages weighed anew
+/// and the total that of the price list, or all 0 with a refusal.
 fn price_by_the_list(table: &[u8], marks: &[u8]) -> u32 {
     let (price, judged) = (price(table, marks), judge(table, marks));
-    assert_eq!((price.number, price.place), (judged.number, judged.place));
-    let cents = match judged.is_accepted() {
-        true => cents_of_plan(&read(table).expect("an accepted table"), marks),
-        false => 0,
+    let expected = match judged.is_accepted() {
+        true => price_of_plan(&read(table).expect("an accepted table"), marks),
+        false => Price::refused(judged.number, judged.place as usize),
     };
-    assert_eq!(price.cents, cents, "{table:?} {marks:?}");
-    cents
+    assert_eq!(price, expected, "{table:?} {marks:?}");
+    price.cents
 }
 
-/// The saving with good buffers is the difference of the two plans by the price list, and leaves
-/// what the best planner leaves.
+/// The saving with good buffers is the difference of the two plans by the price list, with the best
+/// plan's page count and root weight, and leaves what the best planner leaves.
 fn saving_by_the_list(table: &[u8]) -> i32 {
     let tree = read(table).expect("an accepted table");
     let [best, single] = [Kind::Best, Kind::Single].map(|kind| plan(kind, table).1);
     let mut marks = vec![9; tree.node_count()];
     let mut scratch = vec![9; scratch_length(marks.len(), tree.limit as usize) + 2];
     let answer = saving(table, &mut marks, &mut scratch);
-    let [of_best, of_single] = [&best, &single].map(|marks| cents_of_plan(&tree, marks) as i32);
-    assert_eq!(answer, Saving::accepted(of_single - of_best), "{tree:?}");
+    let [of_best, of_single] = [&best, &single].map(|marks| price_of_plan(&tree, marks));
+    let saved = of_single.cents as i32 - of_best.cents as i32;
+    let expected = Saving::accepted(of_best.pages as usize, of_best.root, saved);
+    assert_eq!(answer, expected, "{tree:?}");
     assert_eq!(marks, best, "{tree:?}");
     assert!(scratch.iter().all(|&word| word == 0), "{tree:?}");
     answer.saving
@@ -104,9 +106,10 @@ fn refusals_of_savings() {
         let (mut marks, mut scratch) = (vec![7; lengths.0], vec![7; lengths.1]);
         let answer = saving(&table, &mut marks, &mut scratch);
         let best = plan_best(&table, &mut vec![7; lengths.0], &mut vec![7; lengths.1]);
-        assert_eq!((answer.number, answer.place), (best.number, best.place));
+        assert_eq!(answer.answer(), best);
         if answer.number != 0 {
-            assert_eq!(answer.saving, 0);
+            let refusal = Saving::refused(best.number, best.place as usize);
+            assert_eq!(answer, refusal);
             assert!(marks.iter().all(|&mark| mark == 7));
             assert!(scratch.iter().all(|&word| word == 7));
             refused += 1;
