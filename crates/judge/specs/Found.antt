@@ -1,6 +1,6 @@
--- What the judge leaves beside its answer: the layout of every plan that it gives a verdict, and of a feasible one what
--- is known of it.
--- Defines Found. Proves found-none, found-laid. Assumes nothing.
+-- What the judge learns of what it is given before a plan is laid, and what it leaves beside its answer: the layout of
+-- every plan that it gives a verdict, and of a feasible one what is known of it.
+-- Defines Given, Found. Proves found-none, found-laid. Assumes nothing.
 use Prim.Native.Nat.{ℕ}
 use mathlib.Core.Bool.{Bool, true}
 use mathlib.Core.Path.{_≡_, sym, _∙_, ap}
@@ -12,6 +12,13 @@ use Rattle.model.specs.declared.Answer.{Answer}
 use Rattle.theory.specs.PlanFeasible.{with-judged}
 use Rattle.theory.specs.JudgedEntries.{judge-passes}
 use Rattle.layout.specs.Rows.{Layout, IsLayout, FeasibleLayout, feasible-layout}
+
+-- the tree passes and there is a mark a node, or else the answer r is the judge's
+pub record Given (filed : Bool) (t m : List ℕ) (r : Answer) : Type 0 where
+  pub tree : r .number ≡ 0 → passes (treeChecks filed t) ≡ true
+  pub long : r .number ≡ 0 → length m ≡ nodeCount t
+  pub refuses : (r .number ≡ 0 → ⊥) → r ≡ judgeBy (record { filed = filed }) t m
+  pub none : (r .number ≡ 0 → ⊥) → passes (treeChecks filed t) ≡ true → length m ≡ nodeCount t → ⊥
 
 pub record Found (filed : Bool) (t m : List ℕ) (r : Answer) (l : Layout) : Type 0 where
   pub laid : passes (treeChecks filed t) ≡ true → length m ≡ nodeCount t → IsLayout t m l

@@ -22,7 +22,7 @@ ghost use Rattle.model.specs.Refusals.{answerOf, judgeBy, judgePlan};
 ghost use Rattle.model.specs.Demand.{JudgePromise};
 ghost use Rattle.theory.specs.TableFacts.{AcceptedFacts};
 ghost use Rattle.layout.specs.Rows.{Cleared, IsLayout, layoutOf};
-ghost use Rattle.judge.specs.Found.{Found};
+ghost use Rattle.judge.specs.Found.{Given, Found};
 
 // The answer to a plan that failed.
 fn give_cause(cause: Cause) -> Answer
@@ -69,13 +69,6 @@ pub struct Judgement {
     pub pages: u16,
 }
 
-// A refusal before any plan is laid.
-fn without_pages(answer: Answer) -> Judgement
-    ensures { λ r. ⌜ r .answer ≡ answer ⌝ }
-{
-    Judgement { answer, pages: 0 }
-}
-
 // The verdict of a plan of an accepted tree, with its layout.
 pub fn judge_made(
     table: &[u8],
@@ -108,6 +101,21 @@ pub fn judge_answer(table: &[u8], marks: &[u8]) -> Answer
     judge_made(table, marks, &mut rows, &mut weights).answer
 }
 
+// What is refused before any plan is laid: the tree, of which no label is 0 or any may be, and 8.
+fn check_given(filed: bool, table: &[u8], marks: &[u8]) -> Answer
+    ensures { λ r. ⌜ Given filed (now (table .entry)) (now (marks .entry)) r ⌝ }
+{
+    let tree = check_tree(table, filed);
+    if tree.number != 0 {
+        return tree;
+    }
+    let nodes = node_count(table);
+    if marks.len() != nodes as usize {
+        return refuse(8, nodes as u32);
+    }
+    tree
+}
+
 // The judge, of a tree with no label 0 or of any. The layout of a plan that it gives a verdict is left in arrays that are
 // lent, since they are large, and whoever writes, prints or prices goes on with them.
 pub fn judge_pages(
@@ -122,13 +130,12 @@ pub fn judge_pages(
     ensures { λ r. ⌜ Found filed (now (table .entry)) (now (marks .entry)) (r .answer)
         (layoutOf (now (rows .exit)) (now (weights .exit)) (r .pages)) ⌝ }
 {
-    let tree = check_tree(table, filed);
-    if tree.number != 0 {
-        return without_pages(tree);
-    }
-    let nodes = node_count(table);
-    if marks.len() != nodes as usize {
-        return without_pages(refuse(8, nodes as u32));
+    let given = check_given(filed, table, marks);
+    if given.number != 0 {
+        return Judgement {
+            answer: given,
+            pages: 0,
+        };
     }
     judge_made(table, marks, rows, weights)
 }
@@ -138,7 +145,9 @@ pub fn judge_plan(table: &[u8], marks: &[u8]) -> Answer
     ensures { λ r. ⌜ r ≡ judgePlan (now (table .entry)) (now (marks .entry)) ⌝ }
     ensures { λ r. ⌜ JudgePromise (now (table .entry)) (now (marks .entry)) r ⌝ }
 {
-    let mut rows = [[0u16; SLOTS]; ROWS];
-    let mut weights = [0u32; SLOTS];
-    judge_pages(true, table, marks, &mut rows, &mut weights).answer
+    let given = check_given(true, table, marks);
+    if given.number != 0 {
+        return given;
+    }
+    judge_answer(table, marks)
 }
