@@ -67,6 +67,6 @@ fn main() -> Result<(), Refusal> {
         println!("{line}");
     }
     let (priced, saved) = (price(&table, &best.marks)?, saving(&table)?);
-    println!("price {} saving {}", priced.cents, saved.cents);
+    println!("price {} saving {}", priced.cents, saved.saving);
     Ok(())
 }

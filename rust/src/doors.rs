@@ -182,7 +182,7 @@ impl Saving {
     pub fn result(self) -> Result<Saved, Refusal> {
         Ok(Saved {
             verdict: self.answer().result()?,
-            cents: self.saving,
+            saving: self.saving,
         })
     }
 }

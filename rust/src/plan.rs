@@ -103,8 +103,9 @@ pub struct Priced {
 pub struct Saved {
     /// The best plan's page count and root weight.
     pub verdict: Verdict,
-    /// What the best plan costs less than the single planner's; below 0 where it costs more.
-    pub cents: i32,
+    /// What the best plan costs less than the single planner's, in cents; below 0 where it costs
+    /// more.
+    pub saving: i32,
 }
 
 /// The planner's plan for the tree. Refuses 1 to 4, 6, 7 and 14: what is no tree, or has no plan.
@@ -115,8 +116,7 @@ pub fn plan(planner: Planner, table: &[u8]) -> Result<Plan, Refusal> {
     Ok(Plan { marks, verdict })
 }
 
-/// What the best plan of the tree costs less than the single planner's, in cents; below 0 where it
-/// costs more. Refuses as `plan` does.
+/// What the best plan of the tree saves, with its verdict. Refuses as `plan` does.
 pub fn saving(table: &[u8]) -> Result<Saved, Refusal> {
     let (mut marks, mut scratch) = buffers(table)?;
     doors::saving(table, &mut marks, &mut scratch).result()
@@ -136,7 +136,7 @@ pub fn judge(table: &[u8], marks: &[u8]) -> Result<Verdict, Refusal> {
     doors::judge(table, marks).result()
 }
 
-/// What the plan costs, in cents. Refuses where `judge` does.
+/// What the plan costs, with its verdict. Refuses where `judge` does.
 pub fn price(table: &[u8], marks: &[u8]) -> Result<Priced, Refusal> {
     doors::price(table, marks).result()
 }

@@ -46,7 +46,7 @@ fn case_e() {
     let priced = price(&table, &best.marks).expect("a price");
     assert_eq!((priced.verdict, priced.cents), (best.verdict, 578));
     let saved = saving(&table).expect("a saving");
-    assert_eq!((saved.verdict, saved.cents), (best.verdict, 347));
+    assert_eq!((saved.verdict, saved.saving), (best.verdict, 347));
     let sheet = include_bytes!("../../examples/case_e.sheet");
     assert_eq!(print_sheets(&table, &best.marks), Ok(sheet.to_vec()));
     for edition in Edition::ALL {

@@ -301,7 +301,7 @@ pub fn price(_: &Usage, given: &Given) -> Result<Made, Stop> {
 pub fn saving(_: &Usage, given: &Given) -> Result<Made, Stop> {
     let tree = read_tree(given.operand(0))?;
     let refused = of_tree(&tree);
-    let saving = balduqen::saving(&tree.table).map_err(&refused)?.cents;
+    let saving = balduqen::saving(&tree.table).map_err(&refused)?.saving;
     let cents = |planner| {
         let plan = balduqen::plan(planner, &tree.table)?;
         balduqen::price(&tree.table, &plan.marks).map(|priced| priced.cents)

@@ -13,7 +13,8 @@ use Rattle.embed.specs.declared.PriceAnswer.{PriceAnswer}
 use Rattle.embed.specs.declared.SavingAnswer.{SavingAnswer}
 use Rattle.embed.specs.Figures.{figuresOf, priceAnswer, savingAnswer}
 
-abbrev pub told : {Given Told Left : Type 0} → (Given → Told) → Outcome Given Left → Outcome Told Left
+-- the same, with what a door tells in the place of the answer
+abbrev pub told : {Answered Told Left : Type 0} → (Answered → Told) → Outcome Answered Left → Outcome Told Left
 told by o = outcome (by (o .answer)) (o .left)
 
 -- the saving is told with the answer
@@ -21,8 +22,9 @@ abbrev pub savingLeft : Outcome Answer SavingLeft → Outcome SavingAnswer PlanB
 savingLeft o = outcome (savingAnswer (outcome (o .answer) (o .left .saving))) (o .left .best)
 
 -- the numbers are told of an answer of which the entry's promise holds
-pub record FiguresOf {Given Told : Type 0} (by : Given → Told) (Promise : Given → Type 0) (f : Told) : Type 0 where
-  pub answer : Given
+pub record FiguresOf {Answered Told : Type 0} (by : Answered → Told) (Promise : Answered → Type 0) (f : Told)
+    : Type 0 where
+  pub answer : Answered
   pub figures : f ≡ by answer
   pub promise : Promise answer
 

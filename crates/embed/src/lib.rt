@@ -178,7 +178,8 @@ pub extern "C" fn balduqen_plan_depth_first(
 #[no_mangle]
 pub extern "C" fn balduqen_write_archive(table: &[u8], marks: &[u8], archive: &mut [u8]) -> Figures
     ensures { λ r. ⌜ outcome r (now (archive .exit))
-        ≡ told figuresOf (writeArchive firstEdition (now (table .entry)) (now (marks .entry)) (now (archive .entry))) ⌝ }
+        ≡ told figuresOf
+        (writeArchive firstEdition (now (table .entry)) (now (marks .entry)) (now (archive .entry))) ⌝ }
     ensures { λ r. ⌜ WriteFigures firstEdition (now (table .entry)) (now (marks .entry)) (now (archive .entry))
         r (now (archive .exit)) ⌝ }
 {
@@ -192,7 +193,8 @@ pub extern "C" fn balduqen_read_archive(
     marks: &mut [u8],
 ) -> Figures
     ensures { λ r. ⌜ readLeft r (now (table .exit)) (now (marks .exit))
-        ≡ told figuresOf (readArchive firstEdition (now (archive .entry)) (now (table .entry)) (now (marks .entry))) ⌝ }
+        ≡ told figuresOf
+        (readArchive firstEdition (now (archive .entry)) (now (table .entry)) (now (marks .entry))) ⌝ }
     ensures { λ r. ⌜ ReadFigures firstEdition secondEdition (now (archive .entry)) (now (table .entry))
         (now (marks .entry)) r (now (table .exit)) (now (marks .exit)) ⌝ }
 {
@@ -202,7 +204,8 @@ pub extern "C" fn balduqen_read_archive(
 #[no_mangle]
 pub extern "C" fn balduqen_write_archive2(table: &[u8], marks: &[u8], archive: &mut [u8]) -> Figures
     ensures { λ r. ⌜ outcome r (now (archive .exit))
-        ≡ told figuresOf (writeArchive secondEdition (now (table .entry)) (now (marks .entry)) (now (archive .entry))) ⌝ }
+        ≡ told figuresOf
+        (writeArchive secondEdition (now (table .entry)) (now (marks .entry)) (now (archive .entry))) ⌝ }
     ensures { λ r. ⌜ WriteFigures secondEdition (now (table .entry)) (now (marks .entry)) (now (archive .entry))
         r (now (archive .exit)) ⌝ }
 {
@@ -216,7 +219,8 @@ pub extern "C" fn balduqen_read_archive2(
     marks: &mut [u8],
 ) -> Figures
     ensures { λ r. ⌜ readLeft r (now (table .exit)) (now (marks .exit))
-        ≡ told figuresOf (readArchive secondEdition (now (archive .entry)) (now (table .entry)) (now (marks .entry))) ⌝ }
+        ≡ told figuresOf
+        (readArchive secondEdition (now (archive .entry)) (now (table .entry)) (now (marks .entry))) ⌝ }
     ensures { λ r. ⌜ ReadFigures secondEdition firstEdition (now (archive .entry)) (now (table .entry))
         (now (marks .entry)) r (now (table .exit)) (now (marks .exit)) ⌝ }
 {

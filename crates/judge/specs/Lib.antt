@@ -1,3 +1,3 @@
 -- What the contracts of the judge cite, and what it promises.
-pub mod Found
+pub mod Judging
 pub mod PromiseJudge

@@ -11,13 +11,13 @@ use Rattle.model.specs.Basics.{every}
 use Rattle.model.specs.Table.{nodeCount}
 use Rattle.model.specs.Plan.{badMark, heavyPage, pageCount, pageWeight, verdictOf}
 use Rattle.model.specs.Runs.{Run, holds, withinLimit, runsOf}
-use Rattle.model.specs.Refusals.{shortTable, badCount, badLimit, badLength, noLabel, badWalk, heavyNode, badMarks, asked}
+use Rattle.model.specs.Refusals.{shortTable, badCount, badLimit, badLength, noLabel, badWalk, heavyNode, badMarks}
+use Rattle.model.specs.Refusals.{asked}
 use Rattle.model.specs.Refusals.{markRefused, pageRefused, headChecks, nodeChecks, weightChecks, formChecks, treeChecks}
 use Rattle.model.specs.Refusals.{foundChecks, markChecks, judgeChecks, acceptedTree, feasiblePlan, answerOf}
 use Rattle.model.specs.Refusals.{plainRules, firstOf, judgePlan}
-use Rattle.model.specs.Demand.{HeldWith, PlanOf, JudgePromise}
+use Rattle.model.specs.Demand.{HeldExactly, PlanOf, JudgePromise}
 use Rattle.model.specs.declared.Answer.{Answer}
-use Rattle.model.specs.declared.Beside.the-variants.{Given}
 use Rattle.model.specs.declared.Cause.the-variants.{BadMark, HeavyPage}
 use Rattle.model.specs.declared.Place.the-variants.{Nowhere}
 use Rattle.model.specs.declared.Verdict.{Verdict}
@@ -36,20 +36,23 @@ use Rattle.theory.specs.PromiseWeight.{judge-weight}
 -- ---- The runs of a plan
 
 module _ (t m : List ℕ) where
-  held : (P W : ℕ) → judgePlan t m ≡ answerOf (Feasible P W) → HeldWith t P W (runsOf t m)
+  held : judgePlan t m .number ≡ 0
+      → (P : ℕ) × (W : ℕ) × (judgePlan t m ≡ answerOf (Feasible P W)) × HeldExactly t P W (runsOf t m)
   unfolding judgePlan feasiblePlan
-  held P W e =
-      let f : feasiblePlan t m ≡ true = judge-passes plainRules t m (ap (λ (r : Answer). r .number) e) in
+  held z =
+      let f : feasiblePlan t m ≡ true = judge-passes plainRules t m z in
       let j : Judged t m = feasible-judged t m f in
-      let runs : PlanRuns t m = plan-runs (j .tree .sound) m (j .marked) in
-      let same : Given (Feasible P W) ≡ Given (Feasible (pageCount t m) (pageWeight t m 1)) =
-      ap (λ (r : Answer). r .beside) (sym e ∙ feasible-judge t m f) in
-      record {
-        held = runs .held;
-        within = runs .limit .1 (j .light);
-        count = runs .count ∙ cc;
-        root = runs .root ∙ cc;
-      }
+      let runs : PlanRuns t m = plan-runs (j .tree .sound) m (j .marked) in (
+        pageCount t m,
+        pageWeight t m 1,
+        feasible-judge t m f,
+        record {
+          held = runs .held;
+          within = runs .limit .1 (j .light);
+          count = runs .count;
+          root = runs .root;
+        },
+      )
 
   -- 11 comes after all of the tree's checks, 8 and 10
   tree-eleven : Never 11 (treeChecks true t)
@@ -95,10 +98,9 @@ module _ (t m : List ℕ) where
             ),
       )
 
-  heavy : (p : ℕ) → judgePlan t m ≡ answerOf (Failed (HeavyPage p))
-      → (holds t (runsOf t m) ≡ true) × (withinLimit t (runsOf t m) ≡ false)
-  heavy p e =
-      let found = found-heavy (ap (λ (r : Answer). r .number) e) in
+  heavy : judgePlan t m .number ≡ 11 → (holds t (runsOf t m) ≡ true) × (withinLimit t (runsOf t m) ≡ false)
+  heavy e =
+      let found = found-heavy e in
       let runs : PlanRuns t m = plan-runs (found .0 .sound) m (found .1) in
       (runs .held, never-true (withinLimit t (runsOf t m)) (λ w. found .2 (runs .limit .0 w)))
 
@@ -153,6 +155,7 @@ module _ (t : List ℕ) (tree : acceptedTree t ≡ true) where
 pub judge-promise : (t m : List ℕ) → JudgePromise t m (judgePlan t m)
 judge-promise t m =
     record {
+      accepts = feasible-judge t m;
       held = held t m;
       heavy = heavy t m;
       plans = plan-of t;

@@ -1,4 +1,4 @@
-// The heaviest matter of the judge: a page over the limit.
+// What the judge finds on the pages: the first over the limit.
 use model::Place;
 use table::SLOTS;
 ghost use mathlib.Core.Path.{_≡_};

@@ -22,7 +22,7 @@ ghost use Rattle.model.specs.Refusals.{answerOf, judgeBy, judgePlan};
 ghost use Rattle.model.specs.Demand.{JudgePromise};
 ghost use Rattle.theory.specs.TableFacts.{AcceptedFacts};
 ghost use Rattle.layout.specs.Rows.{Cleared, IsLayout, layoutOf};
-ghost use Rattle.judge.specs.Found.{Given, Found};
+ghost use Rattle.judge.specs.Judging.{BeforePlan, LaidBeside};
 
 // The answer to a plan that failed.
 fn give_cause(cause: Cause) -> Answer
@@ -45,7 +45,8 @@ fn give_cause(cause: Cause) -> Answer
 // The first of what is found: a bad mark, then a heavy page, else acceptance with page count and root weight.
 fn find_answer(bad: Place, heavy: Place, pages: u16, root: u32) -> Answer
     ensures { λ r. ⌜ r ≡ atPlace bad (λ v. answerOf (Verdict.Failed (Cause.BadMark v)))
-        (atPlace heavy (λ p. answerOf (Verdict.Failed (Cause.HeavyPage p))) (answerOf (Verdict.Feasible pages root))) ⌝ }
+        (atPlace heavy (λ p. answerOf (Verdict.Failed (Cause.HeavyPage p)))
+        (answerOf (Verdict.Feasible pages root))) ⌝ }
 {
     if let Place::At(v) = bad {
         return give_cause(Cause::BadMark(v));
@@ -101,9 +102,9 @@ pub fn judge_answer(table: &[u8], marks: &[u8]) -> Answer
     judge_made(table, marks, &mut rows, &mut weights).answer
 }
 
-// What is refused before any plan is laid: the tree, of which no label is 0 or any may be, and 8.
+// What is refused before any plan is laid: the tree, with 14 where `filed`, since older film may have labels 0; and 8.
 fn check_given(filed: bool, table: &[u8], marks: &[u8]) -> Answer
-    ensures { λ r. ⌜ Given filed (now (table .entry)) (now (marks .entry)) r ⌝ }
+    ensures { λ r. ⌜ BeforePlan filed (now (table .entry)) (now (marks .entry)) r ⌝ }
 {
     let tree = check_tree(table, filed);
     if tree.number != 0 {
@@ -116,8 +117,8 @@ fn check_given(filed: bool, table: &[u8], marks: &[u8]) -> Answer
     tree
 }
 
-// The judge, of a tree with no label 0 or of any. The layout of a plan that it gives a verdict is left in arrays that are
-// lent, since they are large, and whoever writes, prints or prices goes on with them.
+// The judge, with 14 where `filed`. The layout of a plan that it gives a verdict is left in arrays that are lent, since
+// they are large, and whoever writes, prints or prices goes on with them.
 pub fn judge_pages(
     filed: bool,
     table: &[u8],
@@ -127,7 +128,7 @@ pub fn judge_pages(
 ) -> Judgement
     requires { ⌜ Cleared (now rows) (now weights) ⌝ }
     ensures { λ r. ⌜ r .answer ≡ judgeBy (record { filed = filed }) (now (table .entry)) (now (marks .entry)) ⌝ }
-    ensures { λ r. ⌜ Found filed (now (table .entry)) (now (marks .entry)) (r .answer)
+    ensures { λ r. ⌜ LaidBeside filed (now (table .entry)) (now (marks .entry)) (r .answer)
         (layoutOf (now (rows .exit)) (now (weights .exit)) (r .pages)) ⌝ }
 {
     let given = check_given(filed, table, marks);

@@ -1,5 +1,5 @@
--- What the arrays of a layout hold, what the pass over a plan finds, whatever the judge says of it, and what is known of
--- the layout of a feasible plan; and the test of a mark by numbers.
+-- What the arrays of a layout hold, what the pass over a plan finds, whatever the judge says of it, and what is known
+-- of the layout of a feasible plan; and the test of a mark by numbers.
 -- Defines goodCase, Layout, layoutOf, Cleared, IsLayout, LightPages, FeasibleLayout. Proves feasible-layout. Assumes
 -- nothing.
 use Prim.Native.Nat.{ℕ, _≤_, _<_}

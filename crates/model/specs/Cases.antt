@@ -1,8 +1,9 @@
 -- Document 01, 'Trees on both sides' and the examples of 'What is refused', computed from the definitions: one result
 -- for the starred cases and one for the refusals; one for the quick planners, one for what planners leave on refusal,
--- one for trees with unfiled lots, one for trees with notes that weigh nothing, one for the limits of nodes, one for
--- edition 2, one for readers that refuse, one for film that is none, one for film that is converted, one for verdicts,
--- three for leader sheets, two for prices, one for sequences of runs and one for what promises read off film.
+-- one for film read back, one for trees with unfiled lots, two for notes that weigh nothing, one for the limits of
+-- nodes, one for edition 2, one for readers that refuse, one for film that is none, one for film that is converted,
+-- one for verdicts, three for leader sheets, two for prices, one for sequences of runs and one for what promises read
+-- off film.
 -- Assumes nothing.
 use mathlib.Core.Path.{_≡_, refl}
 use Prim.Native.Nat.{ℕ, _+_, _-_, _*_, _/_}
@@ -701,8 +702,8 @@ saves t m z =
 
 -- above, below and at zero, with the marks of best; less for a plan with a page more; a planner's refusals, with the
 -- marks, the scratch and no saving
-pub saved : List Bool
-saved =
+pub savings : List Bool
+savings =
     let r = saveBest (treeE 5 1) (replicate 6 9) (replicate 191 7) in
     saves (treeE 5 1) bestE (pos 347)
     ∷ saves treeN bestN (negsuc 115)
@@ -717,9 +718,9 @@ saved =
     ∷ answers (saveBest (treeE 5 1) [] [] .answer) 8 6
     ∷ []
 
-pub saved-hold : every computed saved ≡ true
-unfolding computed saved saves plans
-saved-hold = refl
+pub savings-hold : every computed savings ≡ true
+unfolding computed savings saves plans
+savings-hold = refl
 
 -- ---- Sequences of sibling runs of E: its best plan's in any order, those that do not hold it, or too heavy, and how
 -- often a run is in one

@@ -1,6 +1,7 @@
 -- The demands in the words of their document, as the entries promise them beside their equations. Demand 3 speaks of
 -- sibling runs told from the tree alone: what the lowest plan there is means, of a planner's answer and marks and of
--- an archive's bytes, when a tree is refused for weight, and that plans and sequences of runs are the same, order apart.
+-- an archive's bytes, when a tree is refused for weight, and that plans and sequences of runs are the same, order
+-- apart.
 use Prim.Native.Nat.{ℕ, _+_, _*_, _≤_, _<_}
 use mathlib.Core.Path.{_≡_}
 use mathlib.Core.Bool.{true, false}
@@ -20,8 +21,7 @@ use Rattle.model.specs.Refusals.{refused, outcome, judgePlan, planBest, 
 use Rattle.model.specs.Refusals.{readArchive, convertArchive, planSingle, pricePlan}
 use Rattle.model.specs.declared.Answer.{Answer}
 use Rattle.model.specs.declared.Edition.{Edition}
-use Rattle.model.specs.declared.Cause.the-variants.{HeavyPage}
-use Rattle.model.specs.declared.Verdict.the-variants.{Feasible, Failed}
+use Rattle.model.specs.declared.Verdict.the-variants.{Feasible}
 
 -- ---- The lowest there is
 
@@ -50,15 +50,15 @@ pub record WeightPromise (t : List ℕ) (r : Answer) : Type 0 where
 -- ---- The judge
 
 -- the runs rs hold the tree within the page limit, with exactly P runs and root page W
-pub record HeldWith (t : List ℕ) (P W : ℕ) (rs : List Run) : Type 0 where
+pub record HeldExactly (t : List ℕ) (P W : ℕ) (rs : List Run) : Type 0 where
   pub held : holds t rs ≡ true
   pub within : withinLimit t rs ≡ true
   pub count : runCount rs ≡ P
   pub root : rootWeight t rs ≡ W
 
--- The one plan whose runs are those of the sequence qs, order apart: of marks, one a node, that the judge does not find
--- bad, it alone has these runs. The judge accepts it, with the sequence's figures, where the sequence is within the page
--- limit, and else finds a heavy page.
+-- The one plan whose runs are those of the sequence qs, order apart: of marks, one a node, that the judge does not
+-- find bad, it alone has these runs. The judge accepts it, with the sequence's figures, where the sequence is within
+-- the page limit, and else finds a heavy page.
 pub record PlanOf (t : List ℕ) (qs : List Run) : Type 0 where
   pub marks : List ℕ
   pub runs : OrderApart (runsOf t marks) qs
@@ -67,14 +67,14 @@ pub record PlanOf (t : List ℕ) (qs : List Run) : Type 0 where
   pub within : withinLimit t qs ≡ true → judgePlan t marks ≡ answerOf (Feasible (runCount qs) (rootWeight t qs))
   pub heavy : withinLimit t qs ≡ false → judgePlan t marks .number ≡ 11
 
--- What the judge says with its answer r to the table t and the marks m. The runs of a plan that it accepts hold the tree
--- within the page limit, with the verdict's page count and root weight; those of a plan with a heavy page hold the tree
--- too, and not within the limit. Each sequence of runs that holds an accepted tree is the runs of one plan, order apart.
--- 7 is exact.
+-- What the judge says with its answer r to the table t and the marks m. Every feasible plan it accepts, with its
+-- verdict. The runs of a plan that it accepts hold the tree within the page limit, with the verdict's page count and
+-- root weight; those of a plan with a heavy page hold the tree too, and not within the limit. Each sequence of runs
+-- that holds an accepted tree is the runs of one plan, order apart. 7 is exact.
 pub record JudgePromise (t m : List ℕ) (r : Answer) : Type 0 where
-  pub held : (P W : ℕ) → r ≡ answerOf (Feasible P W) → HeldWith t P W (runsOf t m)
-  pub heavy : (p : ℕ) → r ≡ answerOf (Failed (HeavyPage p))
-      → (holds t (runsOf t m) ≡ true) × (withinLimit t (runsOf t m) ≡ false)
+  pub accepts : feasiblePlan t m ≡ true → r ≡ answerOf (Feasible (pageCount t m) (pageWeight t m 1))
+  pub held : r .number ≡ 0 → (P : ℕ) × (W : ℕ) × (r ≡ answerOf (Feasible P W)) × HeldExactly t P W (runsOf t m)
+  pub heavy : r .number ≡ 11 → (holds t (runsOf t m) ≡ true) × (withinLimit t (runsOf t m) ≡ false)
   pub plans : acceptedTree t ≡ true → (qs : List Run) → holds t qs ≡ true → PlanOf t qs
   pub weight : WeightPromise t r
 
@@ -101,9 +101,9 @@ pub record PlanPromise (t m s : List ℕ) (r : Answer) (marks scratch : List ℕ
 pub record BestPromise (t m s : List ℕ) (r : Answer) (marks : List ℕ) : Type 0 where
   pub lowest : PlanLent t m s → (P : ℕ) × (W : ℕ) × (r ≡ answerOf (Feasible P W)) × Lowest t P W (runsOf t marks)
 
--- What a quick planner says besides, with its answer r to the table t: where it accepts, and the best planner does, lent
--- this table and whatever else, the best plan's page count is not above its own and, where both are equal, the best
--- plan's root page is not heavier.
+-- What a quick planner says besides, with its answer r to the table t: where it accepts, and the best planner does,
+-- lent this table and whatever else, the best plan's page count is not above its own and, where both are equal, the
+-- best plan's root page is not heavier.
 pub record QuickPromise (t : List ℕ) (r : Answer) : Type 0 where
   pub not-below : (m s : List ℕ) (P W bestP bestW : ℕ)
       → r ≡ answerOf (Feasible P W) → planBest t m s .answer ≡ answerOf (Feasible bestP bestW)
@@ -138,13 +138,13 @@ pub record PlanOnFilm (e : Edition) (t m a : List ℕ) : Type 0 where
   pub root : rootIn e a ≡ pageWeight t m 1
   pub runs : runsIn e a ≡ runsOf t m
 
--- What the writer says with its answer r and the archive a that it leaves, where it was lent the table t, the marks
--- m and the output out. Every feasible plan it accepts, with its verdict, where the edition takes so many nodes and the
+-- What the writer says with its answer r and the archive a that it leaves, where it was lent the table t, the marks m
+-- and the output out. Every feasible plan it accepts, with its verdict, where the edition takes so many nodes and the
 -- output is as long as the plan's page count asks. Every archive that it writes carries the verdict's page count and
--- root weight, and the plan's own runs. Where the best planner left the marks for this table, whatever else it was lent,
--- the archive of them is the lowest. A feasible plan of a tree with more nodes than the edition takes gets 15 at N,
--- whatever the output; an edition that takes as many nodes as a table never gives 15. On refusal the output is as lent,
--- and 7 is exact.
+-- root weight, and the plan's own runs. Where the best planner left the marks for this table, whatever else it was
+-- lent, the archive of them is the lowest. A feasible plan of a tree with more nodes than the edition takes gets 15 at
+-- N, whatever the output; an edition that takes as many nodes as a table never gives 15. On refusal the output is as
+-- lent, and 7 is exact.
 pub record WritePromise (e : Edition) (t m out : List ℕ) (r : Answer) (a : List ℕ) : Type 0 where
   pub accepts : feasiblePlan t m ≡ true → nodeCount t ≤ e .most
       → length out ≡ archiveBytes e (pageCount t m) (nodeCount t)

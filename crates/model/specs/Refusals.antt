@@ -225,7 +225,7 @@ feasibleBy r t m = passes (judgeChecks r t m)
 unfoldable pub feasiblePlan : List ℕ → List ℕ → Bool
 feasiblePlan t m = feasibleBy plainRules t m
 
--- and on film of an edition when the judge that film is held against does not
+-- and on film of an edition when the judge that film is held against finds nothing
 unfoldable pub feasibleFilm : Edition → List ℕ → List ℕ → Bool
 feasibleFilm e t m = feasibleBy (filmRules e) t m
 
@@ -236,7 +236,7 @@ unfoldable pub firstOf : List Check → Answer → Answer
 firstOf [] a = a
 firstOf (c ∷ cs) a = atPlace (c .place) (c .answer) (firstOf cs a)
 
--- an answer, and what is left: every buffer that was lent, or an amount
+-- an answer, and what is left: every buffer that was lent, an amount, or both
 pub record Outcome (Told Left : Type 0) : Type 0 where
   pub answer : Told
   pub left : Left

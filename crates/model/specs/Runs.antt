@@ -44,10 +44,11 @@ unfoldable pub countOf {ℓ} : {X : Type ℓ} → (X → Bool) → List X → �
 countOf p [] = 0
 countOf p (x ∷ xs) = pick (p x) (suc (countOf p xs)) (countOf p xs)
 
--- two sequences are the same, order apart: each run is as often in the one as in the other
+-- the same first node and the same last sibling
 unfoldable pub sameRun : Run → Run → Bool
 sameRun r r′ = eqb (r .first) (r′ .first) && eqb (r .last) (r′ .last)
 
+-- two sequences are the same, order apart: each run is as often in the one as in the other
 abbrev pub OrderApart : List Run → List Run → Type 0
 OrderApart rs qs = (r : Run) → countOf (sameRun r) rs ≡ countOf (sameRun r) qs
 

@@ -45,7 +45,7 @@ module _ (l : Layout) (limit : ℕ) where
       (ap (λ (x : List ℕ). headOf l limit ++ x) (listTo-suc n (lineOf l))
       ∙ sym (append-assoc (headOf l limit) (listTo n (lineOf l)) (lineOf l (suc n))))
 
--- the layout of a plan gives the plan's lines
+-- the layout of a feasible plan gives the plan's lines
 pub layout-lines : {t m : List ℕ} {l : Layout} → FeasibleLayout t m l → layoutLines l (limitOf t) ≡ planLines t m
 unfolding layoutLines linesTo lineOf planLines
 layout-lines {t} {m} {l} f =

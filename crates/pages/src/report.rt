@@ -51,7 +51,7 @@ fn list_pages(
     at
 }
 
-// The planner's answer, and the plan that it made, with these marks and this scratch.
+// The lines of the best plan, or of its refusal, with these marks and this scratch lent.
 fn report_plan(table: &[u8], marks: &mut [u8], scratch: &mut [u32], out: &mut [u8]) -> usize
     requires { ⌜ reportBytes ≤ length (now out) ⌝ }
     ensures { λ r. ⌜ Filled (answerLines (now (table .entry))

@@ -10,7 +10,8 @@ use lib.ListN.{length, replicate}
 use Rattle.model.specs.Table.{maxNodes, maxLimit, Chain, limitOf, treeOf}
 use Rattle.model.specs.Plan.{verdictOf}
 use Rattle.model.specs.Refusals.{scratchWords, treeChecks, lentChecks, planChecks, passes, acceptedTree, accepted}
-use Rattle.model.specs.Refusals.{answerOf, firstOf, Outcome, outcome, readTree, PlanBuffers, planLeft, planned, planBest}
+use Rattle.model.specs.Refusals.{answerOf, firstOf, Outcome, outcome, readTree, PlanBuffers, planLeft, planned}
+use Rattle.model.specs.Refusals.{planBest}
 use Rattle.model.specs.Demand.{PlanPromise, BestPromise, QuickPromise}
 use Rattle.model.specs.declared.Answer.{Answer}
 use Rattle.theory.specs.TableFacts.{AcceptedFacts, accepted-facts}
@@ -21,7 +22,7 @@ use Rattle.theory.specs.JudgeAnswers.{tree-accepted}
 use Rattle.theory.specs.PromisePlanner.{passes-lent, planned-done, planned-refused, plan-promise, best-promise}
 use Rattle.theory.specs.PromisePlanner.{quick-promise}
 use Rattle.planner.specs.declared.Planner.{Planner}
-use Rattle.planner.specs.Steps.{stepsOf, laidBy, PlanReady, steps-judged}
+use Rattle.planner.specs.Planners.{stepsOf, laidBy, PlanReady, steps-judged}
 
 -- ---- The refusals
 
@@ -119,12 +120,14 @@ module _ (p : Planner) (t m s : List ℕ) {r : Answer} {m′ s′ : List ℕ}
 -- ---- The promises, of what is left
 
 -- demand 3, of what the best planner leaves
-pub best-promised : (t m s : List ℕ) {m′ s′ : List ℕ} {r : Answer} → planLeft r m′ s′ ≡ planBest t m s → BestPromise t m s r m′
+pub best-promised : (t m s : List ℕ) {m′ s′ : List ℕ} {r : Answer} → planLeft r m′ s′ ≡ planBest t m s
+    → BestPromise t m s r m′
 best-promised t m s e =
     promised (λ (r : Answer) (x : PlanBuffers). BestPromise t m s r (x .marks)) (best-promise t m s) e .1
 
 -- with the equation, what every planner promises
-pub all-promised : (p : Planner) (t m s : List ℕ) {m′ s′ : List ℕ} {r : Answer} → planLeft r m′ s′ ≡ planned (stepsOf p) t m s
+pub all-promised : (p : Planner) (t m s : List ℕ) {m′ s′ : List ℕ} {r : Answer}
+    → planLeft r m′ s′ ≡ planned (stepsOf p) t m s
     → (planLeft r m′ s′ ≡ planned (stepsOf p) t m s) × (PlanPromise t m s r m′ s′ × QuickPromise t r)
 all-promised p t m s e =
     promised (λ (r : Answer) (x : PlanBuffers). PlanPromise t m s r (x .marks) (x .scratch) × QuickPromise t r)

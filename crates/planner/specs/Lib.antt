@@ -1,2 +1,2 @@
 -- What the planners' contracts cite.
-pub mod Steps
+pub mod Planners

@@ -20,7 +20,7 @@ ghost use Rattle.model.specs.Refusals.{planLeft, planned, planBest, planLevel, 
 ghost use Rattle.model.specs.Refusals.{planDepthFirst};
 ghost use Rattle.model.specs.Demand.{PlanPromise, BestPromise, QuickPromise};
 ghost use Rattle.layout.specs.Rows.{Cleared, layoutOf, FeasibleLayout};
-ghost use Rattle.planner.specs.Steps.{stepsOf, laidBy, PlanReady};
+ghost use Rattle.planner.specs.Planners.{stepsOf, laidBy, PlanReady};
 
 // Whose steps make the plan.
 pub enum Planner {

@@ -49,7 +49,8 @@ module _ (t m s : List ℕ) {m₁ s₁ : List ℕ} {a : Answer} (single : planLe
     facts = accepted-facts t (passes-lent t m s passed .tree)
 
     single-marks : m₁ ≡ singleMarks (limitOf t) (treeOf t)
-    single-marks = ap (λ (p : Outcome Answer PlanBuffers). p .left .marks) (single ∙ planned-done singleMarks t m s passed)
+    single-marks =
+        ap (λ (p : Outcome Answer PlanBuffers). p .left .marks) (single ∙ planned-done singleMarks t m s passed)
 
     pub single-fits : {cents : ℕ} → (a .number ≡ 0 → cents ≡ totalCents t m₁) → cents < 2 ^ 31
     single-fits is = rw (is zero, single-marks) (total-fits (single-judged facts))
@@ -67,7 +68,8 @@ module _ (t m s : List ℕ) {m₁ s₁ : List ℕ} {a : Answer} (single : planLe
           ∙ ap (λ (x : Answer). x .number) (best-plan t m s .accepts (passes-lent t m s passed) .0)
 
       best-marks : m₂ ≡ bestMarks (limitOf t) (treeOf t)
-      best-marks = ap (λ (p : Outcome Answer PlanBuffers). p .left .marks) (best-left ∙ planned-done bestMarks t m s passed)
+      best-marks =
+          ap (λ (p : Outcome Answer PlanBuffers). p .left .marks) (best-left ∙ planned-done bestMarks t m s passed)
 
       pub best-fits : {cents : ℕ} → (b .number ≡ 0 → cents ≡ totalCents t m₂) → cents < 2 ^ 31
       best-fits is = rw (is best-zero, best-marks) (total-fits (best-judged facts))

@@ -1,5 +1,5 @@
-// The entry that gives the saving. It makes and judges both plans, each once, and prices them by their layouts, the best
-// one last, since its marks are left.
+// The entry that gives the saving. It makes and judges both plans, each once, and prices them by their layouts, the
+// best one last, since its marks are left.
 use crate::prices::total;
 use layout::ROWS;
 use model::Price;
@@ -14,7 +14,7 @@ ghost use lib.IntN.{pos, _-ℤ_};
 ghost use Rattle.model.specs.Prices.{totalCents};
 ghost use Rattle.model.specs.Refusals.{planLeft, planned, saved, saveBest};
 ghost use Rattle.model.specs.Demand.{SavingPromise};
-ghost use Rattle.planner.specs.Steps.{stepsOf};
+ghost use Rattle.planner.specs.Planners.{stepsOf};
 
 // A planner's plan with its price.
 fn plan_priced(planner: Planner, table: &[u8], marks: &mut [u8], scratch: &mut [u32]) -> Price

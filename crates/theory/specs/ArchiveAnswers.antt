@@ -172,7 +172,8 @@ pub unfiled-stops : (e f : Edition) (t m out : List ℕ) → feasibleFilm f t m 
     → writeArchive e t m out ≡ outcome (refused 14 v) out
 unfolding writeArchive checked writeChecks
 unfiled-stops e f t m out film v found =
-    ap₂ outcome answer (write-kept (writerRules e) e t m out (λ z. omega (arith, ap (λ (r : Answer). r .number) answer)))
+    ap₂ outcome answer
+    (write-kept (writerRules e) e t m out (λ z. omega (arith, ap (λ (r : Answer). r .number) answer)))
   where
     answer : firstOf (judgeChecks (writerRules e) t m ++ filmChecks e t m out) (answerOf (verdictOf t m)) ≡ refused 14 v
     answer =
@@ -231,7 +232,8 @@ module _ (e : Edition) (a t m : List ℕ) where
           table-next ∙ entry-stop verdictIn told lent (badMarks nodes m) [] nodes (unequal (length m) nodes other)
 
       pub read-done : length m ≡ nodesIn e a
-          → readArchive e a t m ≡ readLeft (answerOf (verdictOf (tableIn e a) (marksIn e a))) (tableIn e a) (marksIn e a)
+          → readArchive e a t m
+          ≡ readLeft (answerOf (verdictOf (tableIn e a) (marksIn e a))) (tableIn e a) (marksIn e a)
       unfolding badMarks
       read-done long =
           table-next ∙ entry-next verdictIn told lent (badMarks nodes m) [] (equal (length m) nodes long)

@@ -1,5 +1,5 @@
--- An entry that judges a tree and a plan under rules, and then checks a list of its own: its ends, as a program comes to
--- them, and what its answer tells.
+-- An entry that judges a tree and a plan under rules, and then checks a list of its own: its ends, as a program comes
+-- to them, and what its answer tells.
 -- Proves judge-passes, judge-fails, judge-given, given-zero; after-never, after-parts, after-zero; judge-stands,
 -- after-stands, after-done, after-last; and of the check of a length short-output, long-output. Assumes nothing.
 use Prim.Native.Nat.{ℕ}
@@ -70,7 +70,8 @@ module _ (rules : Rules) (t m : List ℕ) where
         pub after-stands : {r : Answer} → r ≡ firstOf after (answerOf (verdictOf t m)) → (r .number ≡ 0 → ⊥)
             → outcome r lent ≡ checked (judgeChecks rules t m ++ after) (answerOf (verdictOf t m)) done lent
         after-stands is h =
-            entry-stands given done lent after (λ e. given-zero f) is h ∙ sym (entry-after given done lent judging after f)
+            entry-stands given done lent after (λ e. given-zero f) is h
+            ∙ sym (entry-after given done lent judging after f)
 
         pub after-done : passes after ≡ true
             → checked (judgeChecks rules t m ++ after) (answerOf (verdictOf t m)) done lent

@@ -25,7 +25,8 @@ pub mod Put
 -- Text: a position in a buffer, numbers in decimal
 pub mod Appended
 pub mod Decimals
--- Plans: pages by number, arrays with a slot a node, the judge's answer, plans by shape, and that both say the same
+-- Plans: pages by number, arrays with a slot a node, the judge's answer, plans by shape, that both say the same, and
+-- entries that judge
 pub mod PlanPass
 pub mod Slots
 pub mod PlanPages

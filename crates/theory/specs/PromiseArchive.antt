@@ -1,7 +1,7 @@
--- What the archive's entries promise beside their equations, in an edition: the writer demand 3 (write-promise), the
--- reader demand 2 (read-promise). They rest on the promises of the planner and the judge, and on the laws of writing
--- and reading back.
--- Proves write-promise, written-back, writes-again, written-again, read-promise. Assumes nothing.
+-- What the archive's entries promise beside their equations, in an edition: the writer that every feasible plan is
+-- written, and demand 3 (write-promise), the reader demand 2 (read-promise). They rest on the promises of the planner
+-- and the judge, and on the laws of writing and reading back.
+-- Proves write-promise, writes-again, film-written, read-promise. Assumes nothing.
 use Prim.Native.Nat.{ℕ, _≤_}
 use native.Mathlib.Omega.{arith}
 use mathlib.Core.Bool.{true, false, true≢false}
@@ -198,7 +198,7 @@ module _ {e : Edition} (d : Described e) (a : List ℕ) where
               (unfiled-first (tableIn e a) v first));
           none = (
             λ h. film-written b .0 (read-thirteen e a table marks h),
-            λ h. ap (λ (x : Outcome Answer ReadBuffers). x .answer .number) (read-none e a table marks (film-written b .1 h)),
+            λ h. thirteen (film-written b .1 h),
           );
           other =
               λ h u n.

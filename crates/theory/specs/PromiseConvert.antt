@@ -1,7 +1,7 @@
 -- What the converters promise beside their equation. A converter is the reader of one edition and then the writer of
 -- the other (convert-write): so it keeps what was told, and there and back is two uses of 'what is read is what writing
 -- gives'.
--- Proves convert-none, convert-write, convert-promise. Assumes nothing.
+-- Proves convert-none, film-told, convert-write, convert-promise. Assumes nothing.
 use Prim.Native.Nat.{ℕ, _≤_}
 use native.Mathlib.Omega.{arith}
 use mathlib.Core.Bool.{Bool, true, false, not}

@@ -106,7 +106,8 @@ module _ (steps : ℕ → Chain → List ℕ) (t m s : List ℕ) where
     unfolding planned
     plan-fails h = entry-fails _ _ _ (planChecks t m s) made-zero h
 
-    left-kept : (planned steps t m s .answer .number ≡ 0 → ⊥) → planned steps t m s .left ≡ record { marks = m; scratch = s }
+    left-kept : (planned steps t m s .answer .number ≡ 0 → ⊥)
+        → planned steps t m s .left ≡ record { marks = m; scratch = s }
     unfolding planned
     left-kept h = entry-kept _ _ _ (planChecks t m s) made-zero h
 
@@ -172,7 +173,8 @@ module _ (t m s : List ℕ) where
   pub best-promise : BestPromise t m s (planBest t m s .answer) (planBest t m s .left .marks)
   best-promise = record { lowest = best-low }
 
-  pub best-plan : PlanPromise t m s (planBest t m s .answer) (planBest t m s .left .marks) (planBest t m s .left .scratch)
+  pub best-plan : PlanPromise t m s (planBest t m s .answer) (planBest t m s .left .marks)
+      (planBest t m s .left .scratch)
   best-plan = plan-promise bestMarks t m s best-judged
 
   -- where it answers 0 it was lent what it is to be lent

@@ -46,7 +46,8 @@ module _ (t m : List ℕ) where
       record {
         accepts =
             λ f. (
-              ap (λ (w : Outcome Answer ℕ). w .answer) (priced f) ∙ ap answerOf (judged-verdict (feasible-judged t m f)),
+              ap (λ (w : Outcome Answer ℕ). w .answer) (priced f)
+                  ∙ ap answerOf (judged-verdict (feasible-judged t m f)),
               ap (λ (w : Outcome Answer ℕ). w .left) (priced f),
             );
         range =

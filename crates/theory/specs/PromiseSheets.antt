@@ -1,6 +1,6 @@
 -- What the printer of leader sheets promises beside its equation (print-promise): every feasible plan is printed, and
 -- the sheets, read by their columns, tell it. Every number of a feasible plan fits its field (pages-fit, sheets-fit).
--- Proves sheet-short, sheet-long besides. Assumes nothing.
+-- Proves share-most, sheet-short, sheet-long besides. Assumes nothing.
 use Prim.Native.Nat.{ℕ, _*_, _^_, _≤_, _<_}
 use native.Mathlib.Omega.{arith}
 use native.Mathlib.Nat.{div-le-of-le-mul}

@@ -1,8 +1,8 @@
--- Refusal 7 of every entry is what the tree reader says of a table, and exact: demand 3's last sentence, as the entries
--- promise it. The table is the one that was handed in, or another that the entry speaks of, as the tree with a late leaf.
--- 5 is never given.
--- Defines SaysSeven. Proves weight-promise; tree-says, says-after, says-pass, says-stop (which lists of checks say 7 of a
--- table); tree-weight, read-weight, judge-weight, write-weight, print-weight; and of the archive's reader and the
+-- Refusal 7 of every entry is what the tree reader says of a table, and exact: demand 3's last sentence, as the
+-- entries promise it. The table is the one that was handed in, or another that the entry speaks of, as the tree with a
+-- late leaf. 5 is never given.
+-- Defines SaysSeven. Proves weight-promise; tree-says, says-after, says-pass, says-stop (which lists of checks say 7
+-- of a table); tree-weight, read-weight, judge-weight, write-weight, print-weight; and of the archive's reader and the
 -- converters read-five, convert-five. Assumes nothing.
 use Prim.Native.Nat.{ℕ}
 use native.Mathlib.Omega.{arith}

@@ -1,7 +1,8 @@
 -- Two sequences with the same runs, in whatever order, say the same: a sequence that holds the tree and one with the
 -- same runs have the same homes, page weights and verdict on the limit, and, where the other holds the tree too, the
 -- same length and each run as often.
--- Defines SameRuns. Assumes nothing.
+-- Defines SameRuns. Proves apart-same (order apart, the same runs), same-runWith, same-home, same-weight, same-root,
+-- same-limit, same-length, same-times. Assumes nothing.
 use Prim.Native.Nat.{ℕ, zero, suc, _+_, _≤_}
 use native.Mathlib.Omega.{arith}
 use native.Mathlib.Nat.{eq-zero-or-pos}
@@ -25,7 +26,8 @@ use Rattle.theory.specs.Sums.{sumTo-only}
 use Rattle.theory.specs.TableFacts.{SoundFacts}
 use Rattle.theory.specs.Lists.{Mem, every-all, all-every, countOf-nil, countOf-some, countOf-cons, countOf-find}
 use Rattle.theory.specs.Lists.{countOf-le}
-use Rattle.theory.specs.RunsFacts.{RunFacts, run-path, FoundRun, HoldFacts, first-member, runWith-found, runWith-none}
+use Rattle.theory.specs.RunsFacts.{RunFacts, run-path, FoundRun, HoldFacts, first-member, runWith-found}
+use Rattle.theory.specs.RunsFacts.{runWith-none}
 use Rattle.theory.specs.RunsFacts.{none-runWith, runWith-at}
 
 pub record SameRuns (rs rs′ : List Run) : Type 0 where

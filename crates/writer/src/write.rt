@@ -70,7 +70,8 @@ fn check_film(e: Edition, nodes: u16, size: u32, length: usize, judged: Answer) 
     earlier(15, many, earlier(12, output, judged))
 }
 
-// The writer of an edition, of a tree with no label 0 or of any.
+// The writer of an edition. It refuses 14 where `filed`, as its entries ask; the reader holds older film against it
+// without.
 pub fn write_edition(e: Edition, filed: bool, table: &[u8], marks: &[u8], out: &mut [u8]) -> Answer
     requires { ⌜ InRoom e ⌝ }
     ensures { λ r. ⌜ outcome r (now (out .exit))

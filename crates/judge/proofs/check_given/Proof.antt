@@ -62,7 +62,8 @@ returns-2 c =
     let n = c .before .before in
     let t = n .before .before .before in
     let r = c .refuse .ensures ∙ ap (refused 8) (n .node-count .ensures) in
-    let wrong : length (marks t) ≡ nodeCount (table t) → ⊥ = λ z. omega (arith, c .before .if2, n .node-count .ensures) in
+    let wrong : length (marks t) ≡ nodeCount (table t) → ⊥ =
+    λ z. omega (arith, c .before .if2, n .node-count .ensures) in
     let other : c .refuse .result .number ≡ 0 → ⊥ = λ z. omega (arith, ap (λ (x : Answer). x .number) r) in
     record {
       tree = λ z. absurd (other z);

@@ -6,7 +6,7 @@ use denote.Ref.{now}
 use Rattle.model.specs.Refusals.{Rules}
 use Rattle.theory.specs.TableFacts.{passed-facts}
 use Rattle.theory.specs.JudgeAnswers.{judge-verdict}
-use Rattle.judge.specs.Found.{found-none, found-laid}
+use Rattle.judge.specs.Judging.{beside-none, beside-laid}
 use borrow.Author.Needs.{needs}
 use Rattle.judge.proofs.judge_pages.Statement.{statement}
 use Rattle.judge.proofs.judge_pages.Tie as tie
@@ -32,7 +32,7 @@ returns : tie.Need-returns
 returns c =
     let g = c .before .before .check-given .ensures in
     let other = c .if1 .taken in
-    (g .refuses other, found-none (g .none other) other)
+    (g .refuses other, beside-none (g .none other) other)
 
 judge-made-requires : tie.Need-judge-made-requires
 judge-made-requires c κs =
@@ -48,7 +48,7 @@ returns-2 c =
     let made = c .judge-made .ensures in
     let is =
     made .0 ∙ judge-verdict (rules k) (table k) (marks k) (g .tree (e .if1 .left)) (g .long (e .if1 .left)) in
-    (is, found-laid is (made .1))
+    (is, beside-laid is (made .1))
 
 pub judge-pages-spec : {M : Type 1} → statement M
 judge-pages-spec = tie.close (tie.spec (λ c κs. search needs) returns judge-made-requires returns-2)

@@ -5,7 +5,7 @@ use Prim.Native.Nat.{ℕ}
 use Rattle.model.specs.Table.{limitOf, treeOf}
 use Rattle.model.specs.Steps.{bestMarks, levelMarks}
 use Rattle.planner.specs.declared.Planner.{Planner}
-use Rattle.planner.specs.Steps.{stepsOf}
+use Rattle.planner.specs.Planners.{stepsOf}
 use borrow.Author.Needs.{needs}
 use Rattle.planner.proofs.lay_steps.Statement.{statement}
 use Rattle.planner.proofs.lay_steps.Tie as tie

@@ -3,7 +3,7 @@ use mathlib.Core.Path.{ap, _∙_}
 use Prim.Native.Nat.{ℕ}
 use lib.ListN.{replicate}
 use denote.Ref.{now}
-use Rattle.planner.specs.Steps.{stepsOf}
+use Rattle.planner.specs.Planners.{stepsOf}
 use Rattle.planner.proofs.Planning.{plan-ready, laid-refused, laid-done}
 use borrow.Author.Needs.{needs}
 use Rattle.planner.proofs.make_marks.Statement.{statement}

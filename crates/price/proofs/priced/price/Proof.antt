@@ -70,7 +70,8 @@ returns-2 c =
     let l = c .before .before in
     let e = l .before in
     let j = done e in
-    let f = judge-passes plainRules (table j) (marks j) (sym (ap (λ (r : Answer). r .number) (answer-is j)) ∙ e .if1 .left) in
+    let zero = sym (ap (λ (r : Answer). r .number) (answer-is j)) ∙ e .if1 .left in
+    let f = judge-passes plainRules (table j) (marks j) zero in
     both j
     (ap₂ outcome (answer-is j ∙ judge-given plainRules (table j) (marks j) f)
     (c .total .ensures ∙ layout-total (layout e) (l .limit-of .ensures))

@@ -1,6 +1,6 @@
 -- What the judge learns of what it is given before a plan is laid, and what it leaves beside its answer: the layout of
 -- every plan that it gives a verdict, and of a feasible one what is known of it.
--- Defines Given, Found. Proves found-none, found-laid. Assumes nothing.
+-- Defines BeforePlan, LaidBeside. Proves beside-none, beside-laid. Assumes nothing.
 use Prim.Native.Nat.{ℕ}
 use mathlib.Core.Bool.{Bool, true}
 use mathlib.Core.Path.{_≡_, sym, _∙_, ap}
@@ -14,26 +14,26 @@ use Rattle.theory.specs.JudgedEntries.{judge-passes}
 use Rattle.layout.specs.Rows.{Layout, IsLayout, FeasibleLayout, feasible-layout}
 
 -- the tree passes and there is a mark a node, or else the answer r is the judge's
-pub record Given (filed : Bool) (t m : List ℕ) (r : Answer) : Type 0 where
+pub record BeforePlan (filed : Bool) (t m : List ℕ) (r : Answer) : Type 0 where
   pub tree : r .number ≡ 0 → passes (treeChecks filed t) ≡ true
   pub long : r .number ≡ 0 → length m ≡ nodeCount t
   pub refuses : (r .number ≡ 0 → ⊥) → r ≡ judgeBy (record { filed = filed }) t m
   pub none : (r .number ≡ 0 → ⊥) → passes (treeChecks filed t) ≡ true → length m ≡ nodeCount t → ⊥
 
-pub record Found (filed : Bool) (t m : List ℕ) (r : Answer) (l : Layout) : Type 0 where
+pub record LaidBeside (filed : Bool) (t m : List ℕ) (r : Answer) (l : Layout) : Type 0 where
   pub laid : passes (treeChecks filed t) ≡ true → length m ≡ nodeCount t → IsLayout t m l
   pub feasible : r .number ≡ 0 → FeasibleLayout t m l
 
 module _ {filed : Bool} {t m : List ℕ} {r : Answer} {l : Layout} where
   -- with no verdict
-  pub found-none : (passes (treeChecks filed t) ≡ true → length m ≡ nodeCount t → ⊥) → (r .number ≡ 0 → ⊥)
-      → Found filed t m r l
-  found-none none other =
+  pub beside-none : (passes (treeChecks filed t) ≡ true → length m ≡ nodeCount t → ⊥) → (r .number ≡ 0 → ⊥)
+      → LaidBeside filed t m r l
+  beside-none none other =
       record { laid = λ tree long. absurd (none tree long); feasible = λ z. absurd (other z) }
 
   -- with one
-  pub found-laid : r ≡ judgeBy (record { filed = filed }) t m → IsLayout t m l → Found filed t m r l
-  found-laid is layout =
+  pub beside-laid : r ≡ judgeBy (record { filed = filed }) t m → IsLayout t m l → LaidBeside filed t m r l
+  beside-laid is layout =
       record {
         laid = λ tree long. layout;
         feasible =
