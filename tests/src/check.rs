@@ -85,6 +85,30 @@ macro_rules! tests_of_editions {
     };
 }
 
+/// A test of the entries of one side as a test of the model's and of the library's.
+#[macro_export]
+macro_rules! tests_of_both_sides {
+    ($($test:ident)*) => {
+        mod of_model {
+            $(
+                #[test]
+                fn $test() {
+                    super::$test(&balduqen_tests::entries::MODEL);
+                }
+            )*
+        }
+
+        mod of_library {
+            $(
+                #[test]
+                fn $test() {
+                    super::$test(&balduqen_tests::entries::LIBRARY);
+                }
+            )*
+        }
+    };
+}
+
 /// Makes a call with a copy of the input and looks at it afterwards. The black box keeps the
 /// compiler from taking it for granted that the copy is unchanged.
 pub fn with_copy<T>(input: &[u8], call: impl FnOnce(&[u8]) -> T) -> T {

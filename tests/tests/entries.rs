@@ -11,7 +11,7 @@ use balduqen_tests::cases::{
     note_between, once_refused_tables, price_of, priced, Kind, KINDS, MARKS_OF_E,
 };
 use balduqen_tests::check::{first_unfiled, show, with_copy, Lent, Seen, RETIRED};
-use balduqen_tests::entries::{Entries, Writer, LIBRARY, MODEL};
+use balduqen_tests::entries::{Entries, Writer};
 use balduqen_tests::exhaustive::{
     best_of_run_sets, for_each_plan, for_each_table_and_best, page_sizes, page_weights, Score,
 };
@@ -24,6 +24,7 @@ use balduqen_tests::model::{
 };
 use balduqen_tests::price_list::{cents_of_page, cheapest_by_pages, price_of_pages, PRICE_LIST};
 use balduqen_tests::sheet_reader::read_sheets;
+use balduqen_tests::tests_of_both_sides;
 use balduqen_tools::rule_sheet::rebuild;
 use std::collections::{BTreeMap, BTreeSet};
 use std::io::Write;
@@ -1445,35 +1446,15 @@ fn declarations_of_the_header() {
     compile(&again);
 }
 
-macro_rules! tests_of_entries {
-    ($name:ident, $entries:expr, $($test:ident)*) => {
-        mod $name {
-            use super::*;
-
-            $(
-                #[test]
-                fn $test() {
-                    super::$test(&$entries);
-                }
-            )*
-        }
-    };
-    ($name:ident, $entries:expr) => {
-        tests_of_entries!(
-            $name, $entries,
-            as_many_nodes_as_may_be one_node_too_many seven_in_all_small_trees
-            seven_in_random_small_trees fourteen_in_all_small_trees fourteen_before_the_walk
-            fourteen_in_its_order kept_film_is_read kept_film_is_not_taken_again
-            kept_film_in_the_order_of_the_reader label_0_of_the_last_of_many five_is_never_given
-            film_with_a_note notes_at_every_place_of_a_run pages_of_weight_0 notes_on_full_pages
-            notes_only kept_film_is_written_again long_trees_in_all_lengths
-            long_film_in_all_lengths fifteen_in_its_order longest_scratch heaviest_pages
-            conversions_in_all_lengths film_by_hand plans_on_film best_plans_on_film
-            prices_by_hand cents_of_every_fill totals_of_many_pages every_page_counts
-            totals_of_one_page savings_of_many_pages best_is_not_cheapest
-        );
-    };
-}
-
-tests_of_entries!(of_model, MODEL);
-tests_of_entries!(of_library, LIBRARY);
+tests_of_both_sides!(
+    as_many_nodes_as_may_be one_node_too_many seven_in_all_small_trees
+    seven_in_random_small_trees fourteen_in_all_small_trees fourteen_before_the_walk
+    fourteen_in_its_order kept_film_is_read kept_film_is_not_taken_again
+    kept_film_in_the_order_of_the_reader label_0_of_the_last_of_many five_is_never_given
+    film_with_a_note notes_at_every_place_of_a_run pages_of_weight_0 notes_on_full_pages
+    notes_only kept_film_is_written_again long_trees_in_all_lengths
+    long_film_in_all_lengths fifteen_in_its_order longest_scratch heaviest_pages
+    conversions_in_all_lengths film_by_hand plans_on_film best_plans_on_film
+    prices_by_hand cents_of_every_fill totals_of_many_pages every_page_counts
+    totals_of_one_page savings_of_many_pages best_is_not_cheapest
+);
