@@ -1,17 +1,17 @@
 -- The page and node records of an archive as the writer puts them, from the arrays of a layout; and that head and
 -- records so put are the archive.
--- Defines putEdition, putHead, putFifth, pageRow, nodeRow. Proves head-put, page-put, all-put, next-of-page, page-fits.
--- Assumes nothing.
-use Prim.Native.Nat.{ℕ, _+_, _-_, _*_, _≤_, _<_}
+-- Defines putEdition, putHead, putFifth, pageRow, nodeRow. Proves head-put, next-page-formula, page-put, all-put,
+-- next-of-page, page-fits. Assumes nothing.
+use Prim.Native.Nat.{ℕ, _+_, _-_, _*_, _%_, _≤_, _<_}
 use native.Mathlib.Omega.{arith}
-use native.Mathlib.Nat.{mul-le-mul-left}
-use mathlib.Core.Bool.{true, false}
+use native.Mathlib.Nat.{mul-le-mul-left, mod-self, mod-eq-of-lt}
+use mathlib.Core.Bool.{Bool, true, false}
 use mathlib.Core.Path.{_≡_, refl, sym, _∙_, ap, ap₂}
 use mathlib.Core.Logic.{_⊎_, inl, inr}
 use mathlib.Core.List.{List, [], _∷_, _++_, append-assoc}
 use lib.ListN.{length, getD, take, drop, length-append}
 use lib.Dec.{eqb, ltb}
-use borrow.Author.Tests.{eqb-true, eqb-false}
+use borrow.Author.Tests.{eqb-true, eqb-false, ltb-true, ltb-false}
 use Rattle.model.specs.Basics.{pick, listTo}
 use Rattle.model.specs.Table.{nodeCount, limitOf, weightAt, labelAt}
 use Rattle.model.specs.Plan.{parentAt, pageOf, pageCount, pageWeight, pageNodes}
@@ -20,7 +20,7 @@ use Rattle.model.specs.Archive.{editionWord, headWords, nextPage, pageRecord, n
 use Rattle.model.specs.Archive.{archiveBytes}
 use Rattle.model.specs.declared.Edition.{Edition}
 use Rattle.theory.specs.Bools.{bool-cases}
-use Rattle.theory.specs.Ranges.{listTo-cong}
+use Rattle.theory.specs.Ranges.{Upto, listTo-cong}
 use Rattle.theory.specs.PlanPass.{pageOf-le}
 use Rattle.theory.specs.Slots.{Row}
 use Rattle.theory.specs.Put.{putWord, putRecord, length-putWord, length-putRecord, Starts, starts-none, starts-word}
@@ -75,6 +75,16 @@ head-put {e} r t m o o′ n k p at n-is k-is p-is room = go (bool-cases (eqb (e 
         (omega (arith, length-putWord o 0 editionWord)))
 
 -- ---- Page records
+
+-- document 02, Eight: for each page that there is the formula gives the next page; past the last it begins again with 1
+pub next-page-formula : (pages : ℕ) → Upto pages (λ p. (p + 1) % (pages + 1) ≡ nextPage p pages)
+unfolding nextPage pick
+next-page-formula pages p low high = go (ltb p pages) refl
+  where
+    go : (b : Bool) → ltb p pages ≡ b → (p + 1) % (pages + 1) ≡ pick b (p + 1) 0
+    go true less = mod-eq-of-lt (omega (arith, ltb-true p pages less))
+    go false not-less =
+        let last : p ≡ pages = omega (arith, ltb-false p pages not-less) in rw last (mod-self (pages + 1))
 
 -- the fifth word, where the edition has one
 unfoldable pub putFifth : Edition → List ℕ → ℕ → ℕ → List ℕ

@@ -41,12 +41,13 @@ pub fn put_head(e: Edition, nodes: u16, limit: u16, pages: u16, out: &mut [u8])
     put_word(out, head - 1, pages);
 }
 
-// The page after page p, or 0 after the last.
+// The step of the chain: the page after page p, or 0 after the last. It asks for a page that there is, since past the
+// last the formula would begin again with 1.
 fn page_after(p: u16, pages: u16) -> u16
-    requires { ⌜ pages < slots ⌝ }
+    requires { ⌜ (1 ≤ p) × (p ≤ pages) × (pages < slots) ⌝ }
     ensures { λ r. ⌜ r ≡ nextPage p pages ⌝ }
 {
-    if p < pages { p + 1 } else { 0 }
+    (p + 1) % (pages + 1)
 }
 
 // The fifth word of the page record at a word, where the edition has one.

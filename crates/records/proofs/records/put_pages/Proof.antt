@@ -41,9 +41,6 @@ cast-weight-2 c =
     let small =
     start .pre .2 (c .before .before .before .before .loop .p + 1) (omega arith) (omega arith) in search needs
 
-page-after-requires : tie.Need-page-after-requires Inv-loop μ-loop
-page-after-requires c κs = c .before .before .before .before .before .before .before .pre .1
-
 put-record-requires : tie.Need-put-record-requires Inv-loop μ-loop
 put-record-requires c κs =
     let l = c .before .before .before .before .before .before in omega (arith, few l, l .loop .inv .2)
@@ -97,6 +94,6 @@ put-pages-spec =
     tie.close
     (tie.spec Inv-loop μ-loop (λ c. search needs) loop-holds (λ c. search needs) (λ c. search needs)
     (λ c. search needs) (λ c. search needs) (λ c. search needs) (λ c. search needs) (λ c. search needs)
-    (λ c. search needs) (λ c. search needs) (λ c. search needs) cast-weight-2 page-after-requires put-record-requires
+    (λ c. search needs) (λ c. search needs) (λ c. search needs) cast-weight-2 (λ c κs. search needs) put-record-requires
     (λ c. search needs) (λ c. search needs) (λ c. search needs) put-fifth-requires (λ c. search needs) add-at
     (λ c. search needs) loop-again same-length returns)
