@@ -67,7 +67,7 @@ trap 'rm -f "$log" "$log.last"' EXIT
 rt ci 2>&1 | tee "$log"
 status=$?
 tail -n 1 "$log" > "$log.last"
-add proofs "$status" "$(sum "$log.last" '^([0-9]+) passed, [0-9]+ failed$')" "$(sum "$log.last" '^[0-9]+ passed, ([0-9]+) failed$')" 157
+add proofs "$status" "$(sum "$log.last" '^([0-9]+) passed, [0-9]+ failed$')" "$(sum "$log.last" '^[0-9]+ passed, ([0-9]+) failed$')" 162
 
 # Each must-fail edit is refused for a fact that no longer holds.
 tools/must-fail-logs.sh target/must-fail > "$log"

@@ -74,7 +74,7 @@ extern "C" {
 #endif
 
 /* The version of CHANGELOG.md. Each request that lands adds one to its middle number. */
-#define BALDUQEN_VERSION "0.7.1"
+#define BALDUQEN_VERSION "0.8.0"
 
 /* The most nodes of a table, and the highest page limit. */
 #define BALDUQEN_MAX_NODES 2048

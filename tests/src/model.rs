@@ -1,4 +1,4 @@
-//! A model of document 01 with requests One to Seven of document 02: every entry with its answers
+//! A model of document 01 with requests One to Eight of document 02: every entry with its answers
 //! and the buffers it leaves behind.
 //!
 //! It follows the documents' words closely and is not meant to be fast. The entries have the same
