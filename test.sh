@@ -98,8 +98,8 @@ add_one bench "$?"
 
 in_rust rust tests/any_value.rs=4 tests/header.rs=4 tests/names.rs=3 tests/readme.rs=1 tests/results.rs=6 \
   tests/version.rs=2
-in_rust tests tests/entries.rs=73 tests/guarded.rs=32 tests/library.rs=234 tests/model.rs=77 tests/next_page.rs=8 tests/program.rs=18 tests/rule_sheet.rs=91 \
-  tests/sheet_reader.rs=9 tests/stack.rs=2 tests/threads.rs=1
+in_rust tests tests/entries.rs=73 tests/guarded.rs=32 tests/library.rs=234 tests/model.rs=77 tests/next_page.rs=8 \
+  tests/program.rs=18 tests/rule_sheet.rs=91 tests/sheet_reader.rs=9 tests/stack.rs=2 tests/threads.rs=1
 in_rust tools src/lib.rs=78 tests/damaged.rs=4 tests/must_fail_logs.rs=3 tests/script.rs=5 tests/sessions.rs=17
 
 echo "$passed passed, $failed failed"
