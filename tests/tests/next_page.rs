@@ -58,8 +58,8 @@ fn every_page_of_every_number(entries: &Entries) {
     }
 }
 
-/// Kept film of both editions is what is written of its tree and plan. Film with labels 0 is read,
-/// and so is what the reader writes of it.
+/// Kept film of both editions is what is written of its tree and plan. Film with labels 0 is not
+/// written by an entry; that it is read shows that the reader wrote the same bytes.
 fn kept_film(entries: &Entries) {
     for film in kept_filed() {
         let written = write(entries, FIRST, &film.table, &film.marks);
