@@ -11,7 +11,7 @@ use borrow.Author.Tests.{eqb-true, eqb-false}
 use Rattle.model.specs.Basics.{same_list}
 use Rattle.theory.specs.Bools.{never_true}
 use Rattle.theory.specs.Lists.{get_d_set}
-use Rattle.theory.specs.ArchiveBack.{sameList-self, sameList-true}
+use Rattle.theory.specs.ArchiveBack.{same_list_self, same_list_true}
 
 -- the bytes before i agree
 abbrev pub SameUpto : List ℕ → List ℕ → ℕ → Type 0
@@ -28,23 +28,23 @@ same_turn a b i h e k less = go (eqb k i) refl
         let same : k ≡ i = eqb-true k i q in ap (λ j. get_or a j 0) same ∙ e ∙ ap (λ j. get_or b j 0) (sym same)
     go false q = let other : k ≡ i → ⊥ = eqb-false k i q in h k (omega arith)
 
-pub same-all : (a b : List ℕ) (i : ℕ) → SameUpto a b i → length a ≡ length b → length a ≤ i → a ≡ b
-same-all a b i h long all = ext_get_or 0 a b long (λ k less. h k (omega arith))
+pub same_all : (a b : List ℕ) (i : ℕ) → SameUpto a b i → length a ≡ length b → length a ≤ i → a ≡ b
+same_all a b i h long all = ext_get_or 0 a b long (λ k less. h k (omega arith))
 
-pub bytes-yes : (a b : List ℕ) (i : ℕ) → SameUpto a b i → length a ≡ length b → length a ≤ i → true ≡ same_list a b
-bytes-yes a b i h long all = sym (ap (same_list a) (sym (same-all a b i h long all)) ∙ sameList-self a)
+pub bytes_yes : (a b : List ℕ) (i : ℕ) → SameUpto a b i → length a ≡ length b → length a ≤ i → true ≡ same_list a b
+bytes_yes a b i h long all = sym (ap (same_list a) (sym (same_all a b i h long all)) ∙ same_list_self a)
 
-bytes-no : (a b : List ℕ) → (a ≡ b → ⊥) → false ≡ same_list a b
-bytes-no a b other = sym (never_true (same_list a b) (λ e. other (sameList-true a b e)))
+bytes_no : (a b : List ℕ) → (a ≡ b → ⊥) → false ≡ same_list a b
+bytes_no a b other = sym (never_true (same_list a b) (λ e. other (same_list_true a b e)))
 
-pub bytes-long : (a b : List ℕ) → (length a ≡ length b → ⊥) → false ≡ same_list a b
-bytes-long a b other = bytes-no a b (λ e. other (ap length e))
+pub bytes_long : (a b : List ℕ) → (length a ≡ length b → ⊥) → false ≡ same_list a b
+bytes_long a b other = bytes_no a b (λ e. other (ap length e))
 
-pub bytes-differ : (a b : List ℕ) (i : ℕ) → (get_or a i 0 ≡ get_or b i 0 → ⊥) → false ≡ same_list a b
-bytes-differ a b i other = bytes-no a b (λ e. other (ap (λ l. get_or l i 0) e))
+pub bytes_differ : (a b : List ℕ) (i : ℕ) → (get_or a i 0 ≡ get_or b i 0 → ⊥) → false ≡ same_list a b
+bytes_differ a b i other = bytes_no a b (λ e. other (ap (λ l. get_or l i 0) e))
 
-pub copy-turn : (from to : List ℕ) (i : ℕ) → SameUpto to from i → i < length to
+pub copy_turn : (from to : List ℕ) (i : ℕ) → SameUpto to from i → i < length to
     → SameUpto (set to i (get_or from i 0)) from (i + 1)
-copy-turn from to i h fits k less =
+copy_turn from to i h fits k less =
     get_d_set to i (get_or from i 0) k (get_or from k 0) (λ same. (fits, ap (λ j. get_or from j 0) (sym same)))
     (λ other. h k (omega arith))

@@ -2,8 +2,8 @@
 // decoded of it, and the film is one where that gives the very same bytes.
 ghost use Rattle.std.specs.Prelude.{◌≡◌, ◌≤◌, length};
 ghost use Rattle.model.specs.Basics.{same_list};
-ghost use Rattle.model.specs.Archive.{nodesIn};
-ghost use Rattle.records.specs.Size.{InRoom, longestArchive};
+ghost use Rattle.model.specs.Archive.{nodes_in};
+ghost use Rattle.records.specs.Size.{InRoom, longest_archive};
 ghost use Rattle.archive.specs.Room.{Room};
 ghost use Rattle.film.specs.Decoded.{Decoded};
 ghost use Rattle.archive.specs.Answers.{CopyJudged, Told};
@@ -33,7 +33,7 @@ fn same_bytes(a: &[u8], b: &[u8]) -> bool
 // The answer of the writer that film is held against, where it writes this archive of the tree and the plan, and else
 // 13.
 fn judge_copy(e: Edition, archive: &[u8], tree: &[u8], plan: &[u8], copy: &mut [u8]) -> Answer
-    requires { InRoom e × (nodesIn e archive.now ≤ e.most) × (longestArchive e ≤ length copy.old) }
+    requires { InRoom e × (nodes_in e archive.now ≤ e.most) × (longest_archive e ≤ length copy.old) }
     ensures { CopyJudged e archive.now tree.now plan.now result }
 {
     let size = archive.len();

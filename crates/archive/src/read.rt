@@ -1,7 +1,7 @@
 // The archive's reader: what the film tells, copied out.
 ghost use Rattle.std.specs.Prelude.{◌≡◌, length};
-ghost use Rattle.model.specs.Archive.{firstEdition, secondEdition};
-ghost use Rattle.model.specs.Refusals.{readLeft, readArchive};
+ghost use Rattle.model.specs.Archive.{first_edition, second_edition};
+ghost use Rattle.model.specs.Refusals.{read_left, read_archive};
 ghost use Rattle.model.specs.Demand.{ReadPromise};
 ghost use Rattle.archive.specs.Room.{Room};
 
@@ -39,8 +39,8 @@ fn read_edition(
     marks: &mut [u8],
 ) -> Answer
     requires { Room e (length tree.old) (length plan.old) (length copy.old) }
-    ensures { readLeft result table.new marks.new
-        ≡ readArchive e archive.now table.old marks.old }
+    ensures { read_left result table.new marks.new
+        ≡ read_archive e archive.now table.old marks.old }
 {
     decode(e, archive, tree, plan);
     let answer = judge_film(e, archive, tree, plan, copy);
@@ -65,9 +65,9 @@ fn read_edition(
 // Entry: the archive reader. What was written reads back, and what is read is what writing gives, but that film may
 // have labels 0, which are not written again.
 pub fn read_archive(archive: &[u8], table: &mut [u8], marks: &mut [u8]) -> Answer
-    ensures marks_after { readLeft result table.new marks.new
-        ≡ readArchive firstEdition archive.now table.old marks.old }
-    ensures read_promise { ReadPromise firstEdition secondEdition archive.now table.old
+    ensures marks_after { read_left result table.new marks.new
+        ≡ read_archive first_edition archive.now table.old marks.old }
+    ensures read_promise { ReadPromise first_edition second_edition archive.now table.old
         marks.old result table.new marks.new }
 {
     let mut tree = [0u8; FIRST_TABLE];
@@ -86,9 +86,9 @@ pub fn read_archive(archive: &[u8], table: &mut [u8], marks: &mut [u8]) -> Answe
 
 // Entry: the reader of edition 2, which has no label 0.
 pub fn read_archive2(archive: &[u8], table: &mut [u8], marks: &mut [u8]) -> Answer
-    ensures marks_after { readLeft result table.new marks.new
-        ≡ readArchive secondEdition archive.now table.old marks.old }
-    ensures read_promise { ReadPromise secondEdition firstEdition archive.now table.old
+    ensures marks_after { read_left result table.new marks.new
+        ≡ read_archive second_edition archive.now table.old marks.old }
+    ensures read_promise { ReadPromise second_edition first_edition archive.now table.old
         marks.old result table.new marks.new }
 {
     let mut tree = [0u8; SECOND_TABLE];

@@ -1,5 +1,5 @@
--- A run's marks, from its last member back, one a turn. Defines Marking, Levelled. Proves count_less, sum-ready,
--- counts-small, level-small, marking-start, marking-high, marking-low, marking-takes, marking-turn and marking-end.
+-- A run's marks, from its last member back, one a turn. Defines Marking, Levelled. Proves count_less, sum_ready,
+-- counts_small, level_small, marking_start, marking_high, marking_low, marking_takes, marking_turn and marking_end.
 -- Assumes nothing.
 use Prim.Native.Nat.{ℕ, suc, ◌+◌, ◌-◌, ◌≤◌, ◌<◌}
 use mathlib.Core.Path.{◌≡◌, refl, sym, ◌∙◌, ap, ap₂}
@@ -11,23 +11,23 @@ use lib.ListN.{length, get_or, set, length-set}
 use lib.Dec.{eqb, ltb}
 use borrow.Author.Tests.{eqb-true, eqb-false, eq-eqb, ne_eqb, ltb-true}
 use Rattle.model.specs.Basics.{pick}
-use Rattle.model.specs.Table.{maxNodes, maxLimit, slots}
+use Rattle.model.specs.Table.{max_nodes, max_limit, slots}
 use Rattle.model.specs.Plan.{begins}
-use Rattle.model.specs.Steps.{Child, Choice, runChoices}
-use Rattle.theory.specs.ReduceCount.{countGain}
-use Rattle.best.specs.CellsLevel.{levelFrom, levelFrom-bound, takeDownTo}
-use Rattle.columns.specs.Cells.{lastChildren}
-use Rattle.columns.specs.CellsArrays.{childrenIn, childIn, children-cons, children-length}
-use Rattle.columns.specs.CellsRun.{asMembers, RunSums, countsOf, sums-count, nthPrev, nthPrev-le}
-use Rattle.best.specs.LayChoices.{takes, lastMark, choicesByLevel, choicesByLevel-run, run-level, count-back}
+use Rattle.model.specs.Steps.{Child, Choice, run_choices}
+use Rattle.theory.specs.ReduceCount.{count_gain}
+use Rattle.best.specs.CellsLevel.{level_from, level_from_bound, take_down_to}
+use Rattle.columns.specs.Cells.{last_children}
+use Rattle.columns.specs.CellsArrays.{children_in, child_in, children_cons, children_length}
+use Rattle.columns.specs.CellsRun.{as_members, RunSums, counts_of, sums_count, nth_prev, nth_prev_le}
+use Rattle.best.specs.LayChoices.{takes, last_mark, choices_by_level, choices_by_level-run, run_level, count_back}
 use Rattle.best.specs.LayChosen.{LaidRun}
-use Rattle.best.specs.LayContracts.{runChoicesBack, SecondsGain, SumReady, RunReady, RunDone}
-use Rattle.best.proofs.LayRuns.{children-low, children-nodes, laid_none, laid_one, laid_then, seconds-gain-set}
+use Rattle.best.specs.LayContracts.{run_choices_back, SecondsGain, SumReady, RunReady, RunDone}
+use Rattle.best.proofs.LayRuns.{children_low, children_nodes, laid_none, laid_one, laid_then, seconds_gain_set}
 
 -- ---- A member that is taken has a gain
 
-takes-gain : (g t n gain : ℕ) → (g ≡ 0 → t ≡ 0) → takes g t n gain ≡ true → 1 ≤ gain
-takes-gain g t n gain h = go (ltb g gain) (eqb gain g) (ltb n t) refl refl refl
+takes_gain : (g t n gain : ℕ) → (g ≡ 0 → t ≡ 0) → takes g t n gain ≡ true → 1 ≤ gain
+takes_gain g t n gain h = go (ltb g gain) (eqb gain g) (ltb n t) refl refl refl
   where
     go : (a b d : Bool) → ltb g gain ≡ a → eqb gain g ≡ b → ltb n t ≡ d → (a || (b && d)) ≡ true → 1 ≤ gain
     go true b d p q r e = let l : g < gain = ltb-true g gain p in omega arith
@@ -40,22 +40,22 @@ takes-gain g t n gain h = go (ltb g gain) (eqb gain g) (ltb n t) refl refl refl
     go false false d p q r e = absurd (false≢true e)
 
 -- as it is kept
-abbrev asSecond : Bool → ℕ
-asSecond b = pick b 1 0
+abbrev as_second : Bool → ℕ
+as_second b = pick b 1 0
 
-second_is : (b : Bool) → eqb (asSecond b) 1 ≡ b
+second_is : (b : Bool) → eqb (as_second b) 1 ≡ b
 unfolding pick
 second_is true = refl
 second_is false = refl
 
-second-taken : (b : Bool) → asSecond b ≡ 1 → b ≡ true
+second_taken : (b : Bool) → as_second b ≡ 1 → b ≡ true
 unfolding pick
-second-taken true e = refl
-second-taken false e = absurd (omega arith)
+second_taken true e = refl
+second_taken false e = absurd (omega arith)
 
-choice-is : (mark second m : ℕ) (b : Bool) → mark ≡ m → second ≡ pick b 1 0
+choice_is : (mark second m : ℕ) (b : Bool) → mark ≡ m → second ≡ pick b 1 0
     → ◌≡◌ {A = Choice} (record { mark = mark; second = eqb second 1 }) (record { mark = m; second = b })
-choice-is mark second m b p q = ap₂ (λ x y. record { mark = x; second = y }) p (ap (λ x. eqb x 1) q ∙ second_is b)
+choice_is mark second m b p q = ap₂ (λ x y. record { mark = x; second = y }) p (ap (λ x. eqb x 1) q ∙ second_is b)
 
 -- one less where the member is at the level
 pub count_less : (gain g before before' : ℕ)
@@ -66,14 +66,14 @@ count_less gain g before before' (inl w) = rw (eq-eqb gain g w.0) w.1
 count_less gain g before before' (inr w) = rw (ne_eqb gain g w.0) (omega (arith, w.1))
 
 -- what the sums of a run ask for
-pub sum-ready : {K c n : ℕ} {rests gains prevs marks seconds : List ℕ}
+pub sum_ready : {K c n : ℕ} {rests gains prevs marks seconds : List ℕ}
     → RunReady K c n rests gains prevs marks seconds → SumReady c n rests gains prevs
-sum-ready r =
+sum_ready r =
     record {
       high = omega (arith, r.high, r.short);
       earlier = r.earlier;
       none = r.none;
-      good = λ u. record { light = omega (arith, (r.good u).light, r.limit-high); fits = (r.good u).fits };
+      good = λ u. record { light = omega (arith, (r.good u).light, r.limit_high); fits = (r.good u).fits };
       within = r.within;
     }
 
@@ -85,14 +85,14 @@ pub record Marking (rests gains prevs : List ℕ) (c n g t : ℕ) (marks seconds
   pub done : ℕ
   pub choices : List Choice
   pub sum : done + left ≡ n
-  pub at : next ≡ nthPrev prevs done c
-  pub within : left ≤ length (childrenIn rests gains prevs next)
-  pub count : before ≡ countGain g (asMembers (lastChildren left [] (childrenIn rests gains prevs next)))
+  pub at : next ≡ nth_prev prevs done c
+  pub within : left ≤ length (children_in rests gains prevs next)
+  pub count : before ≡ count_gain g (as_members (last_children left [] (children_in rests gains prevs next)))
   pub laid : LaidRun prevs done c choices marks seconds marks' seconds'
-  pub rest : choices ++ choicesByLevel g t before left (childrenIn rests gains prevs next)
-      ≡ choicesByLevel g t (countGain g (asMembers (lastChildren n [] (childrenIn rests gains prevs c)))) n
-      (childrenIn rests gains prevs c)
-  pub seconds-gain : SecondsGain gains seconds'
+  pub rest : choices ++ choices_by_level g t before left (children_in rests gains prevs next)
+      ≡ choices_by_level g t (count_gain g (as_members (last_children n [] (children_in rests gains prevs c)))) n
+      (children_in rests gains prevs c)
+  pub seconds_gain : SecondsGain gains seconds'
   pub wide : length seconds' ≡ slots
 
 -- the gain g of the run's level, of which the earliest t are taken, from how many members have each gain
@@ -100,64 +100,64 @@ pub record Levelled (K c n : ℕ) (rests gains prevs counts : List ℕ) (g t : �
   pub total : ℕ
   pub gained : ℕ
   pub top : ℕ
-  pub kept : RunSums K (lastChildren n [] (childrenIn rests gains prevs c)) n total gained top counts
-  pub gain-is : g ≡ (levelFrom top (countsOf counts) K total).gain
-  pub times-is : t ≡ (levelFrom top (countsOf counts) K total).times
+  pub kept : RunSums K (last_children n [] (children_in rests gains prevs c)) n total gained top counts
+  pub gain_is : g ≡ (level_from top (counts_of counts) K total).gain
+  pub times_is : t ≡ (level_from top (counts_of counts) K total).times
 
 module _ {K c n : ℕ} {rests gains prevs marks seconds : List ℕ}
     (ready : RunReady K c n rests gains prevs marks seconds) where
   abbrev children : ℕ → List Child
-  children u = childrenIn rests gains prevs u
+  children u = children_in rests gains prevs u
 
   -- the run
   abbrev run : List Child
-  run = lastChildren n [] (children c)
+  run = last_children n [] (children c)
 
-  pub counts-small : {total gained top : ℕ} {counts : List ℕ} → RunSums K run n total gained top counts
-      → (h : ℕ) → get_or counts h 0 ≤ maxNodes
-  counts-small kept h =
-      let few : n ≤ maxNodes =
-      omega (arith, ready.within, children-length rests gains prevs ready.earlier c, ready.high, ready.short) in
-      omega (arith, sums-count kept h)
+  pub counts_small : {total gained top : ℕ} {counts : List ℕ} → RunSums K run n total gained top counts
+      → (h : ℕ) → get_or counts h 0 ≤ max_nodes
+  counts_small kept h =
+      let few : n ≤ max_nodes =
+      omega (arith, ready.within, children_length rests gains prevs ready.earlier c, ready.high, ready.short) in
+      omega (arith, sums_count kept h)
 
   -- the member that is next
   module _ {g t : ℕ} {marks' seconds' : List ℕ} {before left next : ℕ}
       (m : Marking rests gains prevs c n g t marks seconds marks' seconds' before left next) where
-    pub marking-high : next ≤ length marks
-    marking-high = omega (arith, m.at, nthPrev-le prevs ready.earlier ready.none m.done c, ready.high)
+    pub marking_high : next ≤ length marks
+    marking_high = omega (arith, m.at, nth_prev_le prevs ready.earlier ready.none m.done c, ready.high)
 
     module _ (some : left ≡ 0 → ⊥) where
-      pub marking-low : 1 ≤ next
-      marking-low = children-low rests gains prevs ready.earlier next (omega (arith, m.within))
+      pub marking_low : 1 ≤ next
+      marking_low = children_low rests gains prevs ready.earlier next (omega (arith, m.within))
 
-      shape : children next ≡ childIn rests gains next ∷ children (get_or prevs next 0)
-      shape = children-cons rests gains prevs ready.earlier next marking-low
+      shape : children next ≡ child_in rests gains next ∷ children (get_or prevs next 0)
+      shape = children_cons rests gains prevs ready.earlier next marking_low
 
       -- how many at the level come before it
-      counted : before ≡ countGain g (asMembers (lastChildren (left - 1) [] (children (get_or prevs next 0))))
+      counted : before ≡ count_gain g (as_members (last_children (left - 1) [] (children (get_or prevs next 0))))
           + pick (eqb (get_or gains next 0) g) 1 0
       counted =
           let e : left ≡ suc (left - 1) = omega arith in
           m.count
-          ∙ ap₂ (λ k ks. countGain g (asMembers (lastChildren k [] ks))) e shape
-          ∙ count-back g (left - 1) (childIn rests gains next) (children (get_or prevs next 0))
+          ∙ ap₂ (λ k ks. count_gain g (as_members (last_children k [] ks))) e shape
+          ∙ count_back g (left - 1) (child_in rests gains next) (children (get_or prevs next 0))
 
-      pub marking-takes : get_or gains next 0 ≡ g → 1 ≤ before
+      pub marking_takes : get_or gains next 0 ≡ g → 1 ≤ before
       unfolding pick
-      marking-takes e =
-          let one : asSecond (eqb (get_or gains next 0) g) ≡ 1 = rw (eq-eqb (get_or gains next 0) g e) refl in
+      marking_takes e =
+          let one : as_second (eqb (get_or gains next 0) g) ≡ 1 = rw (eq-eqb (get_or gains next 0) g e) refl in
           omega (arith, counted, one)
 
   module _ {g t : ℕ} {counts : List ℕ} (v : Levelled K c n rests gains prevs counts g t) where
-    pub level-small : g ≤ maxLimit
-    level-small =
-        let most = (levelFrom-bound v.top (countsOf counts) K v.total).most in
-        omega (arith, v.gain-is, most, v.kept.top-high, ready.limit-high)
+    pub level_small : g ≤ max_limit
+    level_small =
+        let most = (level_from_bound v.top (counts_of counts) K v.total).most in
+        omega (arith, v.gain_is, most, v.kept.top_high, ready.limit_high)
 
-    pub marking-start : Marking rests gains prevs c n g t marks seconds marks seconds (get_or counts g 0) n c
-    unfolding nthPrev
-    marking-start =
-        let same : get_or counts g 0 ≡ countGain g (asMembers run) = sym (v.kept.counts-are g) in
+    pub marking_start : Marking rests gains prevs c n g t marks seconds marks seconds (get_or counts g 0) n c
+    unfolding nth_prev
+    marking_start =
+        let same : get_or counts g 0 ≡ count_gain g (as_members run) = sym (v.kept.counts_are g) in
         record {
           done = 0;
           choices = [];
@@ -166,75 +166,75 @@ module _ {K c n : ℕ} {rests gains prevs marks seconds : List ℕ}
           within = ready.within;
           count = same;
           laid = laid_none prevs c marks seconds;
-          rest = ap (λ k. choicesByLevel g t k n (children c)) same;
-          seconds-gain = ready.seconds-gain;
+          rest = ap (λ k. choices_by_level g t k n (children c)) same;
+          seconds_gain = ready.seconds_gain;
           wide = ready.wide;
         }
 
     module _ {marks' seconds' : List ℕ} {before left next : ℕ}
         (m : Marking rests gains prevs c n g t marks seconds marks' seconds' before left next) where
-      pub marking-turn : (left ≡ 0 → ⊥) → (before' mark second : ℕ)
-          → before' ≡ before - pick (eqb (get_or gains next 0) g) 1 0 → mark ≡ lastMark (left - 1)
+      pub marking_turn : (left ≡ 0 → ⊥) → (before' mark second : ℕ)
+          → before' ≡ before - pick (eqb (get_or gains next 0) g) 1 0 → mark ≡ last_mark (left - 1)
           → second ≡ pick (takes g t before' (get_or gains next 0)) 1 0
           → Marking rests gains prevs c n g t marks seconds (set marks' (next - 1) mark)
           (set seconds' next second) before' (left - 1) (get_or prevs next 0)
-      unfolding nthPrev choicesByLevel
-      marking-turn some before' mark second b a s =
+      unfolding nth_prev choices_by_level
+      marking_turn some before' mark second b a s =
           let gain : ℕ = get_or gains next 0 in
-          let low = marking-low m some in
-          let high = marking-high m in
-          let ch : Choice = record { mark = lastMark (left - 1); second = takes g t before' gain } in
-          let laid-ch : Choice = record { mark = mark; second = eqb second 1 } in
+          let low = marking_low m some in
+          let high = marking_high m in
+          let ch : Choice = record { mark = last_mark (left - 1); second = takes g t before' gain } in
+          let laid_ch : Choice = record { mark = mark; second = eqb second 1 } in
           let short : next < length seconds' = omega (arith, m.wide, high, ready.short) in
-          let same : laid-ch ≡ ch = choice-is mark second (lastMark (left - 1)) (takes g t before' gain) a s in
-          let alone : LaidRun prevs 1 next (laid-ch ∷ []) marks' seconds' (set marks' (next - 1) mark)
+          let same : laid_ch ≡ ch = choice_is mark second (last_mark (left - 1)) (takes g t before' gain) a s in
+          let alone : LaidRun prevs 1 next (laid_ch ∷ []) marks' seconds' (set marks' (next - 1) mark)
           (set seconds' next second) =
           laid_one prevs next marks' seconds' mark second low (omega (arith, m.laid.long, high)) short in
           let one : LaidRun prevs 1 next (ch ∷ []) marks' seconds' (set marks' (next - 1) mark)
           (set seconds' next second) = rw same at alone in
           let more : m.done + 1 ≡ suc m.done = omega arith in
           let less : left ≡ suc (left - 1) = omega arith in
-          let step : ch ∷ choicesByLevel g t before' (left - 1) (children (get_or prevs next 0))
-          ≡ choicesByLevel g t before left (children next) =
+          let step : ch ∷ choices_by_level g t before' (left - 1) (children (get_or prevs next 0))
+          ≡ choices_by_level g t before left (children next) =
           sym
-          (ap₂ (choicesByLevel g t before) less (shape m some)
-          ∙ ap (λ k. record { mark = lastMark (left - 1); second = takes g t k gain }
-          ∷ choicesByLevel g t k (left - 1) (children (get_or prevs next 0))) (sym b)) in
+          (ap₂ (choices_by_level g t before) less (shape m some)
+          ∙ ap (λ k. record { mark = last_mark (left - 1); second = takes g t k gain }
+          ∷ choices_by_level g t k (left - 1) (children (get_or prevs next 0))) (sym b)) in
           let none : g ≡ 0 → t ≡ 0 =
-          λ z. v.times-is ∙ (levelFrom-bound v.top (countsOf counts) K v.total).none (sym v.gain-is ∙ z) in
+          λ z. v.times_is ∙ (level_from_bound v.top (counts_of counts) K v.total).none (sym v.gain_is ∙ z) in
           record {
             done = m.done + 1;
             choices = m.choices ++ (ch ∷ []);
             sum = omega (arith, m.sum);
-            at = ap (λ u. get_or prevs u 0) m.at ∙ sym (ap (λ k. nthPrev prevs k c) more);
+            at = ap (λ u. get_or prevs u 0) m.at ∙ sym (ap (λ k. nth_prev prevs k c) more);
             within = omega (arith, m.within, ap length (shape m some));
             count = omega (arith, counted m some);
             laid = laid_then ready.earlier
-                (λ j l. children-nodes rests gains prevs ready.earlier j c (omega (arith, m.sum, ready.within)))
+                (λ j l. children_nodes rests gains prevs ready.earlier j c (omega (arith, m.sum, ready.within)))
                 m.at m.laid one;
             rest = append_assoc m.choices (ch ∷ [])
-                (choicesByLevel g t before' (left - 1) (children (get_or prevs next 0)))
+                (choices_by_level g t before' (left - 1) (children (get_or prevs next 0)))
                 ∙ ap (λ l. m.choices ++ l) step
                 ∙ m.rest;
-            seconds-gain = seconds-gain-set gains seconds' next second short m.seconds-gain
-                (λ e. takes-gain g t before' gain none (second-taken (takes g t before' gain) (sym s ∙ e)));
+            seconds_gain = seconds_gain_set gains seconds' next second short m.seconds_gain
+                (λ e. takes_gain g t before' gain none (second_taken (takes g t before' gain) (sym s ∙ e)));
             wide = simp length-set m.wide;
           }
 
-      pub marking-end : left ≡ 0 → RunDone K c n rests gains prevs marks seconds marks' seconds' next
-      unfolding choicesByLevel
-      marking-end z =
+      pub marking_end : left ≡ 0 → RunDone K c n rests gains prevs marks seconds marks' seconds' next
+      unfolding choices_by_level
+      marking_end z =
           let all : m.done ≡ n = omega (arith, m.sum) in
-          let whole : m.choices ≡ runChoicesBack K n (children c) =
+          let whole : m.choices ≡ run_choices_back K n (children c) =
           sym (append-nil m.choices)
-          ∙ ap (λ k. m.choices ++ choicesByLevel g t before k (children next)) (sym z)
+          ∙ ap (λ k. m.choices ++ choices_by_level g t before k (children next)) (sym z)
           ∙ m.rest
-          ∙ choicesByLevel-run g t n (children c) ready.within
-          ∙ ap₂ (λ x y. reverse (runChoices begins (takeDownTo x y (asMembers run)))) v.gain-is v.times-is
-          ∙ ap (λ ms. reverse (runChoices begins ms)) (sym (run-level v.kept)) in
+          ∙ choices_by_level-run g t n (children c) ready.within
+          ∙ ap₂ (λ x y. reverse (run_choices begins (take_down_to x y (as_members run)))) v.gain_is v.times_is
+          ∙ ap (λ ms. reverse (run_choices begins ms)) (sym (run_level v.kept)) in
           record {
             laid = rw (all, whole) at m.laid;
             wide = m.wide;
-            seconds-gain = m.seconds-gain;
+            seconds_gain = m.seconds_gain;
             next = rw all at m.at;
           }

@@ -1,15 +1,15 @@
 // Marks are laid from the root down: a child follows its second plan where a chosen run took it, else its best plan.
 ghost use Rattle.std.specs.Prelude.{◌≡◌, Bool, [], ℕ, ◌≤◌, eqb, length, get_or, replicate};
 ghost use Rattle.model.specs.Basics.{pick};
-ghost use Rattle.model.specs.Table.{maxNodes, maxLimit, nodeCount, limitOf, weightAt, tree_of};
-ghost use Rattle.model.specs.Steps.{layMarks, rootChoice};
-ghost use Rattle.columns.specs.Cells.{lastChildren};
-ghost use Rattle.columns.specs.CellsArrays.{childrenIn, EachGood};
-ghost use Rattle.best.specs.LayChoices.{takes, lastMark};
+ghost use Rattle.model.specs.Table.{max_nodes, max_limit, node_count, limit_of, weight_at, tree_of};
+ghost use Rattle.model.specs.Steps.{lay_marks, root_choice};
+ghost use Rattle.columns.specs.Cells.{last_children};
+ghost use Rattle.columns.specs.CellsArrays.{children_in, EachGood};
+ghost use Rattle.best.specs.LayChoices.{takes, last_mark};
 ghost use Rattle.columns.specs.CellsPlan.{NodesPlanned};
-ghost use Rattle.columns.specs.CellsRun.{countsOf, RunSums};
-ghost use Rattle.best.specs.CellsLevel.{levelFrom};
-ghost use Rattle.columns.specs.CellsSums.{gainSlots};
+ghost use Rattle.columns.specs.CellsRun.{counts_of, RunSums};
+ghost use Rattle.best.specs.CellsLevel.{level_from};
+ghost use Rattle.columns.specs.CellsSums.{gain_slots};
 ghost use Rattle.best.specs.LayContracts.{SumReady, RunReady, RunDone, start_of, NodeReady, NodeDone};
 
 use columns::column::block_at;
@@ -26,9 +26,9 @@ struct GainLevel {
 
 // The level at which the sum of a run has room, from how many members have each gain.
 fn find_level(counts: &[u16; GAINS], top: u16, total: u32, limit: u32) -> GainLevel
-    requires { (top ≤ limit) × (limit ≤ maxLimit) × ((h : ℕ) → get_or counts.now h 0 ≤ maxNodes) }
-    ensures { (result.gain ≡ (levelFrom top (countsOf counts.now) limit total).gain)
-        × (result.times ≡ (levelFrom top (countsOf counts.now) limit total).times) }
+    requires { (top ≤ limit) × (limit ≤ max_limit) × ((h : ℕ) → get_or counts.now h 0 ≤ max_nodes) }
+    ensures { (result.gain ≡ (level_from top (counts_of counts.now) limit total).gain)
+        × (result.times ≡ (level_from top (counts_of counts.now) limit total).times) }
 {
     let mut gain = top;
     let mut left = counts[gain as usize];
@@ -60,10 +60,10 @@ fn sum_run(
     child: usize,
     len: u32,
 ) -> Sums
-    requires { SumReady child len rests.now gains.now prevs.now × (counts.old ≡ replicate gainSlots 0) }
+    requires { SumReady child len rests.now gains.now prevs.now × (counts.old ≡ replicate gain_slots 0) }
     ensures { (K : ℕ) → EachGood K rests.now gains.now
         → RunSums K
-        (lastChildren len [] (childrenIn rests.now gains.now prevs.now child))
+        (last_children len [] (children_in rests.now gains.now prevs.now child))
         len result.total result.gained result.top counts.new }
 {
     let mut sums = Sums {
@@ -82,7 +82,7 @@ fn sum_run(
 
 // The mark of a run's member with so many members before it.
 fn mark_of(before: u32) -> u8
-    ensures { result ≡ lastMark before }
+    ensures { result ≡ last_mark before }
 {
     if before == 0 { 1 } else { 2 }
 }
@@ -142,8 +142,8 @@ fn start_of(
     limit: usize,
     v: u16,
 ) -> usize
-    requires { (limit ≤ maxLimit) × (v ≤ maxNodes) × (get_or rests.now v 0 ≤ limit) }
-    ensures { result ≡ start_of limit (weightAt table.now v) (get_or rests.now v 0)
+    requires { (limit ≤ max_limit) × (v ≤ max_nodes) × (get_or rests.now v 0 ≤ limit) }
+    ensures { result ≡ start_of limit (weight_at table.now v) (get_or rests.now v 0)
         (eqb (get_or seconds.now v 0) 1) }
 {
     let weight = weight_at(table, v) as usize;
@@ -198,11 +198,11 @@ pub fn lay_nodes(
     marks: &mut [u8],
 )
     requires { ((g : Bool) × NodesPlanned table.now g 0 rests.now gains.now prevs.now lasts.now words.now)
-        × (length marks.old ≡ nodeCount table.now) }
+        × (length marks.old ≡ node_count table.now) }
     ensures { (g : Bool)
         → NodesPlanned table.now g 0 rests.now gains.now prevs.now
         lasts.now words.now
-        → marks.new ≡ layMarks g (limitOf table.now) (tree_of table.now) rootChoice }
+        → marks.new ≡ lay_marks g (limit_of table.now) (tree_of table.now) root_choice }
 {
     let nodes = node_count(table);
     let mut seconds = [0u8; SLOTS];

@@ -2,9 +2,9 @@
 mod lay;
 
 ghost use Rattle.std.specs.Prelude.{◌≡◌, ◌≤◌, length};
-ghost use Rattle.model.specs.Table.{nodeCount, limitOf, tree_of};
-ghost use Rattle.model.specs.Steps.{layMarks, rootChoice};
-ghost use Rattle.model.specs.Refusals.{scratchWords};
+ghost use Rattle.model.specs.Table.{node_count, limit_of, tree_of};
+ghost use Rattle.model.specs.Steps.{lay_marks, root_choice};
+ghost use Rattle.model.specs.Refusals.{scratch_words};
 ghost use Rattle.theory.specs.TableFacts.{AcceptedFacts};
 
 use columns::node::{open_block, plan_nodes};
@@ -15,10 +15,10 @@ use words::read::limit_of;
 
 // The marks of an accepted tree; with every gain 0 they are level's.
 pub fn lay_best(table: &[u8], gainful: bool, marks: &mut [u8], scratch: &mut [u32])
-    requires { AcceptedFacts table.now × (length marks.old ≡ nodeCount table.now)
-        × (scratchWords (nodeCount table.now) (limitOf table.now) ≤ length scratch.old) }
+    requires { AcceptedFacts table.now × (length marks.old ≡ node_count table.now)
+        × (scratch_words (node_count table.now) (limit_of table.now) ≤ length scratch.old) }
     ensures { marks.new
-        ≡ layMarks gainful (limitOf table.now) (tree_of table.now) rootChoice }
+        ≡ lay_marks gainful (limit_of table.now) (tree_of table.now) root_choice }
 {
     let prevs = link_before(table);
     let mut rests = [0u16; SLOTS];

@@ -1,5 +1,5 @@
--- What is read of a node from the block of its last child. Proves gain-none and gain-found (the gain by its tests),
--- block-fits and rest-fits (the reads are within bounds), gain-fits and node-planned (one node more). Assumes nothing.
+-- What is read of a node from the block of its last child. Proves gain_none and gain_found (the gain by its tests),
+-- block_fits and rest_fits (the reads are within bounds), gain_fits and node_planned (one node more). Assumes nothing.
 use Prim.Native.Nat.{ℕ, ◌+◌, ◌-◌, ◌*◌, ◌%◌, ◌≤◌}
 use mathlib.Core.Path.{◌≡◌, refl, ◌∙◌, ap}
 use mathlib.Core.Bool.{Bool, true, false, not, ◌||◌, true≢false}
@@ -9,55 +9,55 @@ use lib.ListN.{length, get_or, set}
 use lib.Dec.{ltb}
 use borrow.Author.Tests.{ltb-true, ltb-false, le-leb, lt-leb}
 use Rattle.model.specs.Basics.{pick}
-use Rattle.model.specs.Table.{slots, nodeCount, limitOf, weightAt}
-use Rattle.model.specs.Steps.{secondStart}
-use Rattle.theory.specs.SiblingsBack.{child-high}
-use Rattle.columns.specs.Cells.{pageWord, GoodChild}
-use Rattle.columns.specs.CellsRun.{blockAt, block_apart}
-use Rattle.columns.specs.CellsNode.{ColumnsFilled, figureAt, figure-good}
-use Rattle.columns.specs.CellsPlan.{NodesPlanned, gainFrom, node-figures, planned-step}
+use Rattle.model.specs.Table.{slots, node_count, limit_of, weight_at}
+use Rattle.model.specs.Steps.{second_start}
+use Rattle.theory.specs.SiblingsBack.{child_high}
+use Rattle.columns.specs.Cells.{page_word, GoodChild}
+use Rattle.columns.specs.CellsRun.{block_at, block_apart}
+use Rattle.columns.specs.CellsNode.{ColumnsFilled, figure_at, figure_good}
+use Rattle.columns.specs.CellsPlan.{NodesPlanned, gain_from, node_figures, planned_step}
 
 -- there is no second plan
-pub gain-none : (g : Bool) (K w W x : ℕ) → (not g || ltb K (w + (K - W) + 1)) ≡ true → 0 ≡ gainFrom g K w W x
-unfolding pick secondStart
-gain-none false K w W x e = refl
-gain-none true K w W x e = rw (lt-leb (w + (K - W) + 1) K (ltb-true K (w + (K - W) + 1) e))
+pub gain_none : (g : Bool) (K w W x : ℕ) → (not g || ltb K (w + (K - W) + 1)) ≡ true → 0 ≡ gain_from g K w W x
+unfolding pick second_start
+gain_none false K w W x e = refl
+gain_none true K w W x e = rw (lt-leb (w + (K - W) + 1) K (ltb-true K (w + (K - W) + 1) e))
 
 -- there is one
-pub gain-found : (g : Bool) (K w W x : ℕ) → (not g || ltb K (w + (K - W) + 1)) ≡ false
-    → W - (x - (K - W + 1)) ≡ gainFrom g K w W x
-unfolding pick secondStart
-gain-found false K w W x e = absurd (true≢false e)
-gain-found true K w W x e = rw (le-leb (w + (K - W) + 1) K (ltb-false K (w + (K - W) + 1) e))
+pub gain_found : (g : Bool) (K w W x : ℕ) → (not g || ltb K (w + (K - W) + 1)) ≡ false
+    → W - (x - (K - W + 1)) ≡ gain_from g K w W x
+unfolding pick second_start
+gain_found false K w W x e = absurd (true≢false e)
+gain_found true K w W x e = rw (le-leb (w + (K - W) + 1) K (ltb-false K (w + (K - W) + 1) e))
 
-module _ {t rests gains prevs lasts xs ys : List ℕ} {g : Bool} {v r : ℕ} (low : 1 ≤ v) (high : v ≤ nodeCount t)
+module _ {t rests gains prevs lasts xs ys : List ℕ} {g : Bool} {v r : ℕ} (low : 1 ≤ v) (high : v ≤ node_count t)
     (p : NodesPlanned t g v rests gains prevs lasts xs) (f : ColumnsFilled t rests gains prevs v r xs ys)
   where
-    pub block-fits : blockAt (limitOf t) r + 2 * (limitOf t + 1) ≤ length ys
-    block-fits =
-        let apart = block_apart (limitOf t) r (nodeCount t + 1) (omega (arith, child-high t v r f.last-child)) in
+    pub block_fits : block_at (limit_of t) r + 2 * (limit_of t + 1) ≤ length ys
+    block_fits =
+        let apart = block_apart (limit_of t) r (node_count t + 1) (omega (arith, child_high t v r f.last_child_lem)) in
         omega (arith, apart, p.ready.room, f.long)
 
-    module _ (K w here rest : ℕ) (limit : K ≡ limitOf t) (weight : w ≡ weightAt t v) (block : here ≡ blockAt K r)
-        (is : rest ≡ get_or ys (here + w) 0 % pageWord)
+    module _ (K w here rest : ℕ) (limit : K ≡ limit_of t) (weight : w ≡ weight_at t v) (block : here ≡ block_at K r)
+        (is : rest ≡ get_or ys (here + w) 0 % page_word)
       where
         abbrev Gain : ℕ → Type 0
-        Gain gain = gain ≡ gainFrom g K w rest (get_or ys (here + secondStart K w rest) 0 % pageWord)
+        Gain gain = gain ≡ gain_from g K w rest (get_or ys (here + second_start K w rest) 0 % page_word)
 
-        figure : (gain : ℕ) → Gain gain → record { rest = rest; gain = gain } ≡ figureAt t g v
+        figure : (gain : ℕ) → Gain gain → record { rest = rest; gain = gain } ≡ figure_at t g v
         figure gain e =
-            let here-is : here ≡ blockAt (limitOf t) r = block ∙ ap (λ k. blockAt k r) limit in
-            node-figures low high p f rest gain (rw (here-is, weight) at is) (rw (here-is, weight, limit) at e)
+            let here_is : here ≡ block_at (limit_of t) r = block ∙ ap (λ k. block_at k r) limit in
+            node_figures low high p f rest gain (rw (here_is, weight) at is) (rw (here_is, weight, limit) at e)
 
-        good : (gain : ℕ) → Gain gain → GoodChild (limitOf t) (record { rest = rest; gain = gain })
-        good gain e = rw (figure gain e) (figure-good t g v (p.ready.accepted.light v low high))
+        good : (gain : ℕ) → Gain gain → GoodChild (limit_of t) (record { rest = rest; gain = gain })
+        good gain e = rw (figure gain e) (figure_good t g v (p.ready.accepted.light v low high))
 
-        pub rest-fits : rest ≤ K
-        rest-fits = omega (arith, (good _ refl).light, limit)
+        pub rest_fits : rest ≤ K
+        rest_fits = omega (arith, (good _ refl).light, limit)
 
-        pub gain-fits : (gain : ℕ) → Gain gain → gain ≤ rest
-        gain-fits gain e = (good gain e).fits
+        pub gain_fits : (gain : ℕ) → Gain gain → gain ≤ rest
+        gain_fits gain e = (good gain e).fits
 
-        pub node-planned : (gain : ℕ) → Gain gain → length rests ≡ slots → length gains ≡ slots → length lasts ≡ slots
+        pub node_planned : (gain : ℕ) → Gain gain → length rests ≡ slots → length gains ≡ slots → length lasts ≡ slots
             → NodesPlanned t g (v - 1) (set rests v rest) (set gains v gain) prevs (set lasts v r) ys
-        node-planned gain e = planned-step low high p f rest gain (figure gain e)
+        node_planned gain e = planned_step low high p f rest gain (figure gain e)

@@ -2,10 +2,10 @@
 // rest, and a smaller word is a smaller count, or the same count and a smaller rest. Beside each word stands the
 // length of the run that won, 0 where the child stays.
 ghost use Rattle.std.specs.Prelude.{◌≡◌, ℕ, ◌+◌, ◌*◌, ◌≤◌, ◌<◌, length, get_or};
-ghost use Rattle.model.specs.Table.{maxNodes, maxLimit};
-ghost use Rattle.columns.specs.Cells.{cell_at, lower, stayCell};
-ghost use Rattle.columns.specs.CellsArrays.{cellIn, childrenIn, Swept};
-ghost use Rattle.columns.specs.CellsRun.{blockAt, Fillable};
+ghost use Rattle.model.specs.Table.{max_nodes, max_limit};
+ghost use Rattle.columns.specs.Cells.{cell_at, lower, stay_cell};
+ghost use Rattle.columns.specs.CellsArrays.{cell_in, children_in, Swept};
+ghost use Rattle.columns.specs.CellsRun.{block_at, Fillable};
 
 use crate::run::{GAINS, Sums, join};
 use table::SLOTS;
@@ -18,18 +18,18 @@ const NO_WORD: u32 = 4294967295;
 
 // Where the block of node v begins.
 pub fn block_at(limit: usize, v: usize) -> usize
-    requires { (limit ≤ maxLimit) × (v ≤ maxNodes) }
-    ensures { result ≡ blockAt limit v }
+    requires { (limit ≤ max_limit) × (v ≤ max_nodes) }
+    ensures { result ≡ block_at limit v }
 {
     v * (2 * (limit + 1))
 }
 
 // The child stays, where start and rest are at most the limit: `before` is the block of the children before it.
 fn stay(words: &mut [u32], here: usize, before: usize, start: usize, limit: usize, rest: usize)
-    requires { (limit ≤ maxLimit) × (rest ≤ maxLimit) × (start ≤ maxLimit) × (before + 2 * (limit + 1) ≤ here)
+    requires { (limit ≤ max_limit) × (rest ≤ max_limit) × (start ≤ max_limit) × (before + 2 * (limit + 1) ≤ here)
         × (here + 2 * (limit + 1) ≤ length words.old) }
     ensures { Swept limit start here
-        (λ s. stayCell limit s rest (get_or words.old (before + (s + rest)) 0))
+        (λ s. stay_cell limit s rest (get_or words.old (before + (s + rest)) 0))
         words.old words.new }
 {
     let mut s = start;
@@ -55,11 +55,11 @@ fn relax(
     added: u32,
     len: u32,
 )
-    requires { (limit ≤ maxLimit) × (start ≤ maxLimit) × (before + 2 * (limit + 1) ≤ here)
+    requires { (limit ≤ max_limit) × (start ≤ max_limit) × (before + 2 * (limit + 1) ≤ here)
         × (here + 2 * (limit + 1) ≤ length words.old)
         × ((s : ℕ) → start ≤ s → s ≤ limit → get_or words.old (before + s) 0 + added < 4294967296) }
     ensures { Swept limit start here
-        (λ s. lower (get_or words.old (before + s) 0 + added) len (cellIn words.old limit here s))
+        (λ s. lower (get_or words.old (before + s) 0 + added) len (cell_in words.old limit here s))
         words.old words.new }
 {
     let mut s = start;
@@ -84,8 +84,8 @@ pub fn fill_column(
     limit: usize,
 )
     requires { (start ≤ limit) × Fillable limit start child rests.now gains.now prevs.now words.old }
-    ensures { Swept limit start (blockAt limit child)
-        (λ s. cell_at limit (childrenIn rests.now gains.now prevs.now child) s)
+    ensures { Swept limit start (block_at limit child)
+        (λ s. cell_at limit (children_in rests.now gains.now prevs.now child) s)
         words.old words.new }
 {
     let here = block_at(limit, child);

@@ -1,11 +1,11 @@
 // The nodes from the last to the first: the columns of each node's children, and the figures that its parent sees.
 ghost use Rattle.std.specs.Prelude.{◌≡◌, [], ◌+◌, ◌-◌, ◌*◌, ◌%◌, ◌≤◌, length, get_or};
-ghost use Rattle.model.specs.Table.{maxLimit, slots, nodeCount};
-ghost use Rattle.model.specs.Steps.{secondStart};
-ghost use Rattle.columns.specs.Cells.{pageWord, cell_at};
+ghost use Rattle.model.specs.Table.{max_limit, slots, node_count};
+ghost use Rattle.model.specs.Steps.{second_start};
+ghost use Rattle.columns.specs.Cells.{page_word, cell_at};
 ghost use Rattle.columns.specs.CellsArrays.{Swept};
 ghost use Rattle.columns.specs.CellsNode.{ColumnsReady, ColumnsFilled};
-ghost use Rattle.columns.specs.CellsPlan.{NodesPlanned, gainFrom};
+ghost use Rattle.columns.specs.CellsPlan.{NodesPlanned, gain_from};
 
 use crate::column::{PAGE_WORD, block_at, fill_column};
 use table::SLOTS;
@@ -13,7 +13,7 @@ use words::read::{first_at, limit_of, next_at, node_count, weight_at};
 
 // The column of no child: nothing is counted, and the rest is the start.
 pub fn open_block(words: &mut [u32], limit: usize)
-    requires { (limit ≤ maxLimit) × (2 * (limit + 1) ≤ length words.old) }
+    requires { (limit ≤ max_limit) × (2 * (limit + 1) ≤ length words.old) }
     ensures { Swept limit 0 0 (λ s. cell_at limit [] s) words.old words.new }
 {
     let mut s: usize = 0;
@@ -34,7 +34,7 @@ fn fill_columns(
     v: u16,
 ) -> u16
     requires { ColumnsReady table.now rests.now gains.now prevs.now words.old
-        × (1 ≤ v) × (v ≤ nodeCount table.now) }
+        × (1 ≤ v) × (v ≤ node_count table.now) }
     ensures { ColumnsFilled table.now rests.now gains.now prevs.now
         v result words.old words.new }
 {
@@ -66,10 +66,10 @@ fn gain_in(
     weight: usize,
     rest: usize,
 ) -> usize
-    requires { (limit ≤ maxLimit) × (weight ≤ limit) × (rest ≤ limit)
+    requires { (limit ≤ max_limit) × (weight ≤ limit) × (rest ≤ limit)
         × (here + 2 * (limit + 1) ≤ length words.now) }
-    ensures { result ≡ gainFrom gainful limit weight rest
-        (get_or words.now (here + secondStart limit weight rest) 0 % pageWord) }
+    ensures { result ≡ gain_from gainful limit weight rest
+        (get_or words.now (here + second_start limit weight rest) 0 % page_word) }
 {
     let second = weight + (limit - rest) + 1;
     if !gainful | (limit < second) {
@@ -91,7 +91,7 @@ fn plan_node(
     v: u16,
 )
     requires { NodesPlanned table.now gainful v rests.old gains.old prevs.now lasts.old words.old
-        × (1 ≤ v) × (v ≤ nodeCount table.now)
+        × (1 ≤ v) × (v ≤ node_count table.now)
         × (length rests.old ≡ slots) × (length gains.old ≡ slots) × (length lasts.old ≡ slots) }
     ensures { NodesPlanned table.now gainful (v - 1) rests.new gains.new
         prevs.now lasts.new words.new

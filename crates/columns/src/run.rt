@@ -1,7 +1,7 @@
 // A run as it is stretched to the left: the sums over its members, and how many of them have each gain.
 ghost use Rattle.std.specs.Prelude.{◌≡◌, ◌+◌, ◌≤◌, ◌<◌, max, get_or, set};
-ghost use Rattle.model.specs.Table.{maxLimit};
-ghost use Rattle.columns.specs.CellsSums.{joinedSums};
+ghost use Rattle.model.specs.Table.{max_limit};
+ghost use Rattle.columns.specs.CellsSums.{joined_sums};
 
 use table::MAX_LIMIT;
 
@@ -25,9 +25,9 @@ fn larger(a: u16, b: u16) -> u16
 
 // One more member on the left.
 pub fn join(sums: Sums, counts: &mut [u16; GAINS], rest: u16, gain: u16) -> Sums
-    requires { (gain ≤ maxLimit) × (get_or counts.old gain 0 < 65535) × (sums.len < 4294967295)
+    requires { (gain ≤ max_limit) × (get_or counts.old gain 0 < 65535) × (sums.len < 4294967295)
         × (sums.total + rest < 4294967296) × (sums.gained + gain < 4294967296) }
-    ensures { (result ≡ joinedSums sums rest gain)
+    ensures { (result ≡ joined_sums sums rest gain)
         × (counts.new ≡ set counts.old gain (get_or counts.old gain 0 + 1)) }
 {
     counts[gain as usize] = counts[gain as usize] + 1;

@@ -1,7 +1,7 @@
 // From film of one edition to film of the other: the tree and the plan that the one tells, written in the other.
 ghost use Rattle.std.specs.Prelude.{◌≡◌, length};
-ghost use Rattle.model.specs.Archive.{firstEdition, secondEdition};
-ghost use Rattle.model.specs.Refusals.{outcome, convertArchive};
+ghost use Rattle.model.specs.Archive.{first_edition, second_edition};
+ghost use Rattle.model.specs.Refusals.{outcome, convert_archive};
 ghost use Rattle.model.specs.Demand.{ConvertPromise};
 ghost use Rattle.records.specs.Size.{InRoom};
 ghost use Rattle.archive.specs.Room.{Room};
@@ -29,7 +29,7 @@ fn convert_edition(
     out: &mut [u8],
 ) -> Answer
     requires { Room e (length tree.old) (length plan.old) (length copy.old) × InRoom f }
-    ensures { outcome result out.new ≡ convertArchive e f archive.now out.old }
+    ensures { outcome result out.new ≡ convert_archive e f archive.now out.old }
 {
     decode(e, archive, tree, plan);
     let answer = judge_film(e, archive, tree, plan, copy);
@@ -45,8 +45,8 @@ fn convert_edition(
 // Entry: the converter from the archive of document 01 to edition 2. 13, 14 and 12.
 pub fn convert_to_2(archive: &[u8], out: &mut [u8]) -> Answer
     ensures out_after { outcome result out.new
-        ≡ convertArchive firstEdition secondEdition archive.now out.old }
-    ensures convert_promise { ConvertPromise firstEdition secondEdition archive.now out.old
+        ≡ convert_archive first_edition second_edition archive.now out.old }
+    ensures convert_promise { ConvertPromise first_edition second_edition archive.now out.old
         result out.new }
 {
     let mut tree = [0u8; FIRST_TABLE];
@@ -66,8 +66,8 @@ pub fn convert_to_2(archive: &[u8], out: &mut [u8]) -> Answer
 // Entry: the converter back, from edition 2 to the archive of document 01. 13, 15 and 12.
 pub fn convert_to_1(archive: &[u8], out: &mut [u8]) -> Answer
     ensures out_after { outcome result out.new
-        ≡ convertArchive secondEdition firstEdition archive.now out.old }
-    ensures convert_promise { ConvertPromise secondEdition firstEdition archive.now out.old
+        ≡ convert_archive second_edition first_edition archive.now out.old }
+    ensures convert_promise { ConvertPromise second_edition first_edition archive.now out.old
         result out.new }
 {
     let mut tree = [0u8; SECOND_TABLE];

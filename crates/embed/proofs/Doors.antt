@@ -4,9 +4,9 @@ use mathlib.Core.Path.{◌≡◌, ◌∙◌, ap}
 use Rattle.model.specs.Refusals.{Outcome, outcome}
 use Rattle.model.specs.declared.Answer.{Answer}
 use Rattle.embed.specs.declared.Figures.{Figures}
-use Rattle.embed.specs.Figures.{figuresOf}
+use Rattle.embed.specs.Figures.{figures_of}
 use Rattle.embed.specs.Left.{told}
 
-pub opens : {Left : Type 0} {r : Answer} {f : Figures} {x : Left} {o : Outcome Answer Left} → f ≡ figuresOf r
-    → outcome r x ≡ o → outcome f x ≡ told figuresOf o
-opens {x = x} same is = ap (λ (g : Figures). outcome g x) same ∙ ap (told figuresOf) is
+pub opens : {Left : Type 0} {r : Answer} {f : Figures} {x : Left} {o : Outcome Answer Left} → f ≡ figures_of r
+    → outcome r x ≡ o → outcome f x ≡ told figures_of o
+opens {x = x} same is = ap (λ (g : Figures). outcome g x) same ∙ ap (told figures_of) is

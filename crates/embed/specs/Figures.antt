@@ -11,26 +11,26 @@ use Rattle.embed.specs.declared.PriceAnswer.{PriceAnswer}
 use Rattle.embed.specs.declared.SavingAnswer.{SavingAnswer}
 
 -- number and place, with the verdict's page count and root weight, or 0 and 0 where it has none
-abbrev pub figuresBy : ℕ → ℕ → Verdict → Figures
-figuresBy n p (Feasible pages root) = record { number = n; place = p; pages = pages; root = root }
-figuresBy n p (Failed c) = record { number = n; place = p; pages = 0; root = 0 }
+abbrev pub figures_by : ℕ → ℕ → Verdict → Figures
+figures_by n p (Feasible pages root) = record { number = n; place = p; pages = pages; root = root }
+figures_by n p (Failed c) = record { number = n; place = p; pages = 0; root = 0 }
 
-abbrev pub figuresWith : ℕ → ℕ → Beside → Figures
-figuresWith n p (Given v) = figuresBy n p v
-figuresWith n p Nothing = record { number = n; place = p; pages = 0; root = 0 }
+abbrev pub figures_with : ℕ → ℕ → Beside → Figures
+figures_with n p (Given v) = figures_by n p v
+figures_with n p Nothing = record { number = n; place = p; pages = 0; root = 0 }
 
-abbrev pub figuresOf : Answer → Figures
-figuresOf a = figuresWith a.number a.place a.beside
+abbrev pub figures_of : Answer → Figures
+figures_of a = figures_with a.number a.place a.beside
 
 -- the four numbers, with the amount
-abbrev pub withCents : Figures → ℕ → PriceAnswer
-withCents f c = record { number = f.number; place = f.place; pages = f.pages; root = f.root; cents = c }
+abbrev pub with_cents : Figures → ℕ → PriceAnswer
+with_cents f c = record { number = f.number; place = f.place; pages = f.pages; root = f.root; cents = c }
 
-abbrev pub withSaving : Figures → ℤ → SavingAnswer
-withSaving f z = record { number = f.number; place = f.place; pages = f.pages; root = f.root; saving = z }
+abbrev pub with_saving : Figures → ℤ → SavingAnswer
+with_saving f z = record { number = f.number; place = f.place; pages = f.pages; root = f.root; saving = z }
 
-abbrev pub priceAnswer : Outcome Answer ℕ → PriceAnswer
-priceAnswer o = withCents (figuresOf o.answer) o.left
+abbrev pub price_answer : Outcome Answer ℕ → PriceAnswer
+price_answer o = with_cents (figures_of o.answer) o.left
 
-abbrev pub savingAnswer : Outcome Answer ℤ → SavingAnswer
-savingAnswer o = withSaving (figuresOf o.answer) o.left
+abbrev pub saving_answer : Outcome Answer ℤ → SavingAnswer
+saving_answer o = with_saving (figures_of o.answer) o.left

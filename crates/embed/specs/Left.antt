@@ -9,15 +9,15 @@ use Rattle.model.specs.declared.Edition.{Edition}
 use Rattle.embed.specs.declared.Figures.{Figures}
 use Rattle.embed.specs.declared.PriceAnswer.{PriceAnswer}
 use Rattle.embed.specs.declared.SavingAnswer.{SavingAnswer}
-use Rattle.embed.specs.Figures.{figuresOf, priceAnswer, savingAnswer}
+use Rattle.embed.specs.Figures.{figures_of, price_answer, saving_answer}
 
 -- the same, with what a door tells in the place of the answer
 abbrev pub told : {Answered Told Left : Type 0} → (Answered → Told) → Outcome Answered Left → Outcome Told Left
 told by o = outcome (by o.answer) o.left
 
 -- the saving is told with the answer
-abbrev pub savingLeft : Outcome Answer SavingLeft → Outcome SavingAnswer PlanBuffers
-savingLeft o = outcome (savingAnswer (outcome o.answer o.left.saving)) o.left.best
+abbrev pub saving_left : Outcome Answer SavingLeft → Outcome SavingAnswer PlanBuffers
+saving_left o = outcome (saving_answer (outcome o.answer o.left.saving)) o.left.best
 
 -- the numbers are told of an answer of which the entry's promise holds
 pub record FiguresOf {Answered Told : Type 0} (by : Answered → Told) (Promise : Answered → Type 0) (f : Told)
@@ -27,35 +27,35 @@ pub record FiguresOf {Answered Told : Type 0} (by : Answered → Told) (Promise 
   pub promise : Promise answer
 
 abbrev pub WeightFigures : List ℕ → Figures → Type 0
-WeightFigures t f = FiguresOf figuresOf (λ r. WeightPromise t r) f
+WeightFigures t f = FiguresOf figures_of (λ r. WeightPromise t r) f
 
 abbrev pub JudgeFigures : List ℕ → List ℕ → Figures → Type 0
-JudgeFigures t m f = FiguresOf figuresOf (λ r. JudgePromise t m r) f
+JudgeFigures t m f = FiguresOf figures_of (λ r. JudgePromise t m r) f
 
 abbrev pub PlanFigures : List ℕ → List ℕ → List ℕ → Figures → List ℕ → List ℕ → Type 0
-PlanFigures t m s f marks scratch = FiguresOf figuresOf (λ r. PlanPromise t m s r marks scratch) f
+PlanFigures t m s f marks scratch = FiguresOf figures_of (λ r. PlanPromise t m s r marks scratch) f
 
 abbrev pub BestFigures : List ℕ → List ℕ → List ℕ → Figures → List ℕ → Type 0
-BestFigures t m s f marks = FiguresOf figuresOf (λ r. BestPromise t m s r marks) f
+BestFigures t m s f marks = FiguresOf figures_of (λ r. BestPromise t m s r marks) f
 
 abbrev pub QuickFigures : List ℕ → Figures → Type 0
-QuickFigures t f = FiguresOf figuresOf (λ r. QuickPromise t r) f
+QuickFigures t f = FiguresOf figures_of (λ r. QuickPromise t r) f
 
 abbrev pub WriteFigures : Edition → List ℕ → List ℕ → List ℕ → Figures → List ℕ → Type 0
-WriteFigures e t m out f archive = FiguresOf figuresOf (λ r. WritePromise e t m out r archive) f
+WriteFigures e t m out f archive = FiguresOf figures_of (λ r. WritePromise e t m out r archive) f
 
 abbrev pub PrintFigures : List ℕ → List ℕ → List ℕ → Figures → List ℕ → Type 0
-PrintFigures t m out f sheets = FiguresOf figuresOf (λ r. PrintPromise t m out r sheets) f
+PrintFigures t m out f sheets = FiguresOf figures_of (λ r. PrintPromise t m out r sheets) f
 
 abbrev pub ReadFigures : Edition → Edition → List ℕ → List ℕ → List ℕ → Figures → List ℕ → List ℕ → Type 0
-ReadFigures e other a table marks f t m = FiguresOf figuresOf (λ r. ReadPromise e other a table marks r t m) f
+ReadFigures e other a table marks f t m = FiguresOf figures_of (λ r. ReadPromise e other a table marks r t m) f
 
 abbrev pub ConvertFigures : Edition → Edition → List ℕ → List ℕ → Figures → List ℕ → Type 0
-ConvertFigures from to a out f archive = FiguresOf figuresOf (λ r. ConvertPromise from to a out r archive) f
+ConvertFigures from to a out f archive = FiguresOf figures_of (λ r. ConvertPromise from to a out r archive) f
 
 abbrev pub PriceFigures : List ℕ → List ℕ → PriceAnswer → Type 0
-PriceFigures t m f = FiguresOf priceAnswer (λ o. PricePromise t m o.answer o.left) f
+PriceFigures t m f = FiguresOf price_answer (λ o. PricePromise t m o.answer o.left) f
 
 abbrev pub SavingFigures : List ℕ → List ℕ → List ℕ → SavingAnswer → List ℕ → List ℕ → Type 0
 SavingFigures t m s f marks scratch =
-    FiguresOf savingAnswer (λ o. SavingPromise t m s o.answer o.left marks scratch) f
+    FiguresOf saving_answer (λ o. SavingPromise t m s o.answer o.left marks scratch) f

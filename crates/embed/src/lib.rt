@@ -1,12 +1,12 @@
 // Doors for C and Rust: each entry of the library under a plain name, with its answer as four numbers, and an amount as
 // a fifth.
 ghost use Rattle.std.specs.Prelude.{◌≡◌};
-ghost use Rattle.model.specs.Archive.{firstEdition, secondEdition};
-ghost use Rattle.model.specs.Refusals.{outcome, readTree, judgePlan, planLeft, planBest, planLevel, planSingle};
-ghost use Rattle.model.specs.Refusals.{planPair, planRightmost, planDepthFirst, writeArchive, readLeft, readArchive};
-ghost use Rattle.model.specs.Refusals.{convertArchive, printSheets, pricePlan, saveBest};
-ghost use Rattle.embed.specs.Figures.{figuresBy, figuresOf, priceAnswer};
-ghost use Rattle.embed.specs.Left.{told, savingLeft, WeightFigures, JudgeFigures, PlanFigures, BestFigures};
+ghost use Rattle.model.specs.Archive.{first_edition, second_edition};
+ghost use Rattle.model.specs.Refusals.{outcome, read_tree, judge_plan, plan_left, plan_best, plan_level, plan_single};
+ghost use Rattle.model.specs.Refusals.{plan_pair, plan_rightmost, plan_depth_first, write_archive, read_left, read_archive};
+ghost use Rattle.model.specs.Refusals.{convert_archive, print_sheets, price_plan, save_best};
+ghost use Rattle.embed.specs.Figures.{figures_by, figures_of, price_answer};
+ghost use Rattle.embed.specs.Left.{told, saving_left, WeightFigures, JudgeFigures, PlanFigures, BestFigures};
 ghost use Rattle.embed.specs.Left.{QuickFigures, WriteFigures, ReadFigures, ConvertFigures, PrintFigures};
 ghost use Rattle.embed.specs.Left.{PriceFigures, SavingFigures};
 
@@ -46,7 +46,7 @@ pub struct SavingAnswer {
 
 // Number and place with the figures of a verdict.
 fn with_verdict(number: u32, place: u32, verdict: Verdict) -> Figures
-    ensures { result ≡ figuresBy number place verdict }
+    ensures { result ≡ figures_by number place verdict }
 {
     match verdict {
         Verdict::Feasible { pages, root } => Figures {
@@ -65,7 +65,7 @@ fn with_verdict(number: u32, place: u32, verdict: Verdict) -> Figures
 }
 
 fn flatten(answer: Answer) -> Figures
-    ensures { result ≡ figuresOf answer }
+    ensures { result ≡ figures_of answer }
 {
     let number = answer.number;
     let place = answer.place;
@@ -83,7 +83,7 @@ fn flatten(answer: Answer) -> Figures
 
 #[unsafe(no_mangle)]
 pub extern "C" fn balduqen_read_tree(table: &[u8]) -> Figures
-    ensures value { result ≡ figuresOf (readTree table.now) }
+    ensures value { result ≡ figures_of (read_tree table.now) }
     ensures weight_figures { WeightFigures table.now result }
 {
     flatten(table::read_tree(table))
@@ -91,7 +91,7 @@ pub extern "C" fn balduqen_read_tree(table: &[u8]) -> Figures
 
 #[unsafe(no_mangle)]
 pub extern "C" fn balduqen_judge(table: &[u8], marks: &[u8]) -> Figures
-    ensures value { result ≡ figuresOf (judgePlan table.now marks.now) }
+    ensures value { result ≡ figures_of (judge_plan table.now marks.now) }
     ensures judge_figures { JudgeFigures table.now marks.now result }
 {
     flatten(judge::judge_plan(table, marks))
@@ -99,8 +99,8 @@ pub extern "C" fn balduqen_judge(table: &[u8], marks: &[u8]) -> Figures
 
 #[unsafe(no_mangle)]
 pub extern "C" fn balduqen_plan_best(table: &[u8], marks: &mut [u8], scratch: &mut [u32]) -> Figures
-    ensures scratch_after { planLeft result marks.new scratch.new
-        ≡ told figuresOf (planBest table.now marks.old scratch.old) }
+    ensures scratch_after { plan_left result marks.new scratch.new
+        ≡ told figures_of (plan_best table.now marks.old scratch.old) }
     ensures plan_figures { PlanFigures table.now marks.old scratch.old
         result marks.new scratch.new }
     ensures best_figures { BestFigures table.now marks.old scratch.old
@@ -115,8 +115,8 @@ pub extern "C" fn balduqen_plan_level(
     marks: &mut [u8],
     scratch: &mut [u32],
 ) -> Figures
-    ensures scratch_after { planLeft result marks.new scratch.new
-        ≡ told figuresOf (planLevel table.now marks.old scratch.old) }
+    ensures scratch_after { plan_left result marks.new scratch.new
+        ≡ told figures_of (plan_level table.now marks.old scratch.old) }
     ensures plan_figures { PlanFigures table.now marks.old scratch.old
         result marks.new scratch.new }
 {
@@ -129,8 +129,8 @@ pub extern "C" fn balduqen_plan_single(
     marks: &mut [u8],
     scratch: &mut [u32],
 ) -> Figures
-    ensures scratch_after { planLeft result marks.new scratch.new
-        ≡ told figuresOf (planSingle table.now marks.old scratch.old) }
+    ensures scratch_after { plan_left result marks.new scratch.new
+        ≡ told figures_of (plan_single table.now marks.old scratch.old) }
     ensures plan_figures { PlanFigures table.now marks.old scratch.old
         result marks.new scratch.new }
 {
@@ -139,8 +139,8 @@ pub extern "C" fn balduqen_plan_single(
 
 #[unsafe(no_mangle)]
 pub extern "C" fn balduqen_plan_pair(table: &[u8], marks: &mut [u8], scratch: &mut [u32]) -> Figures
-    ensures scratch_after { planLeft result marks.new scratch.new
-        ≡ told figuresOf (planPair table.now marks.old scratch.old) }
+    ensures scratch_after { plan_left result marks.new scratch.new
+        ≡ told figures_of (plan_pair table.now marks.old scratch.old) }
     ensures plan_figures { PlanFigures table.now marks.old scratch.old
         result marks.new scratch.new }
 {
@@ -153,8 +153,8 @@ pub extern "C" fn balduqen_plan_rightmost(
     marks: &mut [u8],
     scratch: &mut [u32],
 ) -> Figures
-    ensures scratch_after { planLeft result marks.new scratch.new
-        ≡ told figuresOf (planRightmost table.now marks.old scratch.old) }
+    ensures scratch_after { plan_left result marks.new scratch.new
+        ≡ told figures_of (plan_rightmost table.now marks.old scratch.old) }
     ensures plan_figures { PlanFigures table.now marks.old scratch.old
         result marks.new scratch.new }
     ensures quick_figures { QuickFigures table.now result }
@@ -168,8 +168,8 @@ pub extern "C" fn balduqen_plan_depth_first(
     marks: &mut [u8],
     scratch: &mut [u32],
 ) -> Figures
-    ensures scratch_after { planLeft result marks.new scratch.new
-        ≡ told figuresOf (planDepthFirst table.now marks.old scratch.old) }
+    ensures scratch_after { plan_left result marks.new scratch.new
+        ≡ told figures_of (plan_depth_first table.now marks.old scratch.old) }
     ensures plan_figures { PlanFigures table.now marks.old scratch.old
         result marks.new scratch.new }
     ensures quick_figures { QuickFigures table.now result }
@@ -180,9 +180,9 @@ pub extern "C" fn balduqen_plan_depth_first(
 #[unsafe(no_mangle)]
 pub extern "C" fn balduqen_write_archive(table: &[u8], marks: &[u8], archive: &mut [u8]) -> Figures
     ensures archive_after { outcome result archive.new
-        ≡ told figuresOf
-        (writeArchive firstEdition table.now marks.now archive.old) }
-    ensures write_figures { WriteFigures firstEdition table.now marks.now archive.old
+        ≡ told figures_of
+        (write_archive first_edition table.now marks.now archive.old) }
+    ensures write_figures { WriteFigures first_edition table.now marks.now archive.old
         result archive.new }
 {
     flatten(writer::write_archive(table, marks, archive))
@@ -194,10 +194,10 @@ pub extern "C" fn balduqen_read_archive(
     table: &mut [u8],
     marks: &mut [u8],
 ) -> Figures
-    ensures marks_after { readLeft result table.new marks.new
-        ≡ told figuresOf
-        (readArchive firstEdition archive.now table.old marks.old) }
-    ensures read_figures { ReadFigures firstEdition secondEdition archive.now table.old
+    ensures marks_after { read_left result table.new marks.new
+        ≡ told figures_of
+        (read_archive first_edition archive.now table.old marks.old) }
+    ensures read_figures { ReadFigures first_edition second_edition archive.now table.old
         marks.old result table.new marks.new }
 {
     flatten(archive::read_archive(archive, table, marks))
@@ -206,9 +206,9 @@ pub extern "C" fn balduqen_read_archive(
 #[unsafe(no_mangle)]
 pub extern "C" fn balduqen_write_archive2(table: &[u8], marks: &[u8], archive: &mut [u8]) -> Figures
     ensures archive_after { outcome result archive.new
-        ≡ told figuresOf
-        (writeArchive secondEdition table.now marks.now archive.old) }
-    ensures write_figures { WriteFigures secondEdition table.now marks.now archive.old
+        ≡ told figures_of
+        (write_archive second_edition table.now marks.now archive.old) }
+    ensures write_figures { WriteFigures second_edition table.now marks.now archive.old
         result archive.new }
 {
     flatten(writer::write_archive2(table, marks, archive))
@@ -220,10 +220,10 @@ pub extern "C" fn balduqen_read_archive2(
     table: &mut [u8],
     marks: &mut [u8],
 ) -> Figures
-    ensures marks_after { readLeft result table.new marks.new
-        ≡ told figuresOf
-        (readArchive secondEdition archive.now table.old marks.old) }
-    ensures read_figures { ReadFigures secondEdition firstEdition archive.now table.old
+    ensures marks_after { read_left result table.new marks.new
+        ≡ told figures_of
+        (read_archive second_edition archive.now table.old marks.old) }
+    ensures read_figures { ReadFigures second_edition first_edition archive.now table.old
         marks.old result table.new marks.new }
 {
     flatten(archive::read_archive2(archive, table, marks))
@@ -232,8 +232,8 @@ pub extern "C" fn balduqen_read_archive2(
 #[unsafe(no_mangle)]
 pub extern "C" fn balduqen_convert_to_2(archive: &[u8], out: &mut [u8]) -> Figures
     ensures out_after { outcome result out.new
-        ≡ told figuresOf (convertArchive firstEdition secondEdition archive.now out.old) }
-    ensures convert_figures { ConvertFigures firstEdition secondEdition archive.now out.old
+        ≡ told figures_of (convert_archive first_edition second_edition archive.now out.old) }
+    ensures convert_figures { ConvertFigures first_edition second_edition archive.now out.old
         result out.new }
 {
     flatten(converters::convert_to_2(archive, out))
@@ -242,8 +242,8 @@ pub extern "C" fn balduqen_convert_to_2(archive: &[u8], out: &mut [u8]) -> Figur
 #[unsafe(no_mangle)]
 pub extern "C" fn balduqen_convert_to_1(archive: &[u8], out: &mut [u8]) -> Figures
     ensures out_after { outcome result out.new
-        ≡ told figuresOf (convertArchive secondEdition firstEdition archive.now out.old) }
-    ensures convert_figures { ConvertFigures secondEdition firstEdition archive.now out.old
+        ≡ told figures_of (convert_archive second_edition first_edition archive.now out.old) }
+    ensures convert_figures { ConvertFigures second_edition first_edition archive.now out.old
         result out.new }
 {
     flatten(converters::convert_to_1(archive, out))
@@ -252,7 +252,7 @@ pub extern "C" fn balduqen_convert_to_1(archive: &[u8], out: &mut [u8]) -> Figur
 #[unsafe(no_mangle)]
 pub extern "C" fn balduqen_print_sheets(table: &[u8], marks: &[u8], out: &mut [u8]) -> Figures
     ensures out_after { outcome result out.new
-        ≡ told figuresOf (printSheets table.now marks.now out.old) }
+        ≡ told figures_of (print_sheets table.now marks.now out.old) }
     ensures print_figures { PrintFigures table.now marks.now out.old
         result out.new }
 {
@@ -261,7 +261,7 @@ pub extern "C" fn balduqen_print_sheets(table: &[u8], marks: &[u8], out: &mut [u
 
 #[unsafe(no_mangle)]
 pub extern "C" fn balduqen_price(table: &[u8], marks: &[u8]) -> PriceAnswer
-    ensures value { result ≡ priceAnswer (pricePlan table.now marks.now) }
+    ensures value { result ≡ price_answer (price_plan table.now marks.now) }
     ensures price_figures { PriceFigures table.now marks.now result }
 {
     let priced = price::price(table, marks);
@@ -282,8 +282,8 @@ pub extern "C" fn balduqen_saving(
     marks: &mut [u8],
     scratch: &mut [u32],
 ) -> SavingAnswer
-    ensures scratch_after { planLeft result marks.new scratch.new
-        ≡ savingLeft (saveBest table.now marks.old scratch.old) }
+    ensures scratch_after { plan_left result marks.new scratch.new
+        ≡ saving_left (save_best table.now marks.old scratch.old) }
     ensures saving_figures { SavingFigures table.now marks.old scratch.old
         result marks.new scratch.new }
 {

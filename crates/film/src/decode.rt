@@ -2,13 +2,13 @@
 // that is no place of an array is taken for 0, and the time is in proportion to pages and nodes.
 ghost use Rattle.std.specs.Prelude.{◌≡◌, List, ℕ, ◌≤◌, ◌<◌, eqb, length};
 ghost use Rattle.model.specs.Basics.{pick};
-ghost use Rattle.model.specs.Archive.{nodesIn, firstIn};
+ghost use Rattle.model.specs.Archive.{nodes_in, first_in};
 ghost use Rattle.theory.specs.Put.{Starts};
-ghost use Rattle.records.specs.Size.{InRoom, archiveNodes, filmSlots, longestTable};
+ghost use Rattle.records.specs.Size.{InRoom, archive_nodes, film_slots, longest_table};
 ghost use Rattle.records.specs.Links.{Fit};
 ghost use Rattle.film.specs.Decoded.{Decoded};
-ghost use Rattle.film.specs.DecodeTable.{WrittenBy, Loaded, fitted, treeUpto};
-ghost use Rattle.film.specs.DecodeMarks.{runEnd, markFor, Lasts, MarksInput, MarksRow};
+ghost use Rattle.film.specs.DecodeTable.{WrittenBy, Loaded, fitted, tree_upto};
+ghost use Rattle.film.specs.DecodeMarks.{run_end, mark_for, Lasts, MarksInput, MarksRow};
 
 use crate::fields::{limit_in, node_field, nodes_in, page_field, pages_in, parent_in};
 use model::Edition;
@@ -19,7 +19,7 @@ use words::put::{put_record, put_word};
 // Node v's first child is the node after it, if that has v for its parent.
 fn first_in(e: Edition, archive: &[u8], v: u16) -> u16
     requires { InRoom e }
-    ensures { result ≡ firstIn e archive.now v }
+    ensures { result ≡ first_in e archive.now v }
 {
     let nodes = nodes_in(e, archive);
     if nodes <= v {
@@ -47,7 +47,7 @@ fn sibling_of(v: u16, link: u16) -> u16
 
 // The parents of the nodes.
 fn load_parents(e: Edition, archive: &[u8], nodes: u16) -> [u16; FILM_SLOTS]
-    requires { InRoom e × (nodes < filmSlots) }
+    requires { InRoom e × (nodes < film_slots) }
     ensures { Loaded e archive.now nodes result }
 {
     let mut parents = [0u16; FILM_SLOTS];
@@ -79,9 +79,9 @@ fn load_lasts(e: Edition, archive: &[u8]) -> [u16; FILM_SLOTS]
 
 // The table of the tree, with these links to the next sibling.
 fn fill_tree(e: Edition, archive: &[u8], links: &[u16; FILM_SLOTS], tree: &mut [u8])
-    requires { InRoom e × (nodesIn e archive.now ≤ e.most) × (longestTable e ≤ length tree.old) }
+    requires { InRoom e × (nodes_in e archive.now ≤ e.most) × (longest_table e ≤ length tree.old) }
     ensures { Starts tree.new
-        (treeUpto e archive.now links.now (nodesIn e archive.now)) }
+        (tree_upto e archive.now links.now (nodes_in e archive.now)) }
 {
     let nodes = nodes_in(e, archive);
     let limit = limit_in(e, archive);
@@ -103,7 +103,7 @@ fn fill_tree(e: Edition, archive: &[u8], links: &[u16; FILM_SLOTS], tree: &mut [
 // The last of the run that node v is in: of the run that it begins, or else of the run that the sibling before it
 // carries to it.
 fn run_end(v: u16, last: u16, due: u16) -> u16
-    ensures { result ≡ runEnd v last due }
+    ensures { result ≡ run_end v last due }
 {
     if last != 0 {
         return last;
@@ -113,7 +113,7 @@ fn run_end(v: u16, last: u16, due: u16) -> u16
 
 // The mark of a node by the last of the run that it begins, and the last of the run that it is in.
 fn mark_for(last: u16, end: u16) -> u8
-    ensures { result ≡ markFor last end }
+    ensures { result ≡ mark_for last end }
 {
     if last != 0 {
         return 1;
@@ -123,7 +123,7 @@ fn mark_for(last: u16, end: u16) -> u8
 
 // The marks of the plan. A node's due is the last of the run that the sibling before it is in.
 fn fill_marks(nodes: u16, lasts: &[u16; FILM_SLOTS], links: &[u16; FILM_SLOTS], plan: &mut [u8])
-    requires { (nodes ≤ archiveNodes) × Fit nodes links.now × (nodes ≤ length plan.old) }
+    requires { (nodes ≤ archive_nodes) × Fit nodes links.now × (nodes ≤ length plan.old) }
     ensures { (t m : List ℕ) → MarksInput t m lasts.now links.now nodes
         → MarksRow m nodes plan.new }
 {
@@ -142,7 +142,7 @@ fn fill_marks(nodes: u16, lasts: &[u16; FILM_SLOTS], links: &[u16; FILM_SLOTS], 
 
 // The tree and the plan that the archive tells, if it is one, at the start of what is lent for them.
 pub fn decode(e: Edition, archive: &[u8], tree: &mut [u8], plan: &mut [u8])
-    requires { InRoom e × (longestTable e ≤ length tree.old) × (e.most ≤ length plan.old) }
+    requires { InRoom e × (longest_table e ≤ length tree.old) × (e.most ≤ length plan.old) }
     ensures { Decoded e archive.now tree.new plan.new }
 {
     let nodes = nodes_in(e, archive);

@@ -1,8 +1,8 @@
 // The words of an archive of an edition: N, K and P, and the fields of the page records and the node records. What lies
 // past the end reads as 0.
 ghost use Rattle.std.specs.Prelude.{◌≡◌, ◌+◌, ◌-◌, ◌*◌, ◌<◌};
-ghost use Rattle.model.specs.Table.{wordAt};
-ghost use Rattle.model.specs.Archive.{nodesIn, limitIn, pagesIn, pageFieldIn, nodeFieldIn, parent_in};
+ghost use Rattle.model.specs.Table.{word_at};
+ghost use Rattle.model.specs.Archive.{nodes_in, limit_in, pages_in, page_field_in, node_field_in, parent_in};
 ghost use Rattle.records.specs.Size.{InRoom};
 
 use model::Edition;
@@ -11,7 +11,7 @@ use words::read::word_at;
 // N.
 pub fn nodes_in(e: Edition, archive: &[u8]) -> u16
     requires { InRoom e }
-    ensures { result ≡ nodesIn e archive.now }
+    ensures { result ≡ nodes_in e archive.now }
 {
     word_at(archive, (e.head as u32) - 3)
 }
@@ -19,7 +19,7 @@ pub fn nodes_in(e: Edition, archive: &[u8]) -> u16
 // K.
 pub fn limit_in(e: Edition, archive: &[u8]) -> u16
     requires { InRoom e }
-    ensures { result ≡ limitIn e archive.now }
+    ensures { result ≡ limit_in e archive.now }
 {
     word_at(archive, (e.head as u32) - 2)
 }
@@ -27,7 +27,7 @@ pub fn limit_in(e: Edition, archive: &[u8]) -> u16
 // P.
 pub fn pages_in(e: Edition, archive: &[u8]) -> u16
     requires { InRoom e }
-    ensures { result ≡ pagesIn e archive.now }
+    ensures { result ≡ pages_in e archive.now }
 {
     word_at(archive, (e.head as u32) - 1)
 }
@@ -35,7 +35,7 @@ pub fn pages_in(e: Edition, archive: &[u8]) -> u16
 // Word f of record i, counted from 1, of those of this width after so many words.
 fn field_after(archive: &[u8], words: u32, width: u16, i: u16, f: u8) -> u16
     requires { words + width * 65535 + 255 < 4294967296 }
-    ensures { result ≡ wordAt archive.now (words + width * (i - 1) + f) }
+    ensures { result ≡ word_at archive.now (words + width * (i - 1) + f) }
 {
     let before = if i == 0 { 0 } else { i - 1 };
     word_at(
@@ -47,7 +47,7 @@ fn field_after(archive: &[u8], words: u32, width: u16, i: u16, f: u8) -> u16
 // Word f of page q's record.
 pub fn page_field(e: Edition, archive: &[u8], q: u16, f: u8) -> u16
     requires { InRoom e }
-    ensures { result ≡ pageFieldIn e archive.now q f }
+    ensures { result ≡ page_field_in e archive.now q f }
 {
     field_after(archive, e.head as u32, e.page, q, f)
 }
@@ -55,7 +55,7 @@ pub fn page_field(e: Edition, archive: &[u8], q: u16, f: u8) -> u16
 // Word f of node v's record.
 pub fn node_field(e: Edition, archive: &[u8], v: u16, f: u8) -> u16
     requires { InRoom e }
-    ensures { result ≡ nodeFieldIn e archive.now v f }
+    ensures { result ≡ node_field_in e archive.now v f }
 {
     let words = (e.head as u32) + (e.page as u32) * (pages_in(e, archive) as u32);
     field_after(archive, words, 4, v, f)

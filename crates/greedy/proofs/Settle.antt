@@ -5,96 +5,96 @@ use native.Mathlib.Omega.{arith}
 use mathlib.Core.Path.{◌≡◌, refl, ◌∙◌, ap, ap₂}
 use mathlib.Core.List.{List}
 use lib.ListN.{length, set}
-use Rattle.model.specs.Table.{maxLimit, nodeCount, limitOf, weightAt, first_at, Chain, end, node}
-use Rattle.model.specs.Steps.{restSum, whole, cutDown, remainders, reduce}
+use Rattle.model.specs.Table.{max_limit, node_count, limit_of, weight_at, first_at, Chain, end, node}
+use Rattle.model.specs.Steps.{rest_sum, whole, cut_down, remainders, reduce}
 use Rattle.theory.specs.PlanShape.{size, EachWithin}
-use Rattle.theory.specs.TableNumbered.{numbered-size, numbered-le}
-use Rattle.theory.specs.SingleShape.{cutDown-reduced}
-use Rattle.theory.specs.TableChain.{NodeAt, node_at, link-within}
-use Rattle.greedy.specs.Kept.{kept_same, outside-then, outside-more, outside-store, same_store}
-use Rattle.greedy.specs.SingleMembers.{members-rest, laid_same}
-use Rattle.greedy.specs.SingleSettled.{Settled, kidsOf, cutKids, SettledDown, step}
-use Rattle.greedy.specs.SingleCuts.{CutReady, CutDone, SettleReady, kidMembers}
+use Rattle.theory.specs.TableNumbered.{numbered_size, numbered_le}
+use Rattle.theory.specs.SingleShape.{cut_down_reduced}
+use Rattle.theory.specs.TableChain.{NodeAt, node_at, link_within}
+use Rattle.greedy.specs.Kept.{kept_same, outside_then, outside_more, outside_store, same_store}
+use Rattle.greedy.specs.SingleMembers.{members_rest, laid_same}
+use Rattle.greedy.specs.SingleSettled.{Settled, kids_of, cut_kids, SettledDown, step}
+use Rattle.greedy.specs.SingleCuts.{CutReady, CutDone, SettleReady, kid_members}
 
 -- each remainder is within the limit
-remainders-small : (K : ℕ) (c : Chain) → EachWithin K c → K ≤ maxLimit → restSum (remainders K c) ≤ maxLimit * size c
-unfolding EachWithin remainders restSum size whole
-remainders-small K end h l = omega arith
-remainders-small K (node w lab kids next) h l =
-    let ih = remainders-small K next h.2 l in
-    let fits = (cutDown-reduced K w kids).fits in
+remainders_small : (K : ℕ) (c : Chain) → EachWithin K c → K ≤ max_limit → rest_sum (remainders K c) ≤ max_limit * size c
+unfolding EachWithin remainders rest_sum size whole
+remainders_small K end h l = omega arith
+remainders_small K (node w lab kids next) h l =
+    let ih = remainders_small K next h.2 l in
+    let fits = (cut_down_reduced K w kids).fits in
     omega (arith, h.0)
 
 module _ {t s a : List ℕ} {v : ℕ} (ready : SettleReady t s a v) where
-  at-node : NodeAt t v
-  at-node = node_at ready.tree.sound v ready.low ready.high
+  at_node : NodeAt t v
+  at_node = node_at ready.tree.sound v ready.low ready.high
 
-  last-high : at-node.last ≤ nodeCount t
-  last-high = omega (arith, numbered-le at-node.after, at-node.inside)
+  last_high : at_node.last ≤ node_count t
+  last_high = omega (arith, numbered_le at_node.after, at_node.inside)
 
-  pub settle-light : weightAt t v ≤ limitOf t
-  settle-light = ready.tree.light v ready.low ready.high
+  pub settle_light : weight_at t v ≤ limit_of t
+  settle_light = ready.tree.light v ready.low ready.high
 
-  pub settle-cuts : CutReady t s a v
-  settle-cuts =
+  pub settle_cuts : CutReady t s a v
+  settle_cuts =
       let small =
-      remainders-small (limitOf t) (kidsOf t v) (link-within ready.tree at-node.below last-high)
-      ready.tree.sound.limit-high in
-      let sized = numbered-size at-node.below in
+      remainders_small (limit_of t) (kids_of t v) (link_within ready.tree at_node.below last_high)
+      ready.tree.sound.limit_high in
+      let sized = numbered_size at_node.below in
       record {
         sound = ready.tree.sound;
         low = ready.low;
         high = ready.high;
-        marks-long = ready.marks-long;
+        marks_long = ready.marks_long;
         long = ready.long;
         small = omega (
           arith,
-          members-rest t s a (first_at t v) (kidsOf t v),
-          ap restSum ready.rests-kept.rests,
+          members_rest t s a (first_at t v) (kids_of t v),
+          ap rest_sum ready.rests_kept.rests,
           small,
           sized,
-          last-high,
-          ready.tree.sound.count-high,
+          last_high,
+          ready.tree.sound.count_high,
         );
-        laid = rw ready.rests-kept.rests ready.rests-kept.laid;
+        laid = rw ready.rests_kept.rests ready.rests_kept.laid;
       }
 
-  module _ (room : ℕ) {s' a' : List ℕ} (r : ℕ) (e : room ≡ limitOf t - weightAt t v)
+  module _ (room : ℕ) {s' a' : List ℕ} (r : ℕ) (e : room ≡ limit_of t - weight_at t v)
       (x : CutDone t v room s a s' a' r) where
-    cut-is : reduce room (kidMembers t s a v) ≡ cutKids t v
-    unfolding cutDown
-    cut-is = ap₂ reduce e ready.rests-kept.rests
+    cut_is : reduce room (kid_members t s a v) ≡ cut_kids t v
+    unfolding cut_down
+    cut_is = ap₂ reduce e ready.rests_kept.rests
 
-    pub settle-fits : weightAt t v + r ≤ limitOf t
-    settle-fits =
+    pub settle_fits : weight_at t v + r ≤ limit_of t
+    settle_fits =
         omega (
           arith,
           x.sum,
-          ap restSum cut-is,
-          (cutDown-reduced (limitOf t) (weightAt t v) (kidsOf t v)).fits,
-          settle-light,
+          ap rest_sum cut_is,
+          (cut_down_reduced (limit_of t) (weight_at t v) (kids_of t v)).fits,
+          settle_light,
         )
 
-    pub settle-done : (k : ℕ) → k ≡ weightAt t v + r → length s' ≡ length s → length a' ≡ length a
+    pub settle_done : (k : ℕ) → k ≡ weight_at t v + r → length s' ≡ length s → length a' ≡ length a
         → Settled t v s a (set s' (v - 1) k) (set a' (v - 1) 0)
-    settle-done k q ls la =
-        let sized : at-node.last ≡ v + size (kidsOf t v) = numbered-size at-node.below in
+    settle_done k q ls la =
+        let sized : at_node.last ≡ v + size (kids_of t v) = numbered_size at_node.below in
         let low : 1 ≤ v = ready.low in
         let below : v - 1 < v = omega arith in
-        let reach : v ≤ v + size (kidsOf t v) = omega arith in
+        let reach : v ≤ v + size (kids_of t v) = omega arith in
         record {
-          laid = laid_same (limitOf t) (cutKids t v) at-node.below
-              (same_store v at-node.last a' v 0 low (λ l h. omega arith)) (rw cut-is at x.laid);
+          laid = laid_same (limit_of t) (cut_kids t v) at_node.below
+              (same_store v at_node.last a' v 0 low (λ l h. omega arith)) (rw cut_is at x.laid);
           rest = kept_same s' v k low (omega (arith, ready.high, ready.long))
               ∙ q
-              ∙ ap (λ (n : ℕ). weightAt t v + n) (x.sum ∙ ap restSum cut-is);
-          mark = kept_same a' v 0 low (omega (arith, ready.high, ready.marks-long));
-          rests-outside =
-              outside-then (outside-more (v - 1) (v + size (kidsOf t v)) (omega arith) (omega arith) x.rests-outside)
-              (outside-store (v - 1) (v + size (kidsOf t v)) s' v k below reach);
-          marks-outside =
-              outside-then (outside-more (v - 1) (v + size (kidsOf t v)) (omega arith) (omega arith) x.marks-outside)
-              (outside-store (v - 1) (v + size (kidsOf t v)) a' v 0 below reach);
+              ∙ ap (λ (n : ℕ). weight_at t v + n) (x.sum ∙ ap rest_sum cut_is);
+          mark = kept_same a' v 0 low (omega (arith, ready.high, ready.marks_long));
+          rests_outside =
+              outside_then (outside_more (v - 1) (v + size (kids_of t v)) (omega arith) (omega arith) x.rests_outside)
+              (outside_store (v - 1) (v + size (kids_of t v)) s' v k below reach);
+          marks_outside =
+              outside_then (outside_more (v - 1) (v + size (kids_of t v)) (omega arith) (omega arith) x.marks_outside)
+              (outside_store (v - 1) (v + size (kids_of t v)) a' v 0 below reach);
         }
 
 pub down_step : {t s a : List ℕ} {n v : ℕ} {s₁ a₁ s₂ a₂ : List ℕ} → SettledDown t s a n v s₁ a₁ → (v ≡ 0 → ⊥)

@@ -9,126 +9,126 @@ use lib.ListN.{length, set, length-set}
 use lib.Dec.{eqb}
 use borrow.Author.Tests.{eqb-true, eqb-false}
 use Rattle.model.specs.Basics.{pick}
-use Rattle.model.specs.Table.{maxLimit, nodeCount, limitOf, first_at, next_at, weightAt, labelAt}
+use Rattle.model.specs.Table.{max_limit, node_count, limit_of, first_at, next_at, weight_at, label_at}
 use Rattle.model.specs.Steps.{remainder}
-use Rattle.theory.specs.Ranges.{pick-both}
+use Rattle.theory.specs.Ranges.{pick_both}
 use Rattle.theory.specs.TableFacts.{SoundFacts}
-use Rattle.theory.specs.TableNumbered.{Between, numbered-le}
-use Rattle.theory.specs.TableLinks.{first_step, first-le, next-later, next_le, first_one, next_one, first-not-next}
-use Rattle.theory.specs.PairShape.{unlessCut, remainder-node, remainder-fits}
-use Rattle.theory.specs.TableChain.{chainAt, chain-none, NodeAt, node_at, link-within}
-use Rattle.greedy.specs.Kept.{kept, kept-none, kept_same, kept-other}
-use Rattle.greedy.specs.PairSides.{leftCut, rightCut, sides-left, sides-right}
+use Rattle.theory.specs.TableNumbered.{Between, numbered_le}
+use Rattle.theory.specs.TableLinks.{first_step, first_le, next_later, next_le, first_one, next_one, first_not_next}
+use Rattle.theory.specs.PairShape.{unless_cut, remainder_node, remainder_fits}
+use Rattle.theory.specs.TableChain.{chain_at, chain_none, NodeAt, node_at, link_within}
+use Rattle.greedy.specs.Kept.{kept, kept_none, kept_same, kept_other}
+use Rattle.greedy.specs.PairSides.{left_cut, right_cut, sides_left, sides_right}
 use Rattle.greedy.specs.declared.pair.Sides.{Sides}
-use Rattle.greedy.specs.PairMarks.{Rests, PairReady, SidesAt, remainderAt, firstCutAt, nextCutAt, uncutAfter}
-use Rattle.greedy.specs.PairMarks.{LinkMarks, put, length-put, put_same, put_other, laidBelow}
+use Rattle.greedy.specs.PairMarks.{Rests, PairReady, SidesAt, remainder_at, first_cut_at, next_cut_at, uncut_after}
+use Rattle.greedy.specs.PairMarks.{LinkMarks, put, length-put, put_same, put_other, laid_below}
 
-remainder-none : (t : List ℕ) → remainderAt t 0 ≡ 0
+remainder_none : (t : List ℕ) → remainder_at t 0 ≡ 0
 unfolding remainder
-remainder-none t = rw chain-none
+remainder_none t = rw chain_none
 
-unless-le : (cut : Bool) (r : ℕ) → unlessCut cut r ≤ r
-unless-le cut r = pick-both (λ k. k ≤ r) cut 0 r (omega arith) (omega arith)
+unless_le : (cut : Bool) (r : ℕ) → unless_cut cut r ≤ r
+unless_le cut r = pick_both (λ k. k ≤ r) cut 0 r (omega arith) (omega arith)
 
 module _ {t s : List ℕ} {v : ℕ} (ready : PairReady t s v) where
   sound : SoundFacts t
   sound = ready.above.tree.sound
 
-  at-node : NodeAt t v
-  at-node = node_at sound v ready.low ready.high
+  at_node : NodeAt t v
+  at_node = node_at sound v ready.low ready.high
 
-  link-rest : (l : ℕ) → (1 ≤ l → v < l) → l ≤ nodeCount t → kept s l ≡ remainderAt t l
-  link-rest zero later high = kept-none s ∙ sym (remainder-none t)
-  link-rest (suc l) later high = ready.above.rests (suc l) (later (omega arith)) high
+  link_rest : (l : ℕ) → (1 ≤ l → v < l) → l ≤ node_count t → kept s l ≡ remainder_at t l
+  link_rest zero later high = kept_none s ∙ sym (remainder_none t)
+  link_rest (suc l) later high = ready.above.rests (suc l) (later (omega arith)) high
 
-  pub first-node : (f : ℕ) → f ≡ first_at t v → f ≤ nodeCount t
-  first-node f e = omega (arith, first-le sound v ready.low ready.high)
+  pub first_node : (f : ℕ) → f ≡ first_at t v → f ≤ node_count t
+  first_node f e = omega (arith, first_le sound v ready.low ready.high)
 
-  pub next-node : (f : ℕ) → f ≡ next_at t v → f ≤ nodeCount t
-  next-node f e = omega (arith, next_le sound v ready.low ready.high)
+  pub next_node : (f : ℕ) → f ≡ next_at t v → f ≤ node_count t
+  next_node f e = omega (arith, next_le sound v ready.low ready.high)
 
-  pub first-in-scratch : (f : ℕ) → f ≡ first_at t v → f ≤ length s
-  first-in-scratch f e = omega (arith, first-le sound v ready.low ready.high, ready.above.long)
+  pub first_in_scratch : (f : ℕ) → f ≡ first_at t v → f ≤ length s
+  first_in_scratch f e = omega (arith, first_le sound v ready.low ready.high, ready.above.long)
 
-  pub next-in-scratch : (f : ℕ) → f ≡ next_at t v → f ≤ length s
-  next-in-scratch f e = omega (arith, next_le sound v ready.low ready.high, ready.above.long)
+  pub next_in_scratch : (f : ℕ) → f ≡ next_at t v → f ≤ length s
+  next_in_scratch f e = omega (arith, next_le sound v ready.low ready.high, ready.above.long)
 
-  pub first_rest : (f k : ℕ) → f ≡ first_at t v → k ≡ kept s f → k ≡ remainderAt t (first_at t v)
+  pub first_rest : (f k : ℕ) → f ≡ first_at t v → k ≡ kept s f → k ≡ remainder_at t (first_at t v)
   first_rest f k e q =
       q ∙ ap (kept s) e
-      ∙ link-rest (first_at t v) (λ l. omega (arith, first_step sound v ready.low ready.high l))
-      (first-le sound v ready.low ready.high)
+      ∙ link_rest (first_at t v) (λ l. omega (arith, first_step sound v ready.low ready.high l))
+      (first_le sound v ready.low ready.high)
 
-  pub next-rest : (f k : ℕ) → f ≡ next_at t v → k ≡ kept s f → k ≡ remainderAt t (next_at t v)
-  next-rest f k e q =
+  pub next_rest : (f k : ℕ) → f ≡ next_at t v → k ≡ kept s f → k ≡ remainder_at t (next_at t v)
+  next_rest f k e q =
       q ∙ ap (kept s) e
-      ∙ link-rest (next_at t v) (λ l. next-later sound v ready.low ready.high l)
+      ∙ link_rest (next_at t v) (λ l. next_later sound v ready.low ready.high l)
       (next_le sound v ready.low ready.high)
 
-  light : weightAt t v ≤ limitOf t
+  light : weight_at t v ≤ limit_of t
   light = ready.above.tree.light v ready.low ready.high
 
-  first-within : remainderAt t (first_at t v) ≤ limitOf t
-  first-within =
-      remainder-fits (limitOf t) (chainAt t (first_at t v))
-      (link-within ready.above.tree at-node.below (omega (arith, numbered-le at-node.after, at-node.inside)))
+  first_within : remainder_at t (first_at t v) ≤ limit_of t
+  first_within =
+      remainder_fits (limit_of t) (chain_at t (first_at t v))
+      (link_within ready.above.tree at_node.below (omega (arith, numbered_le at_node.after, at_node.inside)))
 
-  next-within : remainderAt t (next_at t v) ≤ limitOf t
-  next-within =
-      remainder-fits (limitOf t) (chainAt t (next_at t v))
-      (link-within ready.above.tree at-node.after at-node.inside)
+  next_within : remainder_at t (next_at t v) ≤ limit_of t
+  next_within =
+      remainder_fits (limit_of t) (chain_at t (next_at t v))
+      (link_within ready.above.tree at_node.after at_node.inside)
 
-  pub sides-fit : weightAt t v + remainderAt t (first_at t v) + remainderAt t (next_at t v) ≤ 3 * maxLimit
-  sides-fit = omega (arith, light, first-within, next-within, ready.above.tree.sound.limit-high)
+  pub sides_fit : weight_at t v + remainder_at t (first_at t v) + remainder_at t (next_at t v) ≤ 3 * max_limit
+  sides_fit = omega (arith, light, first_within, next_within, ready.above.tree.sound.limit_high)
 
   module _ {x : Sides} (at : SidesAt t v x) where
-    pub first-is : leftCut x.limit x.weight x.left x.right ≡ firstCutAt t v
-    unfolding firstCutAt
-    first-is =
+    pub first_is : left_cut x.limit x.weight x.left x.right ≡ first_cut_at t v
+    unfolding first_cut_at
+    first_is =
         rw (at.limit, at.weight, at.left, at.right)
-        (sym (sides-left (limitOf t) (weightAt t v) (remainderAt t (first_at t v)) (remainderAt t (next_at t v)) light))
+        (sym (sides_left (limit_of t) (weight_at t v) (remainder_at t (first_at t v)) (remainder_at t (next_at t v)) light))
 
-    pub next-is : rightCut x.limit x.weight x.left x.right ≡ nextCutAt t v
-    unfolding nextCutAt
-    next-is =
+    pub next_is : right_cut x.limit x.weight x.left x.right ≡ next_cut_at t v
+    unfolding next_cut_at
+    next_is =
         rw (at.limit, at.weight, at.left, at.right)
-        (sym (sides-right (limitOf t) (weightAt t v) (remainderAt t (first_at t v)) (remainderAt t (next_at t v)) light))
+        (sym (sides_right (limit_of t) (weight_at t v) (remainder_at t (first_at t v)) (remainder_at t (next_at t v)) light))
 
     -- the node's remainder, from what is left of its sides
-    module _ (f g : Bool) (l r : ℕ) (ef : f ≡ leftCut x.limit x.weight x.left x.right)
-        (eg : g ≡ rightCut x.limit x.weight x.left x.right)
-        (el : l ≡ unlessCut f x.left) (er : r ≡ unlessCut g x.right)
+    module _ (f g : Bool) (l r : ℕ) (ef : f ≡ left_cut x.limit x.weight x.left x.right)
+        (eg : g ≡ right_cut x.limit x.weight x.left x.right)
+        (el : l ≡ unless_cut f x.left) (er : r ≡ unless_cut g x.right)
       where
-        pub weighs : x.weight + l + r ≡ remainderAt t v
-        unfolding firstCutAt nextCutAt
+        pub weighs : x.weight + l + r ≡ remainder_at t v
+        unfolding first_cut_at next_cut_at
         weighs =
             let n =
-            remainder-node (limitOf t) (weightAt t v) (chainAt t (first_at t v)) (chainAt t (next_at t v))
-            (labelAt t v) in
-            rw (el, er, ef, eg, first-is, next-is, at.weight, at.left, at.right, at-node.shape) (omega (arith, n))
+            remainder_node (limit_of t) (weight_at t v) (chain_at t (first_at t v)) (chain_at t (next_at t v))
+            (label_at t v) in
+            rw (el, er, ef, eg, first_is, next_is, at.weight, at.left, at.right, at_node.shape) (omega (arith, n))
 
-        pub weighs-fit : x.weight + l + r ≤ 3 * maxLimit
-        weighs-fit = omega (arith, el, er, unless-le f x.left, unless-le g x.right, at.fits)
+        pub weighs_fit : x.weight + l + r ≤ 3 * max_limit
+        weighs_fit = omega (arith, el, er, unless_le f x.left, unless_le g x.right, at.fits)
 
-  pub rests-step : (r : ℕ) → r ≡ remainderAt t v → Rests t (set s (v - 1) r) (v - 1)
-  rests-step r e =
+  pub rests_step : (r : ℕ) → r ≡ remainder_at t v → Rests t (set s (v - 1) r) (v - 1)
+  rests_step r e =
       record {
         tree = ready.above.tree;
         long = simp length-set ready.above.long;
         rests = λ u low high. go u low high (eqb u v) refl;
       }
     where
-      go : (u : ℕ) → v - 1 < u → u ≤ nodeCount t → (b : Bool) → eqb u v ≡ b → kept (set s (v - 1) r) u ≡ remainderAt t u
+      go : (u : ℕ) → v - 1 < u → u ≤ node_count t → (b : Bool) → eqb u v ≡ b → kept (set s (v - 1) r) u ≡ remainder_at t u
       go u low high true q =
           let same : u ≡ v = eqb-true u v q in
           rw same (kept_same s v r ready.low (omega (arith, ready.high, ready.above.long)) ∙ e)
       go u low high false q =
           let other : u ≡ v → ⊥ = eqb-false u v q in
-          kept-other s v u r ready.low other ∙ ready.above.rests u (omega (arith, ready.low)) high
+          kept_other s v u r ready.low other ∙ ready.above.rests u (omega (arith, ready.low)) high
 
 -- where all remainders are kept, those after a node are
-pub rests-after : {t s : List ℕ} (v : ℕ) → Rests t s 0 → 1 ≤ v → v ≤ nodeCount t → PairReady t s v
-rests-after v r low high =
+pub rests_after : {t s : List ℕ} (v : ℕ) → Rests t s 0 → 1 ≤ v → v ≤ node_count t → PairReady t s v
+rests_after v r low high =
     record {
       above = record { tree = r.tree; long = r.long; rests = λ u l h. r.rests u (omega arith) h };
       low = low;
@@ -137,72 +137,72 @@ rests-after v r low high =
 
 -- ---- Marks
 
-pub below-is : (t a : List ℕ) (v f n x y : ℕ) → f ≡ first_at t v → n ≡ next_at t v → x ≡ pick (firstCutAt t v) 1 0
-    → y ≡ pick (nextCutAt t v) 1 (uncutAfter (kept a v)) → put (put a f x) n y ≡ laidBelow t a v
-unfolding laidBelow
-below-is t a v f n x y ef en ex ey = rw (ef, en, ex, ey)
+pub below_is : (t a : List ℕ) (v f n x y : ℕ) → f ≡ first_at t v → n ≡ next_at t v → x ≡ pick (first_cut_at t v) 1 0
+    → y ≡ pick (next_cut_at t v) 1 (uncut_after (kept a v)) → put (put a f x) n y ≡ laid_below t a v
+unfolding laid_below
+below_is t a v f n x y ef en ex ey = rw (ef, en, ex, ey)
 
-module _ {t : List ℕ} (good : SoundFacts t) (a : List ℕ) (v : ℕ) (low : 1 ≤ v) (high : v ≤ nodeCount t) where
-  laid-other : (u : ℕ) → (u ≡ first_at t v → ⊥) → (u ≡ next_at t v → ⊥) → kept (laidBelow t a v) u ≡ kept a u
-  unfolding laidBelow
-  laid-other u p q = put_other _ (next_at t v) u _ q ∙ put_other a (first_at t v) u _ p
+module _ {t : List ℕ} (good : SoundFacts t) (a : List ℕ) (v : ℕ) (low : 1 ≤ v) (high : v ≤ node_count t) where
+  laid_other : (u : ℕ) → (u ≡ first_at t v → ⊥) → (u ≡ next_at t v → ⊥) → kept (laid_below t a v) u ≡ kept a u
+  unfolding laid_below
+  laid_other u p q = put_other _ (next_at t v) u _ q ∙ put_other a (first_at t v) u _ p
 
-  laid-self : (u : ℕ) → 1 ≤ u → u ≤ v → kept (laidBelow t a v) u ≡ kept a u
-  laid-self u l h =
-      laid-other u (λ q. omega (arith, first_step good v low high (omega arith)))
-      (λ q. omega (arith, next-later good v low high (omega arith)))
+  laid_self : (u : ℕ) → 1 ≤ u → u ≤ v → kept (laid_below t a v) u ≡ kept a u
+  laid_self u l h =
+      laid_other u (λ q. omega (arith, first_step good v low high (omega arith)))
+      (λ q. omega (arith, next_later good v low high (omega arith)))
 
-  laid_root : kept (laidBelow t a v) 1 ≡ kept a 1
-  laid_root = laid-self 1 (omega arith) low
+  laid_root : kept (laid_below t a v) 1 ≡ kept a 1
+  laid_root = laid_self 1 (omega arith) low
 
-  laid-here : nodeCount t ≤ length a → LinkMarks t (laidBelow t a v) v
-  unfolding laidBelow
-  laid-here long =
+  laid_here : node_count t ≤ length a → LinkMarks t (laid_below t a v) v
+  unfolding laid_below
+  laid_here long =
       record {
         first = λ l.
-            put_other _ (next_at t v) (first_at t v) _ (first-not-next good v v low high low high l)
-            ∙ put_same a (first_at t v) (pick (firstCutAt t v) 1 0) l (omega (arith, first-le good v low high));
+            put_other _ (next_at t v) (first_at t v) _ (first_not_next good v v low high low high l)
+            ∙ put_same a (first_at t v) (pick (first_cut_at t v) 1 0) l (omega (arith, first_le good v low high));
         next = λ l.
-            put_same (put a (first_at t v) (pick (firstCutAt t v) 1 0)) (next_at t v)
-            (pick (nextCutAt t v) 1 (uncutAfter (kept a v))) l
-            (omega (arith, length-put a (first_at t v) (pick (firstCutAt t v) 1 0), next_le good v low high))
-            ∙ ap (λ (k : ℕ). pick (nextCutAt t v) 1 (uncutAfter k)) (sym (laid-self v low (omega arith)));
+            put_same (put a (first_at t v) (pick (first_cut_at t v) 1 0)) (next_at t v)
+            (pick (next_cut_at t v) 1 (uncut_after (kept a v))) l
+            (omega (arith, length-put a (first_at t v) (pick (first_cut_at t v) 1 0), next_le good v low high))
+            ∙ ap (λ (k : ℕ). pick (next_cut_at t v) 1 (uncut_after k)) (sym (laid_self v low (omega arith)));
       }
 
-  laid-before : (u : ℕ) → 1 ≤ u → u < v → LinkMarks t a u → LinkMarks t (laidBelow t a v) u
-  laid-before u l h x =
+  laid_before : (u : ℕ) → 1 ≤ u → u < v → LinkMarks t a u → LinkMarks t (laid_below t a v) u
+  laid_before u l h x =
       record {
         first = λ p.
-            laid-other (first_at t u)
+            laid_other (first_at t u)
             (λ q. omega (arith, first_one good u v l (omega arith) low high p q))
-            (λ q. first-not-next good u v l (omega arith) low high p q)
+            (λ q. first_not_next good u v l (omega arith) low high p q)
             ∙ x.first p;
         next = λ p.
-            laid-other (next_at t u)
-            (λ q. first-not-next good v u low high l (omega arith) (omega arith) (sym q))
+            laid_other (next_at t u)
+            (λ q. first_not_next good v u low high l (omega arith) (omega arith) (sym q))
             (λ q. omega (arith, next_one good u v l (omega arith) low high p q))
             ∙ x.next p
-            ∙ ap (λ (k : ℕ). pick (nextCutAt t u) 1 (uncutAfter k)) (sym (laid-self u l (omega arith)));
+            ∙ ap (λ (k : ℕ). pick (next_cut_at t u) 1 (uncut_after k)) (sym (laid_self u l (omega arith)));
       }
 
 -- what is laid of the marks when the nodes up to v have given theirs
 pub record LinksMarked (t a : List ℕ) (v : ℕ) : Type 0 where
-  pub long : length a ≡ nodeCount t
+  pub long : length a ≡ node_count t
   pub root : kept a 1 ≡ 1
   pub links : Between 0 v (LinkMarks t a)
 
-pub links-start : (t a : List ℕ) → length a ≡ nodeCount t → 1 ≤ nodeCount t → LinksMarked t (set a 0 1) 0
-links-start t a long some =
+pub links_start : (t a : List ℕ) → length a ≡ node_count t → 1 ≤ node_count t → LinksMarked t (set a 0 1) 0
+links_start t a long some =
     record {
       long = simp length-set long;
       root = kept_same a 1 1 (omega arith) (omega arith);
       links = λ u low high. absurd (omega arith);
     }
 
-pub links-step : {t a : List ℕ} {v : ℕ} (a' : List ℕ) → SoundFacts t → LinksMarked t a v → v + 1 ≤ nodeCount t
-    → a' ≡ laidBelow t a (v + 1) → LinksMarked t a' (v + 1)
-unfolding laidBelow
-links-step {t} {a} {v} a' good x high e =
+pub links_step : {t a : List ℕ} {v : ℕ} (a' : List ℕ) → SoundFacts t → LinksMarked t a v → v + 1 ≤ node_count t
+    → a' ≡ laid_below t a (v + 1) → LinksMarked t a' (v + 1)
+unfolding laid_below
+links_step {t} {a} {v} a' good x high e =
     rw e
     (record {
       long = length-put _ (next_at t (v + 1)) _ ∙ length-put a (first_at t (v + 1)) _ ∙ x.long;
@@ -210,10 +210,10 @@ links-step {t} {a} {v} a' good x high e =
       links = λ u low top. go u low top (eqb u (v + 1)) refl;
     })
   where
-    go : (u : ℕ) → 0 < u → u ≤ v + 1 → (b : Bool) → eqb u (v + 1) ≡ b → LinkMarks t (laidBelow t a (v + 1)) u
+    go : (u : ℕ) → 0 < u → u ≤ v + 1 → (b : Bool) → eqb u (v + 1) ≡ b → LinkMarks t (laid_below t a (v + 1)) u
     go u low top true q =
         let same : u ≡ v + 1 = eqb-true u (v + 1) q in
-        rw same (laid-here good a (v + 1) (omega arith) high (omega (arith, x.long)))
+        rw same (laid_here good a (v + 1) (omega arith) high (omega (arith, x.long)))
     go u low top false q =
         let other : u ≡ v + 1 → ⊥ = eqb-false u (v + 1) q in
-        laid-before good a (v + 1) (omega arith) high u low (omega arith) (x.links u low (omega arith))
+        laid_before good a (v + 1) (omega arith) high u low (omega arith) (x.links u low (omega arith))

@@ -2,10 +2,10 @@
 -- scratch a node.
 -- Defines LayReady. Assumes nothing.
 use Rattle.std.specs.Prelude.{ℕ, ◌≤◌, ◌≡◌, List, length}
-use Rattle.model.specs.Table.{nodeCount}
+use Rattle.model.specs.Table.{node_count}
 use Rattle.theory.specs.TableFacts.{AcceptedFacts}
 
 pub record LayReady (t a s : List ℕ) : Type 0 where
   pub tree : AcceptedFacts t
-  pub marks-long : length a ≡ nodeCount t
-  pub long : nodeCount t ≤ length s
+  pub marks_long : length a ≡ node_count t
+  pub long : node_count t ≤ length s

@@ -3,12 +3,12 @@
 // next sibling their marks.
 ghost use Rattle.std.specs.Prelude.{◌≡◌, ◌+◌, ◌*◌, ◌≤◌, length};
 ghost use Rattle.model.specs.Basics.{pick};
-ghost use Rattle.model.specs.Table.{maxLimit, nodeCount, limitOf, tree_of};
-ghost use Rattle.model.specs.Steps.{pairMarks};
-ghost use Rattle.theory.specs.PairShape.{unlessCut};
+ghost use Rattle.model.specs.Table.{max_limit, node_count, limit_of, tree_of};
+ghost use Rattle.model.specs.Steps.{pair_marks};
+ghost use Rattle.theory.specs.PairShape.{unless_cut};
 ghost use Rattle.greedy.specs.Lent.{LayReady};
-ghost use Rattle.greedy.specs.PairSides.{leftFirst, leftCut, rightCut};
-ghost use Rattle.greedy.specs.PairMarks.{Rests, remainderAt, uncutAfter, put, laidBelow, PairReady, SidesAt};
+ghost use Rattle.greedy.specs.PairSides.{left_first, left_cut, right_cut};
+ghost use Rattle.greedy.specs.PairMarks.{Rests, remainder_at, uncut_after, put, laid_below, PairReady, SidesAt};
 
 use crate::kept::kept_at;
 use words::read::{first_at, limit_of, next_at, node_count, weight_at};
@@ -24,21 +24,21 @@ struct Sides {
 
 // The heavier side goes first, and of equal sides the left.
 fn goes_first(left: u32, right: u32) -> bool
-    ensures { result ≡ leftFirst left right }
+    ensures { result ≡ left_first left right }
 {
     right <= left
 }
 
 fn cuts_left(limit: u32, weight: u32, left: u32, right: u32) -> bool
-    requires { weight + left + right ≤ 3 * maxLimit }
-    ensures { result ≡ leftCut limit weight left right }
+    requires { weight + left + right ≤ 3 * max_limit }
+    ensures { result ≡ left_cut limit weight left right }
 {
     (limit < weight + left + right) & (goes_first(left, right) | (limit < weight + left))
 }
 
 fn cuts_right(limit: u32, weight: u32, left: u32, right: u32) -> bool
-    requires { weight + left + right ≤ 3 * maxLimit }
-    ensures { result ≡ rightCut limit weight left right }
+    requires { weight + left + right ≤ 3 * max_limit }
+    ensures { result ≡ right_cut limit weight left right }
 {
     (limit < weight + left + right) & (!goes_first(left, right) | (limit < weight + right))
 }
@@ -58,7 +58,7 @@ fn sides_at(table: &[u8], scratch: &[u32], v: u16) -> Sides
 
 // What is left of a side.
 fn unless_cut(cut: bool, rest: u32) -> u32
-    ensures { result ≡ unlessCut cut rest }
+    ensures { result ≡ unless_cut cut rest }
 {
     if cut { 0 } else { rest }
 }
@@ -66,7 +66,7 @@ fn unless_cut(cut: bool, rest: u32) -> u32
 // The remainder of the chain at node v.
 fn weigh_node(table: &[u8], scratch: &[u32], v: u16) -> u32
     requires { PairReady table.now scratch.now v }
-    ensures { result ≡ remainderAt table.now v }
+    ensures { result ≡ remainder_at table.now v }
 {
     let s = sides_at(table, scratch, v);
     let left = unless_cut(cuts_left(s.limit, s.weight, s.left, s.right), s.left);
@@ -76,7 +76,7 @@ fn weigh_node(table: &[u8], scratch: &[u32], v: u16) -> u32
 
 // The remainders of all nodes.
 fn weigh_nodes(table: &[u8], scratch: &mut [u32])
-    requires { Rests table.now scratch.old (nodeCount table.now) }
+    requires { Rests table.now scratch.old (node_count table.now) }
     ensures { Rests table.now scratch.new 0 }
 {
     let mut v = node_count(table);
@@ -95,7 +95,7 @@ fn mark_of(cut: bool, uncut: u8) -> u8
 
 // The mark of an uncut sibling after one with this mark.
 fn uncut_after(mark: u8) -> u8
-    ensures { result ≡ uncutAfter mark }
+    ensures { result ≡ uncut_after mark }
 {
     if mark == 0 { 0 } else { 2 }
 }
@@ -112,8 +112,8 @@ fn put_mark(marks: &mut [u8], v: u16, mark: u8)
 
 // Node v gives its first child and its next sibling their marks.
 fn lay_below(table: &[u8], marks: &mut [u8], scratch: &[u32], v: u16)
-    requires { PairReady table.now scratch.now v × (length marks.old ≡ nodeCount table.now) }
-    ensures { marks.new ≡ laidBelow table.now marks.old v }
+    requires { PairReady table.now scratch.now v × (length marks.old ≡ node_count table.now) }
+    ensures { marks.new ≡ laid_below table.now marks.old v }
 {
     let s = sides_at(table, scratch, v);
     let first = mark_of(cuts_left(s.limit, s.weight, s.left, s.right), 0);
@@ -127,8 +127,8 @@ fn lay_below(table: &[u8], marks: &mut [u8], scratch: &[u32], v: u16)
 
 // The marks of all nodes.
 fn lay_marks(table: &[u8], marks: &mut [u8], scratch: &[u32])
-    requires { Rests table.now scratch.now 0 × (length marks.old ≡ nodeCount table.now) }
-    ensures { marks.new ≡ pairMarks (limitOf table.now) (tree_of table.now) }
+    requires { Rests table.now scratch.now 0 × (length marks.old ≡ node_count table.now) }
+    ensures { marks.new ≡ pair_marks (limit_of table.now) (tree_of table.now) }
 {
     marks[0] = 1;
     let nodes = node_count(table);
@@ -142,7 +142,7 @@ fn lay_marks(table: &[u8], marks: &mut [u8], scratch: &[u32])
 // The plan of an accepted tree.
 pub fn lay_pair(table: &[u8], marks: &mut [u8], scratch: &mut [u32])
     requires { LayReady table.now marks.old scratch.old }
-    ensures { marks.new ≡ pairMarks (limitOf table.now) (tree_of table.now) }
+    ensures { marks.new ≡ pair_marks (limit_of table.now) (tree_of table.now) }
 {
     weigh_nodes(table, scratch);
     lay_marks(table, marks, scratch);

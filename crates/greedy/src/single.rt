@@ -1,12 +1,12 @@
 // The single planner: nodes from the last to the first, each with its children cut, the heaviest first, until it is
 // within the limit.
 ghost use Rattle.std.specs.Prelude.{◌≡◌, ◌≤◌};
-ghost use Rattle.model.specs.Table.{limitOf, tree_of};
-ghost use Rattle.model.specs.Steps.{singleMarks};
-ghost use Rattle.theory.specs.TableChain.{chainAt};
+ghost use Rattle.model.specs.Table.{limit_of, tree_of};
+ghost use Rattle.model.specs.Steps.{single_marks};
+ghost use Rattle.theory.specs.TableChain.{chain_at};
 ghost use Rattle.greedy.specs.SingleMembers.{rest_at};
 ghost use Rattle.greedy.specs.SingleSettled.{Settled};
-ghost use Rattle.greedy.specs.SingleCuts.{ScanReady, Heaviest, CutReady, CutDone, SettleReady, mostSum};
+ghost use Rattle.greedy.specs.SingleCuts.{ScanReady, Heaviest, CutReady, CutDone, SettleReady, most_sum};
 ghost use Rattle.greedy.specs.Lent.{LayReady};
 
 use crate::kept::kept_at;
@@ -15,8 +15,8 @@ use words::read::{first_at, limit_of, next_at, node_count, weight_at};
 // What the siblings from node v on weigh.
 fn sum_rests(table: &[u8], scratch: &[u32], v: u16) -> u32
     requires { ScanReady table.now scratch.now v
-        × (rest_at table.now scratch.now v (chainAt table.now v) ≤ mostSum) }
-    ensures { result ≡ rest_at table.now scratch.now v (chainAt table.now v) }
+        × (rest_at table.now scratch.now v (chain_at table.now v) ≤ most_sum) }
+    ensures { result ≡ rest_at table.now scratch.now v (chain_at table.now v) }
 {
     let mut sum: u32 = 0;
     let mut u = v;
@@ -76,7 +76,7 @@ fn settle(table: &[u8], marks: &mut [u8], scratch: &mut [u32], v: u16)
 // The plan of an accepted tree.
 pub fn lay_single(table: &[u8], marks: &mut [u8], scratch: &mut [u32])
     requires { LayReady table.now marks.old scratch.old }
-    ensures { marks.new ≡ singleMarks (limitOf table.now) (tree_of table.now) }
+    ensures { marks.new ≡ single_marks (limit_of table.now) (tree_of table.now) }
 {
     let mut v = node_count(table);
     while v != 0 {

@@ -3,8 +3,8 @@ mod heavy;
 
 ghost use Rattle.std.specs.Prelude.{◌≡◌};
 ghost use Rattle.model.specs.Basics.{at_place};
-ghost use Rattle.model.specs.Plan.{verdictOf};
-ghost use Rattle.model.specs.Refusals.{answer_of, judgeBy, judgePlan};
+ghost use Rattle.model.specs.Plan.{verdict_of};
+ghost use Rattle.model.specs.Refusals.{answer_of, judge_by, judge_plan};
 ghost use Rattle.model.specs.Demand.{JudgePromise};
 ghost use Rattle.theory.specs.TableFacts.{AcceptedFacts};
 ghost use Rattle.layout.specs.Rows.{Cleared, IsLayout, layout_of};
@@ -71,7 +71,7 @@ pub fn judge_made(
     weights: &mut [u32; SLOTS],
 ) -> Judgement
     requires { AcceptedFacts table.now × Cleared rows.old weights.old }
-    ensures answer_value { result.answer ≡ answer_of (verdictOf table.now marks.now) }
+    ensures answer_value { result.answer ≡ answer_of (verdict_of table.now marks.now) }
     ensures layout { IsLayout table.now marks.now
         (layout_of rows.new weights.new result.pages) }
 {
@@ -88,7 +88,7 @@ pub fn judge_made(
 // The same, for whoever wants the answer alone.
 pub fn judge_answer(table: &[u8], marks: &[u8]) -> Answer
     requires { AcceptedFacts table.now }
-    ensures { result ≡ answer_of (verdictOf table.now marks.now) }
+    ensures { result ≡ answer_of (verdict_of table.now marks.now) }
 {
     let mut rows = [[0u16; SLOTS]; ROWS];
     let mut weights = [0u32; SLOTS];
@@ -120,7 +120,7 @@ pub fn judge_pages(
     weights: &mut [u32; SLOTS],
 ) -> Judgement
     requires { Cleared rows.old weights.old }
-    ensures answer_value { result.answer ≡ judgeBy (record { filed = filed }) table.now marks.now }
+    ensures answer_value { result.answer ≡ judge_by (record { filed = filed }) table.now marks.now }
     ensures laid_beside { LaidBeside filed table.now marks.now result.answer
         (layout_of rows.new weights.new result.pages) }
 {
@@ -136,7 +136,7 @@ pub fn judge_pages(
 
 // Entry: the judge of plans.
 pub fn judge_plan(table: &[u8], marks: &[u8]) -> Answer
-    ensures value { result ≡ judgePlan table.now marks.now }
+    ensures value { result ≡ judge_plan table.now marks.now }
     ensures judge_promise { JudgePromise table.now marks.now result }
 {
     let given = check_given(true, table, marks);

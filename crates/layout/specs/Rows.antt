@@ -1,22 +1,22 @@
 -- What the arrays of a layout hold, what the pass over a plan finds, whatever the judge says of it, and what is known
 -- of the layout of a feasible plan; and the test of a mark by numbers.
--- Defines goodCase, Layout, layout_of, Cleared, IsLayout, LightPages, FeasibleLayout. Proves feasible-layout. Assumes
+-- Defines good_case, Layout, layout_of, Cleared, IsLayout, LightPages, FeasibleLayout. Proves feasible_layout. Assumes
 -- nothing.
 use Rattle.std.specs.Prelude.{ℕ, ◌≤◌, ◌<◌, ◌≡◌, Bool, not, ◌&&◌, ◌||◌, List, [], get_or, replicate, eqb}
 use Rattle.std.proofs.Common.{arith}
 use Rattle.model.specs.Basics.{pick}
-use Rattle.model.specs.Table.{maxNodes, maxLimit, slots, nodeCount, limitOf}
-use Rattle.model.specs.Plan.{parentAt, page_of, pageWeight, pageCount, badMark}
-use Rattle.model.specs.Runs.{pageRun}
+use Rattle.model.specs.Table.{max_nodes, max_limit, slots, node_count, limit_of}
+use Rattle.model.specs.Plan.{parent_at, page_of, page_weight, page_count, bad_mark}
+use Rattle.model.specs.Runs.{page_run}
 use Rattle.model.specs.declared.Place.TheVariants.{Nowhere}
 use Rattle.theory.specs.Ranges.{Upto}
 use Rattle.theory.specs.Slots.{Row}
-use Rattle.theory.specs.JudgeAnswers.{pageCount-le}
-use Rattle.theory.specs.PlanFeasible.{Judged, within-limit}
+use Rattle.theory.specs.JudgeAnswers.{page_count_le}
+use Rattle.theory.specs.PlanFeasible.{Judged, within_limit_lem}
 
--- what goodMark says of node v, by v's mark, the sibling before it, and that one's mark
-unfoldable pub goodCase : ℕ → ℕ → ℕ → ℕ → Bool
-goodCase v mark before prior =
+-- what good_mark says of node v, by v's mark, the sibling before it, and that one's mark
+unfoldable pub good_case : ℕ → ℕ → ℕ → ℕ → Bool
+good_case v mark before prior =
     pick (eqb v 1) (eqb mark 1)
     (pick (eqb mark 2) (not (eqb before 0) && (eqb prior 1 || eqb prior 2)) (eqb mark 0 || eqb mark 1))
 
@@ -47,59 +47,59 @@ Cleared rows weights = (rows ≡ replicate 4 (replicate slots 0)) × (weights �
 
 -- what the plan m makes of the tree t
 pub record IsLayout (t m : List ℕ) (r : Layout) : Type 0 where
-  pub parents-are : Row (nodeCount t) (parentAt t) r.parents
-  pub page-is : Row (nodeCount t) (page_of t m) r.page
-  pub firsts-are : badMark t m ≡ Nowhere → Row (pageCount t m) (λ p. (pageRun t m p).first) r.firsts
-  pub lasts_are : badMark t m ≡ Nowhere → Row (pageCount t m) (λ p. (pageRun t m p).last) r.lasts
-  pub weights-are : (p : ℕ) → p < slots → get_or r.weights p 0 ≡ pageWeight t m p
-  pub pages-are : r.pages ≡ pageCount t m
+  pub parents_are : Row (node_count t) (parent_at t) r.parents
+  pub page_is : Row (node_count t) (page_of t m) r.page
+  pub firsts_are : bad_mark t m ≡ Nowhere → Row (page_count t m) (λ p. (page_run t m p).first) r.firsts
+  pub lasts_are : bad_mark t m ≡ Nowhere → Row (page_count t m) (λ p. (page_run t m p).last) r.lasts
+  pub weights_are : (p : ℕ) → p < slots → get_or r.weights p 0 ≡ page_weight t m p
+  pub pages_are : r.pages ≡ page_count t m
 
 -- as many pages as there are slots for, none over the limit
 pub record LightPages (weights : List ℕ) (pages limit : ℕ) : Type 0 where
   pub few : pages < slots
   pub low : 1 ≤ limit
-  pub high : limit ≤ maxLimit
+  pub high : limit ≤ max_limit
   pub within : Upto pages (λ p. get_or weights p 0 ≤ limit)
 
 -- the layout of a feasible plan, and what is known of it
 pub record FeasibleLayout (t m : List ℕ) (l : Layout) : Type 0 where
   pub judged : Judged t m
-  pub parents-are : Row (nodeCount t) (parentAt t) l.parents
-  pub page-is : Row (nodeCount t) (page_of t m) l.page
-  pub firsts-are : Row (pageCount t m) (λ p. (pageRun t m p).first) l.firsts
-  pub lasts_are : Row (pageCount t m) (λ p. (pageRun t m p).last) l.lasts
-  pub weights-are : Row (pageCount t m) (pageWeight t m) l.weights
-  pub root_is : get_or l.weights 1 0 ≡ pageWeight t m 1
-  pub pages-are : l.pages ≡ pageCount t m
-  pub pages-most : pageCount t m ≤ maxNodes
-  pub light : LightPages l.weights l.pages (limitOf t)
+  pub parents_are : Row (node_count t) (parent_at t) l.parents
+  pub page_is : Row (node_count t) (page_of t m) l.page
+  pub firsts_are : Row (page_count t m) (λ p. (page_run t m p).first) l.firsts
+  pub lasts_are : Row (page_count t m) (λ p. (page_run t m p).last) l.lasts
+  pub weights_are : Row (page_count t m) (page_weight t m) l.weights
+  pub root_is : get_or l.weights 1 0 ≡ page_weight t m 1
+  pub pages_are : l.pages ≡ page_count t m
+  pub pages_most : page_count t m ≤ max_nodes
+  pub light : LightPages l.weights l.pages (limit_of t)
 
-pub feasible-layout : {t m : List ℕ} {l : Layout} → Judged t m → IsLayout t m l → FeasibleLayout t m l
-feasible-layout {t} {m} {l} j is =
+pub feasible_layout : {t m : List ℕ} {l : Layout} → Judged t m → IsLayout t m l → FeasibleLayout t m l
+feasible_layout {t} {m} {l} j is =
     record {
       judged = j;
-      parents-are = is.parents-are;
-      page-is = is.page-is;
-      firsts-are = is.firsts-are j.marked;
+      parents_are = is.parents_are;
+      page_is = is.page_is;
+      firsts_are = is.firsts_are j.marked;
       lasts_are = is.lasts_are j.marked;
-      weights-are = weights;
-      root_is = is.weights-are 1 (omega arith);
-      pages-are = is.pages-are;
-      pages-most = most;
+      weights_are = weights;
+      root_is = is.weights_are 1 (omega arith);
+      pages_are = is.pages_are;
+      pages_most = most;
       light =
           record {
-            few = omega (arith, is.pages-are, most);
-            low = j.tree.sound.limit-low;
-            high = j.tree.sound.limit-high;
+            few = omega (arith, is.pages_are, most);
+            low = j.tree.sound.limit_low;
+            high = j.tree.sound.limit_high;
             within =
                 λ p low high.
-                let upto : p ≤ pageCount t m = omega (arith, is.pages-are) in
-                omega (arith, weights p low upto, within-limit j p low upto);
+                let upto : p ≤ page_count t m = omega (arith, is.pages_are) in
+                omega (arith, weights p low upto, within_limit_lem j p low upto);
           };
     }
   where
-    most : pageCount t m ≤ maxNodes
-    most = omega (arith, pageCount-le t m, j.tree.sound.count-high)
+    most : page_count t m ≤ max_nodes
+    most = omega (arith, page_count_le t m, j.tree.sound.count_high)
 
-    weights : Row (pageCount t m) (pageWeight t m) l.weights
-    weights p low high = is.weights-are p (omega (arith, most))
+    weights : Row (page_count t m) (page_weight t m) l.weights
+    weights p low high = is.weights_are p (omega (arith, most))

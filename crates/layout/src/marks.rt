@@ -1,11 +1,11 @@
 // The marks of a plan, and the test of one.
 ghost use Rattle.std.specs.Prelude.{◌≡◌};
-ghost use Rattle.model.specs.Plan.{markAt};
-ghost use Rattle.layout.specs.Rows.{goodCase};
+ghost use Rattle.model.specs.Plan.{mark_at};
+ghost use Rattle.layout.specs.Rows.{good_case};
 
 // The mark of node v; what lies past the end reads as 0.
 pub fn mark_at(marks: &[u8], v: u16) -> u8
-    ensures { result ≡ markAt marks.now v }
+    ensures { result ≡ mark_at marks.now v }
 {
     let before = if v == 0 { 0 } else { v - 1 };
     let i = before as usize;
@@ -14,7 +14,7 @@ pub fn mark_at(marks: &[u8], v: u16) -> u8
 
 // Node 1 has 1. A 2 needs a sibling just before it with 1 or 2.
 pub fn is_good(v: u16, mark: u8, before: u16, prior: u8) -> bool
-    ensures { result ≡ goodCase v mark before prior }
+    ensures { result ≡ good_case v mark before prior }
 {
     if v == 1 {
         return mark == 1;

@@ -2,7 +2,7 @@
 // mark that is not allowed.
 ghost use Rattle.std.specs.Prelude.{◌≡◌, not, eqb};
 ghost use Rattle.model.specs.Basics.{pick, when};
-ghost use Rattle.model.specs.Plan.{badMark};
+ghost use Rattle.model.specs.Plan.{bad_mark};
 ghost use Rattle.theory.specs.TableFacts.{AcceptedFacts};
 ghost use Rattle.layout.specs.Rows.{Cleared, IsLayout, layout_of};
 
@@ -48,7 +48,7 @@ pub fn lay_pages(
     requires { AcceptedFacts table.now × Cleared rows.old weights.old }
     ensures layout { IsLayout table.now marks.now
         (layout_of rows.new weights.new result.pages) }
-    ensures bad_value { when (not (eqb result.bad 0)) result.bad ≡ badMark table.now marks.now }
+    ensures bad_value { when (not (eqb result.bad 0)) result.bad ≡ bad_mark table.now marks.now }
 {
     let nodes = node_count(table);
     let mut before = [0u16; SLOTS];

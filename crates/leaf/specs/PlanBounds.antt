@@ -1,6 +1,6 @@
 -- Plans by shape, as a type with bounds: what stays on the parent's page, what goes to the run before, and how many
 -- pages begin, each at most. A plan of a chain without a new leaf from one with it, and with it from one without.
--- Defines Added, Plan, PlanMarks. Proves added-size, added-light; shrink, grow; plan-of, plan-marks (marks and such
+-- Defines Added, Plan, PlanMarks. Proves added_size, added_light; shrink, grow; plan_of, plan_marks (marks and such
 -- plans say the same). Assumes nothing.
 use Prim.Native.Nat.{ℕ, zero, suc, ◌+◌, ◌≤◌}
 use Rattle.std.specs.Prelude.{◌≡◌, Bool, true, false, List, [], ◌∷◌, ◌++◌, length, drop}
@@ -8,31 +8,31 @@ use Rattle.std.proofs.lemmas.Bool.{false≢true}
 use Rattle.std.proofs.Common.{arith, le_refl, length-append}
 use Rattle.std.proofs.Math.Nat.{suc-le-suc_iff}
 use Rattle.model.specs.Table.{Chain, end, node}
-use Rattle.theory.specs.Bools.{three-true}
-use Rattle.theory.specs.PlanShape.{size, runs, allowedMark, allowed, Weights, joined, weighed, AllWithin}
+use Rattle.theory.specs.Bools.{three_true}
+use Rattle.theory.specs.PlanShape.{size, runs, allowed_mark, allowed, Weights, joined, weighed, AllWithin}
 use Rattle.theory.specs.PlanShape.{EachWithin}
-use Rattle.theory.specs.PlanWeighs.{Weighs, all-within-left, all-within-right, weighs-end, weighs-stays}
-use Rattle.theory.specs.PlanWeighs.{weighs-begins, weighs-continues}
+use Rattle.theory.specs.PlanWeighs.{Weighs, all_within_left, all_within_right, weighs_end, weighs_stays}
+use Rattle.theory.specs.PlanWeighs.{weighs_begins, weighs_continues}
 
 -- d is c with a leaf of weight w and label l put in after the last of some chain of siblings of it
 pub data Added (w l : ℕ) : Chain → Chain → Type 0 where
-  atEnd : Added w l end (node w l end end)
-  inNext : {x y : ℕ} {kids next next' : Chain} → Added w l next next'
+  at_end : Added w l end (node w l end end)
+  in_next : {x y : ℕ} {kids next next' : Chain} → Added w l next next'
       → Added w l (node x y kids next) (node x y kids next')
-  inKids : {x y : ℕ} {kids kids' next : Chain} → Added w l kids kids'
+  in_kids : {x y : ℕ} {kids kids' next : Chain} → Added w l kids kids'
       → Added w l (node x y kids next) (node x y kids' next)
 
-pub added-size : {w l : ℕ} {c d : Chain} → Added w l c d → size d ≡ suc (size c)
+pub added_size : {w l : ℕ} {c d : Chain} → Added w l c d → size d ≡ suc (size c)
 unfolding size
-added-size atEnd = omega arith
-added-size (inNext a) = omega (arith, added-size a)
-added-size (inKids a) = omega (arith, added-size a)
+added_size at_end = omega arith
+added_size (in_next a) = omega (arith, added_size a)
+added_size (in_kids a) = omega (arith, added_size a)
 
-pub added-light : {w l : ℕ} {c d : Chain} (K : ℕ) → Added w l c d → EachWithin K d → w ≤ K
+pub added_light : {w l : ℕ} {c d : Chain} (K : ℕ) → Added w l c d → EachWithin K d → w ≤ K
 unfolding EachWithin
-added-light K atEnd h = h.0
-added-light K (inNext a) h = added-light K a h.2
-added-light K (inKids a) h = added-light K a h.1
+added_light K at_end h = h.0
+added_light K (in_next a) h = added_light K a h.2
+added_light K (in_kids a) h = added_light K a h.1
 
 -- some plan of the chain leaves at most s on the parent's page, carries at most e to the run before it, and begins at
 -- most p pages, each within K
@@ -48,13 +48,13 @@ pub data Plan (K : ℕ) : Bool → Chain → ℕ → ℕ → ℕ → Type 0 wher
 -- the leaf taken out
 pub shrink : {K w l s e p : ℕ} {after : Bool} {c d : Chain} → Added w l c d → Plan K after d s e p
     → Plan K after c s e p
-shrink atEnd q = empty
-shrink (inNext a) (stays k n h i) = stays k (shrink a n) h i
-shrink (inNext a) (begins k n h i j) = begins k (shrink a n) h i j
-shrink (inNext a) (continues k n h i j) = continues k (shrink a n) h i j
-shrink (inKids a) (stays k n h i) = stays (shrink a k) n h i
-shrink (inKids a) (begins k n h i j) = begins (shrink a k) n h i j
-shrink (inKids a) (continues k n h i j) = continues (shrink a k) n h i j
+shrink at_end q = empty
+shrink (in_next a) (stays k n h i) = stays k (shrink a n) h i
+shrink (in_next a) (begins k n h i j) = begins k (shrink a n) h i j
+shrink (in_next a) (continues k n h i j) = continues k (shrink a n) h i j
+shrink (in_kids a) (stays k n h i) = stays (shrink a k) n h i
+shrink (in_kids a) (begins k n h i j) = begins (shrink a k) n h i j
+shrink (in_kids a) (continues k n h i j) = continues (shrink a k) n h i j
 
 -- a leaf on a page of its own
 alone : {K w l s e p : ℕ} {after : Bool} → w ≤ K → Plan K after (node w l end end) s e (suc p)
@@ -65,13 +65,13 @@ alone {K} {w} {l} {s} {e} {p} f =
 -- the leaf put in, on a page of its own
 pub grow : {K w l s e p : ℕ} {after : Bool} {c d : Chain} → Added w l c d → w ≤ K → Plan K after c s e p
     → Plan K after d s e (suc p)
-grow atEnd f q = alone f
-grow {p = p} (inNext a) f (stays k n h i) = stays {p = suc p} k (grow a f n) h (omega arith)
-grow {p = p} (inNext a) f (begins k n h i j) = begins {p = suc p} k (grow a f n) h i (omega arith)
-grow {p = p} (inNext a) f (continues k n h i j) = continues {p = suc p} k (grow a f n) h i (omega arith)
-grow {p = p} (inKids a) f (stays k n h i) = stays {p = suc p} (grow a f k) n h (omega arith)
-grow {p = p} (inKids a) f (begins k n h i j) = begins {p = suc p} (grow a f k) n h i (omega arith)
-grow {p = p} (inKids a) f (continues k n h i j) = continues {p = suc p} (grow a f k) n h i (omega arith)
+grow at_end f q = alone f
+grow {p = p} (in_next a) f (stays k n h i) = stays {p = suc p} k (grow a f n) h (omega arith)
+grow {p = p} (in_next a) f (begins k n h i j) = begins {p = suc p} k (grow a f n) h i (omega arith)
+grow {p = p} (in_next a) f (continues k n h i j) = continues {p = suc p} k (grow a f n) h i (omega arith)
+grow {p = p} (in_kids a) f (stays k n h i) = stays {p = suc p} (grow a f k) n h (omega arith)
+grow {p = p} (in_kids a) f (begins k n h i j) = begins {p = suc p} (grow a f k) n h i (omega arith)
+grow {p = p} (in_kids a) f (continues k n h i j) = continues {p = suc p} (grow a f k) n h i (omega arith)
 
 -- ---- A plan of marks
 
@@ -80,37 +80,37 @@ abbrev Of : ℕ → Bool → Chain → Weights → Type 0
 Of K after c x = Plan K after c x.stay x.carry (length x.pages)
 
 module _ (K w l : ℕ) (kids next : Chain) (a b : Weights) where
-  both-few : length a.pages + length b.pages ≤ length (a.pages ++ b.pages)
-  both-few = simp length-append (omega arith)
+  both_few : length a.pages + length b.pages ≤ length (a.pages ++ b.pages)
+  both_few = simp length-append (omega arith)
 
   -- a node by its mark, from plans of its children and of the siblings after it
-  marked : (after : Bool) (k : ℕ) → allowedMark after k ≡ true → AllWithin K (joined k w a b).pages
+  marked : (after : Bool) (k : ℕ) → allowed_mark after k ≡ true → AllWithin K (joined k w a b).pages
       → (AllWithin K a.pages → Of K false kids a) → (AllWithin K b.pages → Of K (runs k) next b)
       → Of K after (node w l kids next) (joined k w a b)
-  unfolding allowedMark runs joined AllWithin
+  unfolding allowed_mark runs joined AllWithin
   marked after zero m h p q =
-      stays (p (all-within-left K a.pages b.pages h)) (q (all-within-right K a.pages b.pages h)) (le_refl _)
-      both-few
+      stays (p (all_within_left K a.pages b.pages h)) (q (all_within_right K a.pages b.pages h)) (le_refl _)
+      both_few
   marked after (suc zero) m h p q =
-      begins (p (all-within-left K a.pages b.pages h.1)) (q (all-within-right K a.pages b.pages h.1))
-      h.0 (le_refl _) (suc-le-suc_iff.1 both-few)
+      begins (p (all_within_left K a.pages b.pages h.1)) (q (all_within_right K a.pages b.pages h.1))
+      h.0 (le_refl _) (suc-le-suc_iff.1 both_few)
   marked after (suc (suc zero)) m h p q =
       rw m
-      (continues (p (all-within-left K a.pages b.pages h)) (q (all-within-right K a.pages b.pages h))
-      (le_refl _) (le_refl _) both-few)
+      (continues (p (all_within_left K a.pages b.pages h)) (q (all_within_right K a.pages b.pages h))
+      (le_refl _) (le_refl _) both_few)
   marked after (suc (suc (suc k))) m h p q = absurd (false≢true m)
 
-pub plan-of : (K : ℕ) (after : Bool) (c : Chain) (ms : List ℕ) → allowed after c ms ≡ true
+pub plan_of : (K : ℕ) (after : Bool) (c : Chain) (ms : List ℕ) → allowed after c ms ≡ true
     → AllWithin K (weighed c ms).pages
     → Plan K after c (weighed c ms).stay (weighed c ms).carry (length (weighed c ms).pages)
 unfolding allowed weighed
-plan-of K after end ms m h = empty
-plan-of K after (node w l kids next) [] m h = absurd (false≢true m)
-plan-of K after (node w l kids next) (k ∷ ms) m h =
+plan_of K after end ms m h = empty
+plan_of K after (node w l kids next) [] m h = absurd (false≢true m)
+plan_of K after (node w l kids next) (k ∷ ms) m h =
     let rest : List ℕ = drop (size kids) ms in
-    let fine = three-true (allowedMark after k) (allowed false kids ms) (allowed (runs k) next rest) m in
+    let fine = three_true (allowed_mark after k) (allowed false kids ms) (allowed (runs k) next rest) m in
     marked K w l kids next (weighed kids ms) (weighed next rest) after k fine.0 h
-    (plan-of K false kids ms fine.1) (plan-of K (runs k) next rest fine.2)
+    (plan_of K false kids ms fine.1) (plan_of K (runs k) next rest fine.2)
 
 -- ---- Marks of a plan
 
@@ -139,20 +139,20 @@ within w light carried few =
       few = few;
     }
 
-pub plan-marks : {K s e p : ℕ} {after : Bool} {c : Chain} → Plan K after c s e p → PlanMarks K after c s e p
-plan-marks {K} {after = after} empty = within (weighs-end K after) (omega arith) (omega arith) (omega arith)
-plan-marks {after = after} (stays {w = w} {l = l} {kids = kids} {next = next} k n h i) =
-    let a = plan-marks k in
-    let b = plan-marks n in
-    within (weighs-stays w l kids next a.marks b.marks after a.weighs b.weighs) (omega arith) (omega arith)
+pub plan_marks : {K s e p : ℕ} {after : Bool} {c : Chain} → Plan K after c s e p → PlanMarks K after c s e p
+plan_marks {K} {after = after} empty = within (weighs_end K after) (omega arith) (omega arith) (omega arith)
+plan_marks {after = after} (stays {w = w} {l = l} {kids = kids} {next = next} k n h i) =
+    let a = plan_marks k in
+    let b = plan_marks n in
+    within (weighs_stays w l kids next a.marks b.marks after a.weighs b.weighs) (omega arith) (omega arith)
     (omega arith)
-plan-marks {after = after} (begins {w = w} {l = l} {kids = kids} {next = next} k n h i j) =
-    let a = plan-marks k in
-    let b = plan-marks n in
-    within (weighs-begins w l kids next a.marks b.marks after a.weighs b.weighs (omega arith)) (omega arith)
+plan_marks {after = after} (begins {w = w} {l = l} {kids = kids} {next = next} k n h i j) =
+    let a = plan_marks k in
+    let b = plan_marks n in
+    within (weighs_begins w l kids next a.marks b.marks after a.weighs b.weighs (omega arith)) (omega arith)
     (omega arith) (omega arith)
-plan-marks (continues {w = w} {l = l} {kids = kids} {next = next} k n h i j) =
-    let a = plan-marks k in
-    let b = plan-marks n in
-    within (weighs-continues w l kids next a.marks b.marks a.weighs b.weighs) (omega arith) (omega arith)
+plan_marks (continues {w = w} {l = l} {kids = kids} {next = next} k n h i j) =
+    let a = plan_marks k in
+    let b = plan_marks n in
+    within (weighs_continues w l kids next a.marks b.marks a.weighs b.weighs) (omega arith) (omega arith)
     (omega arith)

@@ -4,7 +4,7 @@ mod rows;
 
 ghost use Rattle.std.specs.Prelude.{◌≡◌, not, eqb, ltb};
 ghost use Rattle.model.specs.Basics.{when, at_place};
-ghost use Rattle.model.specs.Refusals.{refused, accepted, parentChecks, first_of, outcome, addLeaf};
+ghost use Rattle.model.specs.Refusals.{refused, accepted, parent_checks, first_of, outcome, add_leaf};
 ghost use Rattle.model.specs.Demand.{LeafPromise};
 
 use below::{last_child, leaf_number};
@@ -15,7 +15,7 @@ use words::read::{limit_of, node_count};
 
 // The tree, and 16: it has no room for one node more, or no node of this number.
 fn check_parent(table: &[u8], node: u32) -> Answer
-    ensures { result ≡ first_of (parentChecks table.now node) accepted }
+    ensures { result ≡ first_of (parent_checks table.now node) accepted }
 {
     let tree = read_tree(table);
     if tree.number != 0 {
@@ -47,7 +47,7 @@ fn check_leaf(limit: u16, number: u16, weight: u16, label: u16, size: u32, lengt
 // 16, then 14 and 7 of the leaf, and 12. Under the same limit the leaf costs one page at most.
 pub fn add_leaf(table: &[u8], node: u32, weight: u16, label: u16, out: &mut [u8]) -> Answer
     ensures out_after { outcome result out.new
-        ≡ addLeaf table.now node weight label out.old }
+        ≡ add_leaf table.now node weight label out.old }
     ensures leaf_promise { LeafPromise table.now node weight label out.old result out.new }
 {
     let named = check_parent(table, node);

@@ -28,9 +28,9 @@ unfoldable pub count_to : ℕ → (ℕ → Bool) → ℕ
 count_to n p = sum_to n (λ v. pick (p v) 1 0)
 
 -- the first of 1 to n that passes the test
-unfoldable pub firstTo : ℕ → (ℕ → Bool) → Place
-firstTo zero p = Nowhere
-firstTo (suc n) p = at_place (firstTo n p) At (when (p (suc n)) (suc n))
+unfoldable pub first_to : ℕ → (ℕ → Bool) → Place
+first_to zero p = Nowhere
+first_to (suc n) p = at_place (first_to n p) At (when (p (suc n)) (suc n))
 
 -- the last of 1 to n that passes the test, or 0
 unfoldable pub last_to : ℕ → (ℕ → Bool) → ℕ
@@ -38,9 +38,9 @@ last_to zero p = 0
 last_to (suc n) p = pick (p (suc n)) (suc n) (last_to n p)
 
 -- f 1 ++ f 2 ++ .. ++ f n
-unfoldable pub listTo {ℓ} : {X : Type ℓ} → ℕ → (ℕ → List X) → List X
-listTo zero f = []
-listTo (suc n) f = listTo n f ++ f (suc n)
+unfoldable pub list_to {ℓ} : {X : Type ℓ} → ℕ → (ℕ → List X) → List X
+list_to zero f = []
+list_to (suc n) f = list_to n f ++ f (suc n)
 
 -- every element passes the test
 unfoldable pub every {ℓ} : {X : Type ℓ} → (X → Bool) → List X → Bool

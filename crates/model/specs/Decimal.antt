@@ -5,13 +5,13 @@ use Prim.Native.String.{String, [] as ε, ◌∷◌ as ◌∷ˢ◌}
 use Rattle.model.specs.Basics.{pick}
 
 -- a number in decimal, of at most f digits, with no zero in front
-unfoldable pub decimalTo : ℕ → ℕ → List ℕ
-decimalTo zero n = []
-decimalTo (suc f) n = pick (ltb n 10) ((48 + n) ∷ []) (decimalTo f (n / 10) ++ ((48 + n % 10) ∷ []))
+unfoldable pub decimal_to : ℕ → ℕ → List ℕ
+decimal_to zero n = []
+decimal_to (suc f) n = pick (ltb n 10) ((48 + n) ∷ []) (decimal_to f (n / 10) ++ ((48 + n % 10) ∷ []))
 
 -- ten digits hold every number of 32 bits
 unfoldable pub decimal : ℕ → List ℕ
-decimal n = decimalTo 10 n
+decimal n = decimal_to 10 n
 
 -- the bytes of a text, a byte a character
 abbrev pub bytes : String → List ℕ

@@ -2,15 +2,15 @@
 -- entry in their order, and for each entry its answer and every lent buffer left behind, as one definition of all it
 -- was lent.
 use Rattle.std.specs.Prelude.{ℕ, ◌+◌, ◌*◌, Bool, true, false, not, ◌&&◌, ◌||◌, List, [], ◌∷◌, ◌++◌, ℤ, pos, length, replicate, eqb, ltb, leb}
-use Rattle.model.specs.Basics.{pick, when, at_place, firstTo, same_list}
-use Rattle.model.specs.Table.{maxNodes, maxLimit, nodeCount, limitOf, weightAt, labelAt, tableBytes, walkPlace}
+use Rattle.model.specs.Basics.{pick, when, at_place, first_to, same_list}
+use Rattle.model.specs.Table.{max_nodes, max_limit, node_count, limit_of, weight_at, label_at, table_bytes, walk_place}
 use Rattle.model.specs.Table.{Chain, tree_of}
-use Rattle.model.specs.Leaf.{leafNumber, leafTable}
-use Rattle.model.specs.Plan.{badMark, heavyPage, pageCount, verdictOf}
-use Rattle.model.specs.Steps.{bestMarks, levelMarks, singleMarks, pairMarks, rightmostMarks, depthFirstMarks}
-use Rattle.model.specs.Archive.{archiveOf, archiveBytes, nodesIn, tableIn, marksIn}
-use Rattle.model.specs.Sheets.{sheetBytes, sheetCount, sheetsOf}
-use Rattle.model.specs.Prices.{totalCents, savingOf}
+use Rattle.model.specs.Leaf.{leaf_number, leaf_table}
+use Rattle.model.specs.Plan.{bad_mark, heavy_page, page_count, verdict_of}
+use Rattle.model.specs.Steps.{best_marks, level_marks, single_marks, pair_marks, rightmost_marks, depth_first_marks}
+use Rattle.model.specs.Archive.{archive_of, archive_bytes, nodes_in, table_in, marks_in}
+use Rattle.model.specs.Sheets.{sheet_bytes, sheet_count, sheets_of}
+use Rattle.model.specs.Prices.{total_cents, saving_of}
 use Rattle.model.specs.declared.Place.{Place}
 use Rattle.model.specs.declared.Place.TheVariants.{Nowhere}
 use Rattle.model.specs.declared.Cause.TheVariants.{BadMark, HeavyPage}
@@ -27,16 +27,16 @@ pub record Rules : Type 0 where
   pub filed : Bool
 
 -- of what is handed in
-abbrev pub plainRules : Rules
-plainRules = record { filed = true }
+abbrev pub plain_rules : Rules
+plain_rules = record { filed = true }
 
 -- of film of an edition: where the edition is not filed, film written before 14 was given may have labels 0
-abbrev pub filmRules : Edition → Rules
-filmRules e = record { filed = e.filed }
+abbrev pub film_rules : Edition → Rules
+film_rules e = record { filed = e.filed }
 
 -- of the edition's writer, which never writes a label 0
-abbrev pub writerRules : Edition → Rules
-writerRules e = record { filed = true }
+abbrev pub writer_rules : Edition → Rules
+writer_rules e = record { filed = true }
 
 -- ---- Answers
 
@@ -74,156 +74,156 @@ asked rule c = record { answer = c.answer; place = pick rule c.place Nowhere }
 -- ---- The list
 
 -- 1: table under 4 bytes; place 0
-unfoldable pub shortTable : List ℕ → Check
-shortTable t = record { answer = refused 1; place = when (ltb (length t) 4) 0 }
+unfoldable pub short_table : List ℕ → Check
+short_table t = record { answer = refused 1; place = when (ltb (length t) 4) 0 }
 
 -- 2: N is 0 or over 2,048; place N
-unfoldable pub badCount : List ℕ → Check
-badCount t =
-    let n : ℕ = nodeCount t in record { answer = refused 2; place = when (eqb n 0 || ltb maxNodes n) n }
+unfoldable pub bad_count : List ℕ → Check
+bad_count t =
+    let n : ℕ = node_count t in record { answer = refused 2; place = when (eqb n 0 || ltb max_nodes n) n }
 
 -- 3: K is 0 or over 1,024; place K
-unfoldable pub badLimit : List ℕ → Check
-badLimit t =
-    let k : ℕ = limitOf t in record { answer = refused 3; place = when (eqb k 0 || ltb maxLimit k) k }
+unfoldable pub bad_limit : List ℕ → Check
+bad_limit t =
+    let k : ℕ = limit_of t in record { answer = refused 3; place = when (eqb k 0 || ltb max_limit k) k }
 
 -- 4: length is not 4 + 8 × N; place the right length
-unfoldable pub badLength : List ℕ → Check
-badLength t =
-    let size : ℕ = tableBytes (nodeCount t) in
+unfoldable pub bad_length : List ℕ → Check
+bad_length t =
+    let size : ℕ = table_bytes (node_count t) in
     record { answer = refused 4; place = when (not (eqb (length t) size)) size }
 
 -- 5 is retired: it was given for a weight of 0, which is allowed everywhere since document 02, Three
 
 -- 6: the walk fails; place 0 if node 1 has a sibling, else the nodes met in order before it failed
-unfoldable pub badWalk : List ℕ → Check
-badWalk t = record { answer = refused 6; place = walkPlace t }
+unfoldable pub bad_walk : List ℕ → Check
+bad_walk t = record { answer = refused 6; place = walk_place t }
 
 -- 7: a node outweighs K; place the first such node
-unfoldable pub heavyNode : List ℕ → Check
-heavyNode t = record { answer = refused 7; place = firstTo (nodeCount t) (λ v. ltb (limitOf t) (weightAt t v)) }
+unfoldable pub heavy_node : List ℕ → Check
+heavy_node t = record { answer = refused 7; place = first_to (node_count t) (λ v. ltb (limit_of t) (weight_at t v)) }
 
 -- 8: marks buffer is not N long; place N
-unfoldable pub badMarks : ℕ → List ℕ → Check
-badMarks n m = record { answer = refused 8; place = when (not (eqb (length m) n)) n }
+unfoldable pub bad_marks : ℕ → List ℕ → Check
+bad_marks n m = record { answer = refused 8; place = when (not (eqb (length m) n)) n }
 
 -- 9: a planner's scratch is under 4 × N × (K + 3) 32-bit words; place that number
-abbrev pub scratchWords : ℕ → ℕ → ℕ
-scratchWords n k = 4 * n * (k + 3)
+abbrev pub scratch_words : ℕ → ℕ → ℕ
+scratch_words n k = 4 * n * (k + 3)
 
-unfoldable pub shortScratch : List ℕ → List ℕ → Check
-shortScratch t s =
-    let words : ℕ = scratchWords (nodeCount t) (limitOf t) in
+unfoldable pub short_scratch : List ℕ → List ℕ → Check
+short_scratch t s =
+    let words : ℕ = scratch_words (node_count t) (limit_of t) in
     record { answer = refused 9; place = when (ltb (length s) words) words }
 
 -- 10: a mark is not allowed; place the first such node
-unfoldable pub markRefused : List ℕ → List ℕ → Check
-markRefused t m = record { answer = λ v. answer_of (Failed (BadMark v)); place = badMark t m }
+unfoldable pub mark_refused : List ℕ → List ℕ → Check
+mark_refused t m = record { answer = λ v. answer_of (Failed (BadMark v)); place = bad_mark t m }
 
 -- 11: a page exceeds K; place the first such page
-unfoldable pub pageRefused : List ℕ → List ℕ → Check
-pageRefused t m = record { answer = λ p. answer_of (Failed (HeavyPage p)); place = heavyPage t m }
+unfoldable pub page_refused : List ℕ → List ℕ → Check
+page_refused t m = record { answer = λ p. answer_of (Failed (HeavyPage p)); place = heavy_page t m }
 
 -- 12: output buffer has the wrong length; place the right length
-unfoldable pub badOutput : ℕ → List ℕ → Check
-badOutput size out = record { answer = refused 12; place = when (not (eqb (length out) size)) size }
+unfoldable pub bad_output : ℕ → List ℕ → Check
+bad_output size out = record { answer = refused 12; place = when (not (eqb (length out) size)) size }
 
 -- 13: no tree and plan write this archive with the writer that film of its edition is held against; place 0
-unfoldable pub noArchive : Bool → Check
-noArchive written = record { answer = refused 13; place = when (not written) 0 }
+unfoldable pub no_archive : Bool → Check
+no_archive written = record { answer = refused 13; place = when (not written) 0 }
 
 -- 14: a label is 0, for a lot that nobody has filed; place the first such node
 unfoldable pub no_label : List ℕ → Check
-no_label t = record { answer = refused 14; place = firstTo (nodeCount t) (λ v. eqb (labelAt t v) 0) }
+no_label t = record { answer = refused 14; place = first_to (node_count t) (λ v. eqb (label_at t v) 0) }
 
 -- 15: more nodes than the edition takes; place N
-unfoldable pub manyNodes : Edition → List ℕ → Check
-manyNodes e t =
-    let n : ℕ = nodeCount t in record { answer = refused 15; place = when (ltb e.most n) n }
+unfoldable pub many_nodes : Edition → List ℕ → Check
+many_nodes e t =
+    let n : ℕ = node_count t in record { answer = refused 15; place = when (ltb e.most n) n }
 
 -- 16: the tree has 2,048 nodes already, or the named node is not in 1 to N; place the named node
-unfoldable pub noParent : List ℕ → ℕ → Check
-noParent t v =
-    let n : ℕ = nodeCount t in
-    record { answer = refused 16; place = when (leb maxNodes n || (eqb v 0 || ltb n v)) v }
+unfoldable pub no_parent : List ℕ → ℕ → Check
+no_parent t v =
+    let n : ℕ = node_count t in
+    record { answer = refused 16; place = when (leb max_nodes n || (eqb v 0 || ltb n v)) v }
 
 -- 14 and 7 of a leaf that is put in below node v; place the leaf's number
-unfoldable pub unfiledLeaf : List ℕ → ℕ → ℕ → Check
-unfiledLeaf t v l = record { answer = refused 14; place = when (eqb l 0) (leafNumber t v) }
+unfoldable pub unfiled_leaf : List ℕ → ℕ → ℕ → Check
+unfiled_leaf t v l = record { answer = refused 14; place = when (eqb l 0) (leaf_number t v) }
 
-unfoldable pub heavyLeaf : List ℕ → ℕ → ℕ → Check
-heavyLeaf t v w = record { answer = refused 7; place = when (ltb (limitOf t) w) (leafNumber t v) }
+unfoldable pub heavy_leaf : List ℕ → ℕ → ℕ → Check
+heavy_leaf t v w = record { answer = refused 7; place = when (ltb (limit_of t) w) (leaf_number t v) }
 
 -- ---- The order: its parts, and for each entry those that it checks
 
 -- the head and the length
-unfoldable pub headChecks : List ℕ → List Check
-headChecks t = shortTable t ∷ badCount t ∷ badLimit t ∷ badLength t ∷ []
+unfoldable pub head_checks : List ℕ → List Check
+head_checks t = short_table t ∷ bad_count t ∷ bad_limit t ∷ bad_length t ∷ []
 
 -- the nodes and their links
-unfoldable pub nodeChecks : Bool → List ℕ → List Check
-nodeChecks filed t = asked filed (no_label t) ∷ badWalk t ∷ []
+unfoldable pub node_checks : Bool → List ℕ → List Check
+node_checks filed t = asked filed (no_label t) ∷ bad_walk t ∷ []
 
 -- the nodes' weights against the limit
-unfoldable pub weightChecks : List ℕ → List Check
-weightChecks t = heavyNode t ∷ []
+unfoldable pub weight_checks : List ℕ → List Check
+weight_checks t = heavy_node t ∷ []
 
 -- the buffers that a planner is lent
-unfoldable pub lentChecks : List ℕ → List ℕ → List ℕ → List Check
-lentChecks t m s = badMarks (nodeCount t) m ∷ shortScratch t s ∷ []
+unfoldable pub lent_checks : List ℕ → List ℕ → List ℕ → List Check
+lent_checks t m s = bad_marks (node_count t) m ∷ short_scratch t s ∷ []
 
 -- what is found in a plan that is given: each with the verdict beside it
-unfoldable pub foundChecks : List ℕ → List ℕ → List Check
-foundChecks t m = markRefused t m ∷ pageRefused t m ∷ []
+unfoldable pub found_checks : List ℕ → List ℕ → List Check
+found_checks t m = mark_refused t m ∷ page_refused t m ∷ []
 
 -- a plan that is given
-unfoldable pub markChecks : List ℕ → List ℕ → List Check
-markChecks t m = badMarks (nodeCount t) m ∷ foundChecks t m
+unfoldable pub mark_checks : List ℕ → List ℕ → List Check
+mark_checks t m = bad_marks (node_count t) m ∷ found_checks t m
 
 -- the film that is to be written
-unfoldable pub filmChecks : Edition → List ℕ → List ℕ → List ℕ → List Check
-filmChecks e t m out = manyNodes e t ∷ badOutput (archiveBytes e (pageCount t m) (nodeCount t)) out ∷ []
+unfoldable pub film_checks : Edition → List ℕ → List ℕ → List ℕ → List Check
+film_checks e t m out = many_nodes e t ∷ bad_output (archive_bytes e (page_count t m) (node_count t)) out ∷ []
 
 -- the leader sheets that are to be printed
-unfoldable pub sheetChecks : List ℕ → List ℕ → List ℕ → List Check
-sheetChecks t m out = badOutput (sheetBytes * sheetCount (pageCount t m)) out ∷ []
+unfoldable pub sheet_checks : List ℕ → List ℕ → List ℕ → List Check
+sheet_checks t m out = bad_output (sheet_bytes * sheet_count (page_count t m)) out ∷ []
 
 -- the buffers that an archive is read into
-unfoldable pub backChecks : ℕ → List ℕ → List ℕ → List Check
-backChecks n t m = badOutput (tableBytes n) t ∷ badMarks n m ∷ []
+unfoldable pub back_checks : ℕ → List ℕ → List ℕ → List Check
+back_checks n t m = bad_output (table_bytes n) t ∷ bad_marks n m ∷ []
 
-unfoldable pub formChecks : Bool → List ℕ → List Check
-formChecks filed t = headChecks t ++ nodeChecks filed t
+unfoldable pub form_checks : Bool → List ℕ → List Check
+form_checks filed t = head_checks t ++ node_checks filed t
 
-unfoldable pub treeChecks : Bool → List ℕ → List Check
-treeChecks filed t = formChecks filed t ++ weightChecks t
+unfoldable pub tree_checks : Bool → List ℕ → List Check
+tree_checks filed t = form_checks filed t ++ weight_checks t
 
-unfoldable pub planChecks : List ℕ → List ℕ → List ℕ → List Check
-planChecks t m s = treeChecks true t ++ lentChecks t m s
+unfoldable pub plan_checks : List ℕ → List ℕ → List ℕ → List Check
+plan_checks t m s = tree_checks true t ++ lent_checks t m s
 
-unfoldable pub judgeChecks : Rules → List ℕ → List ℕ → List Check
-judgeChecks r t m = treeChecks r.filed t ++ markChecks t m
+unfoldable pub judge_checks : Rules → List ℕ → List ℕ → List Check
+judge_checks r t m = tree_checks r.filed t ++ mark_checks t m
 
-unfoldable pub writeChecks : Rules → Edition → List ℕ → List ℕ → List ℕ → List Check
-writeChecks r e t m out = judgeChecks r t m ++ filmChecks e t m out
+unfoldable pub write_checks : Rules → Edition → List ℕ → List ℕ → List ℕ → List Check
+write_checks r e t m out = judge_checks r t m ++ film_checks e t m out
 
-unfoldable pub printChecks : List ℕ → List ℕ → List ℕ → List Check
-printChecks t m out = judgeChecks plainRules t m ++ sheetChecks t m out
+unfoldable pub print_checks : List ℕ → List ℕ → List ℕ → List Check
+print_checks t m out = judge_checks plain_rules t m ++ sheet_checks t m out
 
 -- a tree, and the node of it that a leaf is put in below
-unfoldable pub parentChecks : List ℕ → ℕ → List Check
-parentChecks t v = treeChecks true t ++ (noParent t v ∷ [])
+unfoldable pub parent_checks : List ℕ → ℕ → List Check
+parent_checks t v = tree_checks true t ++ (no_parent t v ∷ [])
 
 -- the leaf
-unfoldable pub leafChecks : List ℕ → ℕ → ℕ → ℕ → List Check
-leafChecks t v w l = unfiledLeaf t v l ∷ heavyLeaf t v w ∷ []
+unfoldable pub leaf_checks : List ℕ → ℕ → ℕ → ℕ → List Check
+leaf_checks t v w l = unfiled_leaf t v l ∷ heavy_leaf t v w ∷ []
 
 -- the table that is to be written
-unfoldable pub tableChecks : ℕ → List ℕ → List Check
-tableChecks n out = badOutput (tableBytes n) out ∷ []
+unfoldable pub table_checks : ℕ → List ℕ → List Check
+table_checks n out = bad_output (table_bytes n) out ∷ []
 
-unfoldable pub addChecks : List ℕ → ℕ → ℕ → ℕ → List ℕ → List Check
-addChecks t v w l out = parentChecks t v ++ (leafChecks t v w l ++ tableChecks (nodeCount t + 1) out)
+unfoldable pub add_checks : List ℕ → ℕ → ℕ → ℕ → List ℕ → List Check
+add_checks t v w l out = parent_checks t v ++ (leaf_checks t v w l ++ table_checks (node_count t + 1) out)
 
 -- no check of the list applies
 unfoldable pub passes : List Check → Bool
@@ -232,26 +232,26 @@ passes (c ∷ cs) = at_place c.place (λ p. false) (passes cs)
 
 -- A tree is of sound form when nothing that is checked before 7 applies to it, accepted when 7 does not apply to it
 -- either, and refused for weight means 7.
-unfoldable pub soundForm : List ℕ → Bool
-soundForm t = passes (formChecks true t)
+unfoldable pub sound_form : List ℕ → Bool
+sound_form t = passes (form_checks true t)
 
-unfoldable pub acceptedTree : List ℕ → Bool
-acceptedTree t = passes (treeChecks true t)
+unfoldable pub accepted_tree : List ℕ → Bool
+accepted_tree t = passes (tree_checks true t)
 
-unfoldable pub refusedForWeight : List ℕ → Bool
-refusedForWeight t = soundForm t && not (acceptedTree t)
+unfoldable pub refused_for_weight : List ℕ → Bool
+refused_for_weight t = sound_form t && not (accepted_tree t)
 
 -- the judge under these rules finds nothing
-abbrev pub feasibleBy : Rules → List ℕ → List ℕ → Bool
-feasibleBy r t m = passes (judgeChecks r t m)
+abbrev pub feasible_by : Rules → List ℕ → List ℕ → Bool
+feasible_by r t m = passes (judge_checks r t m)
 
 -- a plan of an accepted tree is feasible when the judge finds nothing
-unfoldable pub feasiblePlan : List ℕ → List ℕ → Bool
-feasiblePlan t m = feasibleBy plainRules t m
+unfoldable pub feasible_plan : List ℕ → List ℕ → Bool
+feasible_plan t m = feasible_by plain_rules t m
 
 -- and on film of an edition when the judge that film is held against finds nothing
-unfoldable pub feasibleFilm : Edition → List ℕ → List ℕ → Bool
-feasibleFilm e t m = feasibleBy (filmRules e) t m
+unfoldable pub feasible_film : Edition → List ℕ → List ℕ → Bool
+feasible_film e t m = feasible_by (film_rules e) t m
 
 -- ---- The entries
 
@@ -274,106 +274,106 @@ unfoldable pub checked : {Left : Type 0} → List Check → Answer → Left → 
 checked cs a done lent = outcome (first_of cs a) (pick (passes cs) done lent)
 
 -- the tree reader
-unfoldable pub readTree : List ℕ → Answer
-readTree t = first_of (treeChecks true t) accepted
+unfoldable pub read_tree : List ℕ → Answer
+read_tree t = first_of (tree_checks true t) accepted
 
 -- the judge of plans, under rules, and of plans that are handed in
-abbrev pub judgeBy : Rules → List ℕ → List ℕ → Answer
-judgeBy r t m = first_of (judgeChecks r t m) (answer_of (verdictOf t m))
+abbrev pub judge_by : Rules → List ℕ → List ℕ → Answer
+judge_by r t m = first_of (judge_checks r t m) (answer_of (verdict_of t m))
 
-unfoldable pub judgePlan : List ℕ → List ℕ → Answer
-judgePlan t m = judgeBy plainRules t m
+unfoldable pub judge_plan : List ℕ → List ℕ → Answer
+judge_plan t m = judge_by plain_rules t m
 
 -- a planner is lent marks and scratch
 pub record PlanBuffers : Type 0 where
   pub marks : List ℕ
   pub scratch : List ℕ
 
-abbrev pub planLeft : {Told : Type 0} → Told → List ℕ → List ℕ → Outcome Told PlanBuffers
-planLeft r m s = outcome r (record { marks = m; scratch = s })
+abbrev pub plan_left : {Told : Type 0} → Told → List ℕ → List ℕ → Outcome Told PlanBuffers
+plan_left r m s = outcome r (record { marks = m; scratch = s })
 
 -- it leaves the plan that its steps make, with the judge's verdict, and cleared scratch
 unfoldable pub planned : (ℕ → Chain → List ℕ) → List ℕ → List ℕ → List ℕ → Outcome Answer PlanBuffers
 planned steps t m s =
-    let made : List ℕ = steps (limitOf t) (tree_of t) in
-    checked (planChecks t m s) (answer_of (verdictOf t made)) (record { marks = made; scratch = replicate (length s) 0 })
+    let made : List ℕ = steps (limit_of t) (tree_of t) in
+    checked (plan_checks t m s) (answer_of (verdict_of t made)) (record { marks = made; scratch = replicate (length s) 0 })
     (record { marks = m; scratch = s })
 
-abbrev pub planBest : List ℕ → List ℕ → List ℕ → Outcome Answer PlanBuffers
-planBest = planned bestMarks
+abbrev pub plan_best : List ℕ → List ℕ → List ℕ → Outcome Answer PlanBuffers
+plan_best = planned best_marks
 
-abbrev pub planLevel : List ℕ → List ℕ → List ℕ → Outcome Answer PlanBuffers
-planLevel = planned levelMarks
+abbrev pub plan_level : List ℕ → List ℕ → List ℕ → Outcome Answer PlanBuffers
+plan_level = planned level_marks
 
-abbrev pub planSingle : List ℕ → List ℕ → List ℕ → Outcome Answer PlanBuffers
-planSingle = planned singleMarks
+abbrev pub plan_single : List ℕ → List ℕ → List ℕ → Outcome Answer PlanBuffers
+plan_single = planned single_marks
 
-abbrev pub planPair : List ℕ → List ℕ → List ℕ → Outcome Answer PlanBuffers
-planPair = planned pairMarks
+abbrev pub plan_pair : List ℕ → List ℕ → List ℕ → Outcome Answer PlanBuffers
+plan_pair = planned pair_marks
 
-abbrev pub planRightmost : List ℕ → List ℕ → List ℕ → Outcome Answer PlanBuffers
-planRightmost = planned rightmostMarks
+abbrev pub plan_rightmost : List ℕ → List ℕ → List ℕ → Outcome Answer PlanBuffers
+plan_rightmost = planned rightmost_marks
 
-abbrev pub planDepthFirst : List ℕ → List ℕ → List ℕ → Outcome Answer PlanBuffers
-planDepthFirst = planned depthFirstMarks
+abbrev pub plan_depth_first : List ℕ → List ℕ → List ℕ → Outcome Answer PlanBuffers
+plan_depth_first = planned depth_first_marks
 
 -- an entry that writes is lent its output
 abbrev pub Written : Type 0
 Written = Outcome Answer (List ℕ)
 
 -- the writer of an edition under rules
-abbrev pub writeBy : Rules → Edition → List ℕ → List ℕ → List ℕ → Written
-writeBy r e t m out = checked (writeChecks r e t m out) (answer_of (verdictOf t m)) (archiveOf e t m) out
+abbrev pub write_by : Rules → Edition → List ℕ → List ℕ → List ℕ → Written
+write_by r e t m out = checked (write_checks r e t m out) (answer_of (verdict_of t m)) (archive_of e t m) out
 
 -- the archive writer
-unfoldable pub writeArchive : Edition → List ℕ → List ℕ → List ℕ → Written
-writeArchive e t m out = writeBy (writerRules e) e t m out
+unfoldable pub write_archive : Edition → List ℕ → List ℕ → List ℕ → Written
+write_archive e t m out = write_by (writer_rules e) e t m out
 
 -- the writer that an archive which is read is held against: the archive writer where the edition is filed, and else
 -- without 14, which is no entry
-unfoldable pub writeFilm : Edition → List ℕ → List ℕ → List ℕ → Written
-writeFilm e t m out = writeBy (filmRules e) e t m out
+unfoldable pub write_film : Edition → List ℕ → List ℕ → List ℕ → Written
+write_film e t m out = write_by (film_rules e) e t m out
 
 -- that writer writes this archive from the tree and the plan that it tells, within the edition's most nodes
-unfoldable pub isArchive : Edition → List ℕ → Bool
-isArchive e a =
-    leb (nodesIn e a) e.most
-    && (feasibleFilm e (tableIn e a) (marksIn e a) && same_list (archiveOf e (tableIn e a) (marksIn e a)) a)
+unfoldable pub is_archive : Edition → List ℕ → Bool
+is_archive e a =
+    leb (nodes_in e a) e.most
+    && (feasible_film e (table_in e a) (marks_in e a) && same_list (archive_of e (table_in e a) (marks_in e a)) a)
 
 -- the archive reader is lent a table and marks, and checks 13, then 12, then 8
 pub record ReadBuffers : Type 0 where
   pub table : List ℕ
   pub marks : List ℕ
 
-abbrev pub readLeft : {Told : Type 0} → Told → List ℕ → List ℕ → Outcome Told ReadBuffers
-readLeft r t m = outcome r (record { table = t; marks = m })
+abbrev pub read_left : {Told : Type 0} → Told → List ℕ → List ℕ → Outcome Told ReadBuffers
+read_left r t m = outcome r (record { table = t; marks = m })
 
-unfoldable pub readChecks : Edition → List ℕ → List ℕ → List ℕ → List Check
-readChecks e a t m = noArchive (isArchive e a) ∷ backChecks (nodesIn e a) t m
+unfoldable pub read_checks : Edition → List ℕ → List ℕ → List ℕ → List Check
+read_checks e a t m = no_archive (is_archive e a) ∷ back_checks (nodes_in e a) t m
 
-unfoldable pub readArchive : Edition → List ℕ → List ℕ → List ℕ → Outcome Answer ReadBuffers
-readArchive e a t m =
-    checked (readChecks e a t m) (answer_of (verdictOf (tableIn e a) (marksIn e a)))
-    (record { table = tableIn e a; marks = marksIn e a }) (record { table = t; marks = m })
+unfoldable pub read_archive : Edition → List ℕ → List ℕ → List ℕ → Outcome Answer ReadBuffers
+read_archive e a t m =
+    checked (read_checks e a t m) (answer_of (verdict_of (table_in e a) (marks_in e a)))
+    (record { table = table_in e a; marks = marks_in e a }) (record { table = t; marks = m })
 
 -- A converter, from film of edition e to film of edition f: it checks 13, then 14, then 15 and 12, and writes the tree
 -- and the plan that the archive tells.
-unfoldable pub convertChecks : Edition → Edition → List ℕ → List ℕ → List Check
-convertChecks e f a out =
-    noArchive (isArchive e a) ∷ no_label (tableIn e a) ∷ filmChecks f (tableIn e a) (marksIn e a) out
+unfoldable pub convert_checks : Edition → Edition → List ℕ → List ℕ → List Check
+convert_checks e f a out =
+    no_archive (is_archive e a) ∷ no_label (table_in e a) ∷ film_checks f (table_in e a) (marks_in e a) out
 
-unfoldable pub convertArchive : Edition → Edition → List ℕ → List ℕ → Written
-convertArchive e f a out =
-    checked (convertChecks e f a out) (answer_of (verdictOf (tableIn e a) (marksIn e a)))
-    (archiveOf f (tableIn e a) (marksIn e a)) out
+unfoldable pub convert_archive : Edition → Edition → List ℕ → List ℕ → Written
+convert_archive e f a out =
+    checked (convert_checks e f a out) (answer_of (verdict_of (table_in e a) (marks_in e a)))
+    (archive_of f (table_in e a) (marks_in e a)) out
 
 -- the printer of leader sheets
-unfoldable pub printSheets : List ℕ → List ℕ → List ℕ → Written
-printSheets t m out = checked (printChecks t m out) (answer_of (verdictOf t m)) (sheetsOf t m) out
+unfoldable pub print_sheets : List ℕ → List ℕ → List ℕ → Written
+print_sheets t m out = checked (print_checks t m out) (answer_of (verdict_of t m)) (sheets_of t m) out
 
 -- the price of a plan: the judge's answer with the total in cents, 0 on refusal
-unfoldable pub pricePlan : List ℕ → List ℕ → Outcome Answer ℕ
-pricePlan t m = checked (judgeChecks plainRules t m) (answer_of (verdictOf t m)) (totalCents t m) 0
+unfoldable pub price_plan : List ℕ → List ℕ → Outcome Answer ℕ
+price_plan t m = checked (judge_checks plain_rules t m) (answer_of (verdict_of t m)) (total_cents t m) 0
 
 -- the saving: all that the best planner gives and leaves, with the saving in cents, 0 on refusal
 pub record SavingLeft : Type 0 where
@@ -383,9 +383,9 @@ pub record SavingLeft : Type 0 where
 abbrev pub saved : {Told : Type 0} → Outcome Told PlanBuffers → ℤ → Outcome Told SavingLeft
 saved p z = outcome p.answer (record { best = p.left; saving = z })
 
-unfoldable pub saveBest : List ℕ → List ℕ → List ℕ → Outcome Answer SavingLeft
-saveBest t m s = saved (planBest t m s) (pick (passes (planChecks t m s)) (savingOf t) (pos 0))
+unfoldable pub save_best : List ℕ → List ℕ → List ℕ → Outcome Answer SavingLeft
+save_best t m s = saved (plan_best t m s) (pick (passes (plan_checks t m s)) (saving_of t) (pos 0))
 
 -- the entry that puts a leaf of weight w and label l in below node v
-unfoldable pub addLeaf : List ℕ → ℕ → ℕ → ℕ → List ℕ → Written
-addLeaf t v w l out = checked (addChecks t v w l out) accepted (leafTable t v w l) out
+unfoldable pub add_leaf : List ℕ → ℕ → ℕ → ℕ → List ℕ → Written
+add_leaf t v w l out = checked (add_checks t v w l out) accepted (leaf_table t v w l) out

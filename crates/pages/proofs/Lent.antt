@@ -6,13 +6,13 @@ use mathlib.Core.List.{List}
 use lib.ListN.{length, take, replicate, length-replicate, replicate-append-replicate}
 use lib.Seq.{length-take-le, take_at}
 use Rattle.io.specs.Counts.{IsPrefixLen}
-use Rattle.model.specs.Table.{nodeCount}
-use Rattle.model.specs.Refusals.{planBest}
+use Rattle.model.specs.Table.{node_count}
+use Rattle.model.specs.Refusals.{plan_best}
 use Rattle.theory.specs.Appended.{Filled}
-use Rattle.pages.specs.Text.{reportBytes, scratchLent, answerLines, reportOf}
+use Rattle.pages.specs.Text.{report_bytes, scratch_lent, answer_lines, report_of}
 
-take-zeros : (most n : ℕ) → n ≤ most → take n (replicate {A = ℕ} most 0) ≡ replicate n 0
-take-zeros most n h =
+take_zeros : (most n : ℕ) → n ≤ most → take n (replicate {A = ℕ} most 0) ≡ replicate n 0
+take_zeros most n h =
     let all : n + (most - n) ≡ most = omega arith in
     ap (λ k. take n (replicate k 0)) (sym all)
     ∙ ap (take n) (sym (replicate-append-replicate n (most - n) 0))
@@ -20,15 +20,15 @@ take-zeros most n h =
 
 -- as many marks as there are nodes
 pub take_long : (most n : ℕ) → n ≤ most → length (take n (replicate {A = ℕ} most 0)) ≡ n
-take_long most n h = ap length (take-zeros most n h) ∙ length-replicate n 0
+take_long most n h = ap length (take_zeros most n h) ∙ length-replicate n 0
 
-pub report-whole : (t out : List ℕ) (most n r : ℕ) → n ≡ nodeCount t → n ≤ most
-    → Filled (answerLines t (planBest t (take n (replicate most 0)) (replicate scratchLent 0))) out r → r ≤ reportBytes
-    → reportBytes ≤ length out → IsPrefixLen r out × (take r out ≡ reportOf t)
-unfolding reportOf
-report-whole t out most n r e fits h small room = (
+pub report_whole : (t out : List ℕ) (most n r : ℕ) → n ≡ node_count t → n ≤ most
+    → Filled (answer_lines t (plan_best t (take n (replicate most 0)) (replicate scratch_lent 0))) out r → r ≤ report_bytes
+    → report_bytes ≤ length out → IsPrefixLen r out × (take r out ≡ report_of t)
+unfolding report_of
+report_whole t out most n r e fits h small room = (
   (omega arith, sym (length-take-le r out (omega arith))),
   h.bytes
-      ∙ ap (λ m. answerLines t (planBest t m (replicate scratchLent 0)))
-      (take-zeros most n fits ∙ ap (λ k. replicate k 0) e),
+      ∙ ap (λ m. answer_lines t (plan_best t m (replicate scratch_lent 0)))
+      (take_zeros most n fits ∙ ap (λ k. replicate k 0) e),
 )

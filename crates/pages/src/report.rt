@@ -1,12 +1,12 @@
 // The report of a table: its best plan is made and laid on its pages, and the lines are those of this layout.
 ghost use Rattle.std.specs.Prelude.{◌≡◌, ◌≤◌, length, take};
 ghost use Rattle.io.specs.Counts.{IsPrefixLen};
-ghost use Rattle.model.specs.Table.{maxNodes};
-ghost use Rattle.model.specs.Refusals.{planBest};
+ghost use Rattle.model.specs.Table.{max_nodes};
+ghost use Rattle.model.specs.Refusals.{plan_best};
 ghost use Rattle.theory.specs.Appended.{Filled};
-ghost use Rattle.pages.specs.Text.{reportBytes, answerLines, reportOf};
+ghost use Rattle.pages.specs.Text.{report_bytes, answer_lines, report_of};
 ghost use Rattle.layout.specs.Rows.{layout_of};
-ghost use Rattle.pages.specs.Listing.{layoutLines};
+ghost use Rattle.pages.specs.Listing.{layout_lines};
 
 use crate::text::{head_line, page_line, refusal_line};
 use layout::{FIRSTS, LASTS, ROWS};
@@ -28,10 +28,10 @@ fn list_pages(
     limit: u16,
     out: &mut [u8],
 ) -> usize
-    requires { (pages ≤ maxNodes) × (reportBytes ≤ length out.old) }
-    ensures filled { Filled (layoutLines (layout_of rows.now weights.now pages) limit)
+    requires { (pages ≤ max_nodes) × (report_bytes ≤ length out.old) }
+    ensures filled { Filled (layout_lines (layout_of rows.now weights.now pages) limit)
         out.new result }
-    ensures upper_bound { result ≤ reportBytes }
+    ensures upper_bound { result ≤ report_bytes }
 {
     let root = weights[1];
     let mut at = head_line(out, 0, pages as u32, root, limit as u32);
@@ -46,10 +46,10 @@ fn list_pages(
 
 // The lines of the best plan, or of its refusal, with these marks and this scratch lent.
 fn report_plan(table: &[u8], marks: &mut [u8], scratch: &mut [u32], out: &mut [u8]) -> usize
-    requires { reportBytes ≤ length out.old }
-    ensures filled { Filled (answerLines table.now
-        (planBest table.now marks.old scratch.old)) out.new result }
-    ensures upper_bound { result ≤ reportBytes }
+    requires { report_bytes ≤ length out.old }
+    ensures filled { Filled (answer_lines table.now
+        (plan_best table.now marks.old scratch.old)) out.new result }
+    ensures upper_bound { result ≤ report_bytes }
 {
     let mut rows = [[0u16; SLOTS]; ROWS];
     let mut weights = [0u32; SLOTS];
@@ -70,9 +70,9 @@ fn report_plan(table: &[u8], marks: &mut [u8], scratch: &mut [u32], out: &mut [u
 
 // All that the program writes for a table.
 pub fn report(table: &[u8], out: &mut [u8]) -> usize
-    requires { reportBytes ≤ length out.old }
+    requires { report_bytes ≤ length out.old }
     ensures prefix_len { IsPrefixLen result out.new }
-    ensures out_after { take result out.new ≡ reportOf table.now }
+    ensures out_after { take result out.new ≡ report_of table.now }
 {
     let nodes = node_count(table) as usize;
     let mut marks = [0u8; MARKS];

@@ -1,7 +1,7 @@
 // Text appended to the report at a position. Each function gives back the position after what it put.
 ghost use Rattle.std.specs.Prelude.{◌+◌, ◌≤◌, length};
 ghost use Rattle.theory.specs.Appended.{Appended};
-ghost use Rattle.pages.specs.Text.{item, lineBytes, headLine, pageLine, refusalLine};
+ghost use Rattle.pages.specs.Text.{item, line_bytes, head_line, page_line, refusal_line};
 
 use words::put::put_text;
 
@@ -19,9 +19,9 @@ fn put_item(out: &mut [u8], at: usize, word: &[u8], n: u32) -> usize
 
 // Page count, root weight and limit.
 pub fn head_line(out: &mut [u8], at: usize, pages: u32, root: u32, limit: u32) -> usize
-    requires { at + lineBytes ≤ length out.old }
-    ensures appended { Appended out.old at (headLine pages root limit) out.new result }
-    ensures upper_bound { result ≤ at + lineBytes }
+    requires { at + line_bytes ≤ length out.old }
+    ensures appended { Appended out.old at (head_line pages root limit) out.new result }
+    ensures upper_bound { result ≤ at + line_bytes }
 {
     let pages_end = put_item(out, at, b"pages ", pages);
     let root_end = put_item(out, pages_end, b" root ", root);
@@ -31,9 +31,9 @@ pub fn head_line(out: &mut [u8], at: usize, pages: u32, root: u32, limit: u32) -
 
 // A page: number, first node, last sibling, weight.
 pub fn page_line(out: &mut [u8], at: usize, page: u16, first: u16, last: u16, weight: u32) -> usize
-    requires { at + lineBytes ≤ length out.old }
-    ensures appended { Appended out.old at (pageLine page first last weight) out.new result }
-    ensures upper_bound { result ≤ at + lineBytes }
+    requires { at + line_bytes ≤ length out.old }
+    ensures appended { Appended out.old at (page_line page first last weight) out.new result }
+    ensures upper_bound { result ≤ at + line_bytes }
 {
     let page_end = put_item(out, at, b"page ", page as u32);
     let first_end = put_item(out, page_end, b" first ", first as u32);
@@ -44,9 +44,9 @@ pub fn page_line(out: &mut [u8], at: usize, page: u16, first: u16, last: u16, we
 
 // A refusal: number and place.
 pub fn refusal_line(out: &mut [u8], at: usize, number: u32, place: u32) -> usize
-    requires { at + lineBytes ≤ length out.old }
-    ensures appended { Appended out.old at (refusalLine number place) out.new result }
-    ensures upper_bound { result ≤ at + lineBytes }
+    requires { at + line_bytes ≤ length out.old }
+    ensures appended { Appended out.old at (refusal_line number place) out.new result }
+    ensures upper_bound { result ≤ at + line_bytes }
 {
     let number_end = put_item(out, at, b"refused ", number);
     let place_end = put_item(out, number_end, b" at ", place);

@@ -1,45 +1,45 @@
 -- The steps of each planner, what they leave before the plan is judged, and what a planner is lent where nothing is
 -- refused.
--- Defines steps_of, laidBy, PlanReady. Proves steps-judged. Assumes nothing.
+-- Defines steps_of, laid_by, PlanReady. Proves steps_judged. Assumes nothing.
 use Rattle.std.specs.Prelude.{ℕ, ◌≤◌, ◌≡◌, List, length, replicate}
-use Rattle.model.specs.Table.{nodeCount, limitOf, Chain, tree_of}
-use Rattle.model.specs.Steps.{bestMarks, levelMarks, singleMarks, pairMarks, rightmostMarks, depthFirstMarks}
-use Rattle.model.specs.Refusals.{scratchWords, planChecks, accepted, Outcome, checked, PlanBuffers}
+use Rattle.model.specs.Table.{node_count, limit_of, Chain, tree_of}
+use Rattle.model.specs.Steps.{best_marks, level_marks, single_marks, pair_marks, rightmost_marks, depth_first_marks}
+use Rattle.model.specs.Refusals.{scratch_words, plan_checks, accepted, Outcome, checked, PlanBuffers}
 use Rattle.model.specs.declared.Answer.{Answer}
 use Rattle.theory.specs.TableFacts.{AcceptedFacts}
 use Rattle.theory.specs.PlanFeasible.{Judged}
-use Rattle.theory.specs.DepthFirst.{depth-first-judged}
-use Rattle.theory.specs.BestLowest.{best-judged, level-judged, single-judged, pair-judged, rightmost-judged}
+use Rattle.theory.specs.DepthFirst.{depth_first_judged}
+use Rattle.theory.specs.BestLowest.{best_judged, level_judged, single_judged, pair_judged, rightmost_judged}
 use Rattle.planner.specs.declared.Planner.{Planner}
 use Rattle.planner.specs.declared.Planner.TheVariants.{Best, Level, Single, Pair, Rightmost, DepthFirst}
 
 -- the steps of each planner
 abbrev pub steps_of : Planner → ℕ → Chain → List ℕ
-steps_of Best = bestMarks
-steps_of Level = levelMarks
-steps_of Single = singleMarks
-steps_of Pair = pairMarks
-steps_of Rightmost = rightmostMarks
-steps_of DepthFirst = depthFirstMarks
+steps_of Best = best_marks
+steps_of Level = level_marks
+steps_of Single = single_marks
+steps_of Pair = pair_marks
+steps_of Rightmost = rightmost_marks
+steps_of DepthFirst = depth_first_marks
 
 -- the plan that they make, with cleared scratch; else what was lent
-unfoldable pub laidBy : (ℕ → Chain → List ℕ) → List ℕ → List ℕ → List ℕ → Outcome Answer PlanBuffers
-laidBy steps t m s =
-    checked (planChecks t m s) accepted
-    (record { marks = steps (limitOf t) (tree_of t); scratch = replicate (length s) 0 })
+unfoldable pub laid_by : (ℕ → Chain → List ℕ) → List ℕ → List ℕ → List ℕ → Outcome Answer PlanBuffers
+laid_by steps t m s =
+    checked (plan_checks t m s) accepted
+    (record { marks = steps (limit_of t) (tree_of t); scratch = replicate (length s) 0 })
     (record { marks = m; scratch = s })
 
 -- the plan that they make of an accepted tree is feasible
-pub steps-judged : (p : Planner) {t : List ℕ} → AcceptedFacts t → Judged t (steps_of p (limitOf t) (tree_of t))
-steps-judged Best a = best-judged a
-steps-judged Level a = level-judged a
-steps-judged Single a = single-judged a
-steps-judged Pair a = pair-judged a
-steps-judged Rightmost a = rightmost-judged a
-steps-judged DepthFirst a = depth-first-judged a
+pub steps_judged : (p : Planner) {t : List ℕ} → AcceptedFacts t → Judged t (steps_of p (limit_of t) (tree_of t))
+steps_judged Best a = best_judged a
+steps_judged Level a = level_judged a
+steps_judged Single a = single_judged a
+steps_judged Pair a = pair_judged a
+steps_judged Rightmost a = rightmost_judged a
+steps_judged DepthFirst a = depth_first_judged a
 
 -- what PlanLent says, with the facts of an accepted tree: the marks are one a node, and the scratch is long enough
 pub record PlanReady (t a s : List ℕ) : Type 0 where
   pub tree : AcceptedFacts t
-  pub marks-long : length a ≡ nodeCount t
-  pub words : scratchWords (nodeCount t) (limitOf t) ≤ length s
+  pub marks_long : length a ≡ node_count t
+  pub words : scratch_words (node_count t) (limit_of t) ≤ length s

@@ -1,6 +1,6 @@
 // What all planners share: the refusals, and the clearing of the scratch.
 ghost use Rattle.std.specs.Prelude.{◌≡◌, length, replicate};
-ghost use Rattle.model.specs.Refusals.{planChecks, first_of, accepted};
+ghost use Rattle.model.specs.Refusals.{plan_checks, first_of, accepted};
 
 use model::Answer;
 use table::{accept, earlier, place_if, read_tree};
@@ -9,7 +9,7 @@ use words::read::{limit_of, node_count};
 // The tree's refusals, 8 and 9: the answer, or acceptance with no verdict yet.
 pub fn check_plan(table: &[u8], marks: &[u8], scratch: &[u32]) -> Answer
     ensures { result
-        ≡ first_of (planChecks table.now marks.now scratch.now) accepted }
+        ≡ first_of (plan_checks table.now marks.now scratch.now) accepted }
 {
     let tree = read_tree(table);
     if tree.number != 0 {

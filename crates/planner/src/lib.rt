@@ -2,12 +2,12 @@
 mod common;
 
 ghost use Rattle.std.specs.Prelude.{◌≡◌};
-ghost use Rattle.model.specs.Table.{limitOf, tree_of};
-ghost use Rattle.model.specs.Refusals.{planLeft, planned, planBest, planLevel, planSingle, planPair, planRightmost};
-ghost use Rattle.model.specs.Refusals.{planDepthFirst};
+ghost use Rattle.model.specs.Table.{limit_of, tree_of};
+ghost use Rattle.model.specs.Refusals.{plan_left, planned, plan_best, plan_level, plan_single, plan_pair, plan_rightmost};
+ghost use Rattle.model.specs.Refusals.{plan_depth_first};
 ghost use Rattle.model.specs.Demand.{PlanPromise, BestPromise, QuickPromise};
 ghost use Rattle.layout.specs.Rows.{Cleared, layout_of, FeasibleLayout};
-ghost use Rattle.planner.specs.Planners.{steps_of, laidBy, PlanReady};
+ghost use Rattle.planner.specs.Planners.{steps_of, laid_by, PlanReady};
 
 use best::lay_best;
 use common::{check_plan, clear};
@@ -35,7 +35,7 @@ pub enum Planner {
 fn lay_steps(planner: Planner, table: &[u8], marks: &mut [u8], scratch: &mut [u32])
     requires { PlanReady table.now marks.old scratch.old }
     ensures { marks.new
-        ≡ steps_of planner (limitOf table.now) (tree_of table.now) }
+        ≡ steps_of planner (limit_of table.now) (tree_of table.now) }
 {
     match planner {
         Planner::Best => lay_best(table, true, marks, scratch),
@@ -49,8 +49,8 @@ fn lay_steps(planner: Planner, table: &[u8], marks: &mut [u8], scratch: &mut [u3
 
 // Refuses, or lays the marks and clears the scratch: acceptance has no verdict yet.
 fn make_marks(planner: Planner, table: &[u8], marks: &mut [u8], scratch: &mut [u32]) -> Answer
-    ensures { planLeft result marks.new scratch.new
-        ≡ laidBy (steps_of planner) table.now marks.old scratch.old }
+    ensures { plan_left result marks.new scratch.new
+        ≡ laid_by (steps_of planner) table.now marks.old scratch.old }
 {
     let checked = check_plan(table, marks, scratch);
     if checked.number != 0 {
@@ -64,7 +64,7 @@ fn make_marks(planner: Planner, table: &[u8], marks: &mut [u8], scratch: &mut [u
 // What every entry does: it makes the plan, and goes on with the judge. Whatever the planner, its plan is not below
 // best's, as the quick ones promise.
 fn make_plan(planner: Planner, table: &[u8], marks: &mut [u8], scratch: &mut [u32]) -> Answer
-    ensures scratch_after { planLeft result marks.new scratch.new
+    ensures scratch_after { plan_left result marks.new scratch.new
         ≡ planned (steps_of planner) table.now marks.old scratch.old }
     ensures plan_promise { PlanPromise table.now marks.old scratch.old
         result marks.new scratch.new }
@@ -87,7 +87,7 @@ pub fn make_laid(
     weights: &mut [u32; SLOTS],
 ) -> Judgement
     requires { Cleared rows.old weights.old }
-    ensures scratch_after { planLeft result.answer marks.new scratch.new
+    ensures scratch_after { plan_left result.answer marks.new scratch.new
         ≡ planned (steps_of planner) table.now marks.old scratch.old }
     ensures feasible_layout { result.answer.number ≡ 0 → FeasibleLayout table.now marks.new
         (layout_of rows.new weights.new result.pages) }
@@ -104,8 +104,8 @@ pub fn make_laid(
 
 // Entry: the best planner. Its plan is the lowest there is, and 7 means that there is none.
 pub fn plan_best(table: &[u8], marks: &mut [u8], scratch: &mut [u32]) -> Answer
-    ensures scratch_after { planLeft result marks.new scratch.new
-        ≡ planBest table.now marks.old scratch.old }
+    ensures scratch_after { plan_left result marks.new scratch.new
+        ≡ plan_best table.now marks.old scratch.old }
     ensures plan_promise { PlanPromise table.now marks.old scratch.old
         result marks.new scratch.new }
     ensures best_promise { BestPromise table.now marks.old scratch.old
@@ -116,8 +116,8 @@ pub fn plan_best(table: &[u8], marks: &mut [u8], scratch: &mut [u32]) -> Answer
 
 // Entry: the level planner.
 pub fn plan_level(table: &[u8], marks: &mut [u8], scratch: &mut [u32]) -> Answer
-    ensures scratch_after { planLeft result marks.new scratch.new
-        ≡ planLevel table.now marks.old scratch.old }
+    ensures scratch_after { plan_left result marks.new scratch.new
+        ≡ plan_level table.now marks.old scratch.old }
     ensures plan_promise { PlanPromise table.now marks.old scratch.old
         result marks.new scratch.new }
 {
@@ -126,8 +126,8 @@ pub fn plan_level(table: &[u8], marks: &mut [u8], scratch: &mut [u32]) -> Answer
 
 // Entry: the single planner.
 pub fn plan_single(table: &[u8], marks: &mut [u8], scratch: &mut [u32]) -> Answer
-    ensures scratch_after { planLeft result marks.new scratch.new
-        ≡ planSingle table.now marks.old scratch.old }
+    ensures scratch_after { plan_left result marks.new scratch.new
+        ≡ plan_single table.now marks.old scratch.old }
     ensures plan_promise { PlanPromise table.now marks.old scratch.old
         result marks.new scratch.new }
 {
@@ -136,8 +136,8 @@ pub fn plan_single(table: &[u8], marks: &mut [u8], scratch: &mut [u32]) -> Answe
 
 // Entry: the pair planner.
 pub fn plan_pair(table: &[u8], marks: &mut [u8], scratch: &mut [u32]) -> Answer
-    ensures scratch_after { planLeft result marks.new scratch.new
-        ≡ planPair table.now marks.old scratch.old }
+    ensures scratch_after { plan_left result marks.new scratch.new
+        ≡ plan_pair table.now marks.old scratch.old }
     ensures plan_promise { PlanPromise table.now marks.old scratch.old
         result marks.new scratch.new }
 {
@@ -146,8 +146,8 @@ pub fn plan_pair(table: &[u8], marks: &mut [u8], scratch: &mut [u32]) -> Answer
 
 // Entry: the rightmost planner, one of the two quick ones. Its plan never has fewer pages than best's.
 pub fn plan_rightmost(table: &[u8], marks: &mut [u8], scratch: &mut [u32]) -> Answer
-    ensures scratch_after { planLeft result marks.new scratch.new
-        ≡ planRightmost table.now marks.old scratch.old }
+    ensures scratch_after { plan_left result marks.new scratch.new
+        ≡ plan_rightmost table.now marks.old scratch.old }
     ensures plan_promise { PlanPromise table.now marks.old scratch.old
         result marks.new scratch.new }
     ensures quick_promise { QuickPromise table.now result }
@@ -157,8 +157,8 @@ pub fn plan_rightmost(table: &[u8], marks: &mut [u8], scratch: &mut [u32]) -> An
 
 // Entry: the depth-first planner, the other quick one, with the same promise.
 pub fn plan_depth_first(table: &[u8], marks: &mut [u8], scratch: &mut [u32]) -> Answer
-    ensures scratch_after { planLeft result marks.new scratch.new
-        ≡ planDepthFirst table.now marks.old scratch.old }
+    ensures scratch_after { plan_left result marks.new scratch.new
+        ≡ plan_depth_first table.now marks.old scratch.old }
     ensures plan_promise { PlanPromise table.now marks.old scratch.old
         result marks.new scratch.new }
     ensures quick_promise { QuickPromise table.now result }

@@ -1,6 +1,6 @@
 // The entry that prices a plan. It judges the plan, and adds up the pages of the layout that the judge found.
 ghost use Rattle.std.specs.Prelude.{◌≡◌};
-ghost use Rattle.model.specs.Refusals.{outcome, pricePlan};
+ghost use Rattle.model.specs.Refusals.{outcome, price_plan};
 ghost use Rattle.model.specs.Demand.{PricePromise};
 
 use crate::prices::total;
@@ -12,7 +12,7 @@ use words::read::limit_of;
 
 // Entry: the price of a plan. The refusals of the judge. Any feasible plan has its price.
 pub fn price(table: &[u8], marks: &[u8]) -> Price
-    ensures cents_value { outcome result.answer result.cents ≡ pricePlan table.now marks.now }
+    ensures cents_value { outcome result.answer result.cents ≡ price_plan table.now marks.now }
     ensures price_promise { PricePromise table.now marks.now result.answer result.cents }
 {
     let mut rows = [[0u16; SLOTS]; ROWS];

@@ -1,8 +1,8 @@
 // The entry that gives the saving. It makes and judges both plans, each once, and prices them by their layouts, the
 // best one last, since its marks are left.
 ghost use Rattle.std.specs.Prelude.{◌≡◌, ◌^◌, ◌<◌, pos, ◌-ℤ◌};
-ghost use Rattle.model.specs.Prices.{totalCents};
-ghost use Rattle.model.specs.Refusals.{planLeft, planned, saved, saveBest};
+ghost use Rattle.model.specs.Prices.{total_cents};
+ghost use Rattle.model.specs.Refusals.{plan_left, planned, saved, save_best};
 ghost use Rattle.model.specs.Demand.{SavingPromise};
 ghost use Rattle.planner.specs.Planners.{steps_of};
 
@@ -15,9 +15,9 @@ use words::read::limit_of;
 
 // A planner's plan with its price.
 fn plan_priced(planner: Planner, table: &[u8], marks: &mut [u8], scratch: &mut [u32]) -> Price
-    ensures scratch_after { planLeft result.answer marks.new scratch.new
+    ensures scratch_after { plan_left result.answer marks.new scratch.new
         ≡ planned (steps_of planner) table.now marks.old scratch.old }
-    ensures cents_value { result.answer.number ≡ 0 → result.cents ≡ totalCents table.now marks.new }
+    ensures cents_value { result.answer.number ≡ 0 → result.cents ≡ total_cents table.now marks.new }
 {
     let mut rows = [[0u16; SLOTS]; ROWS];
     let mut weights = [0u32; SLOTS];
@@ -41,8 +41,8 @@ fn less(a: u32, b: u32) -> i32
 
 // Entry: single total less best total. The buffers and refusals of a planner; the best plan is left in the marks.
 pub fn saving(table: &[u8], marks: &mut [u8], scratch: &mut [u32]) -> Saving
-    ensures saving_after { saved (planLeft result.answer marks.new scratch.new) result.saving
-        ≡ saveBest table.now marks.old scratch.old }
+    ensures saving_after { saved (plan_left result.answer marks.new scratch.new) result.saving
+        ≡ save_best table.now marks.old scratch.old }
     ensures saving_promise { SavingPromise table.now marks.old scratch.old
         result.answer result.saving marks.new scratch.new }
 {

@@ -2,8 +2,8 @@
 // begins the next.
 ghost use Rattle.std.specs.Prelude.{◌≡◌, ◌+◌, ◌-◌, ◌*◌, ◌≤◌, eqb, length};
 ghost use Rattle.model.specs.Basics.{pick};
-ghost use Rattle.model.specs.Table.{maxLimit, nodeCount, limitOf, tree_of};
-ghost use Rattle.model.specs.Steps.{joins, pageMark, depthFirstMarks};
+ghost use Rattle.model.specs.Table.{max_limit, node_count, limit_of, tree_of};
+ghost use Rattle.model.specs.Steps.{joins, page_mark, depth_first_marks};
 ghost use Rattle.theory.specs.TableFacts.{AcceptedFacts};
 
 use table::SLOTS;
@@ -21,7 +21,7 @@ fn parent_of(v: u16, u: u16, shared: u16) -> u16
 // Whether a node joins the current page: the page has room for it, and holds its parent or the sibling before it. `up`
 // and `back` are the pages of these two; `number` and `sum` are those of the current page.
 fn joins_page(limit: u16, weight: u16, up: u16, back: u16, number: u16, sum: u16) -> bool
-    requires { sum + weight ≤ 2 * maxLimit }
+    requires { sum + weight ≤ 2 * max_limit }
     ensures { result ≡ joins limit weight up back (record { number = number; weight = sum }) }
 {
     (number != 0) & (sum + weight <= limit) & ((up == number) | (back == number))
@@ -29,8 +29,8 @@ fn joins_page(limit: u16, weight: u16, up: u16, back: u16, number: u16, sum: u16
 
 // The node's mark: 1 on a page of its own, and on the current page 0 where its parent is, else 2.
 fn page_mark(limit: u16, weight: u16, up: u16, back: u16, number: u16, sum: u16) -> u8
-    requires { sum + weight ≤ 2 * maxLimit }
-    ensures { result ≡ pageMark limit weight up back (record { number = number; weight = sum }) }
+    requires { sum + weight ≤ 2 * max_limit }
+    ensures { result ≡ page_mark limit weight up back (record { number = number; weight = sum }) }
 {
     if !joins_page(limit, weight, up, back, number, sum) {
         return 1;
@@ -40,9 +40,9 @@ fn page_mark(limit: u16, weight: u16, up: u16, back: u16, number: u16, sum: u16)
 
 // The marks of an accepted tree. There is no page at first, and no parent and sibling of the root: these are 0.
 pub fn lay_depth_first(table: &[u8], marks: &mut [u8])
-    requires { AcceptedFacts table.now × (length marks.old ≡ nodeCount table.now) }
+    requires { AcceptedFacts table.now × (length marks.old ≡ node_count table.now) }
     ensures { marks.new
-        ≡ depthFirstMarks (limitOf table.now) (tree_of table.now) }
+        ≡ depth_first_marks (limit_of table.now) (tree_of table.now) }
 {
     let nodes = node_count(table);
     let limit = limit_of(table);

@@ -2,10 +2,10 @@
 // until the node and what stays of them are within the limit.
 ghost use Rattle.std.specs.Prelude.{◌≡◌, ◌-◌, ◌≤◌, eqb, length};
 ghost use Rattle.model.specs.Basics.{pick};
-ghost use Rattle.model.specs.Table.{nodeCount, limitOf, tree_of};
-ghost use Rattle.model.specs.Steps.{rightmostMarks};
+ghost use Rattle.model.specs.Table.{node_count, limit_of, tree_of};
+ghost use Rattle.model.specs.Steps.{rightmost_marks};
 ghost use Rattle.theory.specs.TableFacts.{AcceptedFacts};
-ghost use Rattle.quick.specs.Rightmost.{runMark, CutReady, CutDone, Settled};
+ghost use Rattle.quick.specs.Rightmost.{run_mark, CutReady, CutDone, Settled};
 
 use table::SLOTS;
 use table::links::link_before;
@@ -19,7 +19,7 @@ fn choose(test: bool, yes: u32, no: u32) -> u32
 
 // The mark of a child that is cut or not, and of its run, whether it goes on to the left.
 fn mark_of(cut: bool, goes: bool) -> u8
-    ensures { result ≡ runMark cut goes }
+    ensures { result ≡ run_mark cut goes }
 {
     if !cut {
         return 0;
@@ -86,7 +86,7 @@ fn settle_node(
     v: u16,
 )
     requires { Settled table.now prevs.now rests.old sums.old lasts.old marks.old v
-        × (1 ≤ v) × (v ≤ nodeCount table.now) }
+        × (1 ≤ v) × (v ≤ node_count table.now) }
     ensures { Settled table.now prevs.now rests.new sums.new
         lasts.new marks.new (v - 1) }
 {
@@ -102,9 +102,9 @@ fn settle_node(
 
 // The plan of an accepted tree.
 pub fn lay_rightmost(table: &[u8], marks: &mut [u8])
-    requires { AcceptedFacts table.now × (length marks.old ≡ nodeCount table.now) }
+    requires { AcceptedFacts table.now × (length marks.old ≡ node_count table.now) }
     ensures { marks.new
-        ≡ rightmostMarks (limitOf table.now) (tree_of table.now) }
+        ≡ rightmost_marks (limit_of table.now) (tree_of table.now) }
 {
     let prevs = link_before(table);
     let mut rests = [0u16; SLOTS];

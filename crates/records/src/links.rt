@@ -1,13 +1,13 @@
 // The next number with the same key, for each number: the next node of the same page, and the next node with the same
 // parent. One pass from the last number to the first keeps the last one seen of each key.
 ghost use Rattle.std.specs.Prelude.{◌<◌, length};
-ghost use Rattle.records.specs.Size.{filmSlots};
+ghost use Rattle.records.specs.Size.{film_slots};
 ghost use Rattle.records.specs.Links.{Linked, Fit};
 
 use crate::size::FILM_SLOTS;
 
 pub fn link_next(keys: &[u16], nodes: u16) -> [u16; FILM_SLOTS]
-    requires { (nodes < filmSlots) × Fit nodes keys.now × (nodes < length keys.now) }
+    requires { (nodes < film_slots) × Fit nodes keys.now × (nodes < length keys.now) }
     ensures { Linked keys.now nodes result }
 {
     let mut seen = [0u16; FILM_SLOTS];

@@ -1,11 +1,11 @@
 // The head, the page records and the node records of an archive, put into an output of its length.
 ghost use Rattle.std.specs.Prelude.{◌≡◌, ◌+◌, ◌*◌, ◌≤◌, ◌<◌, length, get_or};
-ghost use Rattle.model.specs.Table.{nodeCount, slots};
-ghost use Rattle.model.specs.Archive.{nextPage, archiveBytes};
+ghost use Rattle.model.specs.Table.{node_count, slots};
+ghost use Rattle.model.specs.Archive.{next_page, archive_bytes};
 ghost use Rattle.theory.specs.Ranges.{Upto};
 ghost use Rattle.theory.specs.Put.{RecordsPut};
-ghost use Rattle.records.specs.Size.{InRoom, filmSlots};
-ghost use Rattle.records.specs.RecordsOf.{putEdition, putHead, putFifth, pageRow, nodeRow};
+ghost use Rattle.records.specs.Size.{InRoom, film_slots};
+ghost use Rattle.records.specs.RecordsOf.{put_edition, put_head, put_fifth, page_row, node_row};
 
 use crate::size::FILM_SLOTS;
 use model::Edition;
@@ -18,7 +18,7 @@ const EDITION_WORD: u16 = 8194;
 
 // The edition's word, where the head has one before N.
 fn put_edition(e: Edition, out: &mut [u8])
-    ensures { out.new ≡ putEdition e out.old }
+    ensures { out.new ≡ put_edition e out.old }
 {
     if 3 < e.head {
         put_word(out, 0, EDITION_WORD);
@@ -28,7 +28,7 @@ fn put_edition(e: Edition, out: &mut [u8])
 // The head, whose last three words are N, K and P.
 pub fn put_head(e: Edition, nodes: u16, limit: u16, pages: u16, out: &mut [u8])
     requires { InRoom e }
-    ensures { out.new ≡ putHead e out.old nodes limit pages }
+    ensures { out.new ≡ put_head e out.old nodes limit pages }
 {
     let head = e.head as u32;
     put_edition(e, out);
@@ -41,7 +41,7 @@ pub fn put_head(e: Edition, nodes: u16, limit: u16, pages: u16, out: &mut [u8])
 // last the formula would begin again with 1.
 fn page_after(p: u16, pages: u16) -> u16
     requires { (1 ≤ p) × (p ≤ pages) × (pages < slots) }
-    ensures { result ≡ nextPage p pages }
+    ensures { result ≡ next_page p pages }
 {
     (p + 1) % (pages + 1)
 }
@@ -49,7 +49,7 @@ fn page_after(p: u16, pages: u16) -> u16
 // The fifth word of the page record at a word, where the edition has one.
 fn put_fifth(e: Edition, out: &mut [u8], at: u32, count: u16)
     requires { at + 4 < 4294967296 }
-    ensures { out.new ≡ putFifth e out.old at count }
+    ensures { out.new ≡ put_fifth e out.old at count }
 {
     if 4 < e.page {
         put_word(out, at + 4, count);
@@ -67,9 +67,9 @@ pub fn put_pages<'a>(
     out: &mut [u8],
 )
     requires { InRoom e × (pages < slots) × Upto pages (λ p. get_or weights.now p 0 < 65536)
-        × (archiveBytes e pages 0 ≤ length out.old) }
+        × (archive_bytes e pages 0 ≤ length out.old) }
     ensures { RecordsPut
-        (pageRow e firsts.now lasts.now weights.now counts.now pages)
+        (page_row e firsts.now lasts.now weights.now counts.now pages)
         e.head pages out.old out.new }
 {
     let mut at = e.head as u32;
@@ -95,10 +95,10 @@ pub fn put_nodes(
     pages: u16,
     out: &mut [u8],
 )
-    requires { InRoom e × (nodeCount table.now < filmSlots) × (pages < slots)
-        × (length out.old ≡ archiveBytes e pages (nodeCount table.now)) }
-    ensures { RecordsPut (nodeRow table.now parents.now nexts.now)
-        (e.head + e.page * pages) (nodeCount table.now) out.old out.new }
+    requires { InRoom e × (node_count table.now < film_slots) × (pages < slots)
+        × (length out.old ≡ archive_bytes e pages (node_count table.now)) }
+    ensures { RecordsPut (node_row table.now parents.now nexts.now)
+        (e.head + e.page * pages) (node_count table.now) out.old out.new }
 {
     let nodes = node_count(table);
     let mut at = (e.head as u32) + (e.page as u32) * (pages as u32);

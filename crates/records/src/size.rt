@@ -1,6 +1,6 @@
 // The editions of the archive, and how large an archive is.
 ghost use Rattle.std.specs.Prelude.{◌≡◌};
-ghost use Rattle.model.specs.Archive.{firstEdition, secondEdition, archiveBytes};
+ghost use Rattle.model.specs.Archive.{first_edition, second_edition, archive_bytes};
 ghost use Rattle.records.specs.Size.{InRoom};
 
 use model::Edition;
@@ -24,7 +24,7 @@ pub const FILM_SLOTS: usize = (SECOND_NODES as usize) + 1;
 
 // The archive of document 01.
 pub fn first_edition() -> Edition
-    ensures { result ≡ firstEdition }
+    ensures { result ≡ first_edition }
 {
     Edition {
         head: 3,
@@ -36,7 +36,7 @@ pub fn first_edition() -> Edition
 
 // That of document 02.
 pub fn second_edition() -> Edition
-    ensures { result ≡ secondEdition }
+    ensures { result ≡ second_edition }
 {
     Edition {
         head: 4,
@@ -49,7 +49,7 @@ pub fn second_edition() -> Edition
 // How many bytes the archive of so many pages and nodes has.
 pub fn archive_bytes(e: Edition, pages: u16, nodes: u16) -> u32
     requires { InRoom e }
-    ensures { result ≡ archiveBytes e pages nodes }
+    ensures { result ≡ archive_bytes e pages nodes }
 {
     2 * (e.head as u32) + 2 * (e.page as u32) * (pages as u32) + 8 * (nodes as u32)
 }

@@ -1,13 +1,13 @@
 // The lines of a sheet, each 80 columns and a newline byte. A line goes by value from blanks through its fields.
 ghost use Rattle.std.specs.Prelude.{◌≡◌, [], ◌+◌, ◌^◌, ◌≤◌, ◌<◌};
-ghost use Rattle.model.specs.Sheets.{columns, field, lineWith, firstLine, lastLine, perCent, lineForPage};
+ghost use Rattle.model.specs.Sheets.{columns, field, line_with, first_line, last_line, per_cent, line_for_page};
 ghost use Rattle.sheets.specs.Lines.{FieldPut};
 
 pub const LINE: usize = 81;
 
 // A line of blanks.
 pub fn blank_line() -> [u8; LINE]
-    ensures { result ≡ lineWith [] }
+    ensures { result ≡ line_with [] }
 {
     let mut line = [b' '; LINE];
     line[LINE - 1] = b'\n';
@@ -33,7 +33,7 @@ fn put_field(line: [u8; LINE], at: usize, width: usize, n: u32) -> [u8; LINE]
 
 // Line 1: the plan's page count.
 pub fn first_line(pages: u16) -> [u8; LINE]
-    ensures { result ≡ firstLine pages }
+    ensures { result ≡ first_line pages }
 {
     let mut line = blank_line();
     line[0] = b'P';
@@ -46,7 +46,7 @@ pub fn first_line(pages: u16) -> [u8; LINE]
 
 // Line 60: the sheet's number.
 pub fn last_line(sheet: u16) -> [u8; LINE]
-    ensures { result ≡ lastLine sheet }
+    ensures { result ≡ last_line sheet }
 {
     put_field(blank_line(), 0, 6, sheet as u32)
 }
@@ -54,7 +54,7 @@ pub fn last_line(sheet: u16) -> [u8; LINE]
 // The whole per cent of the limit, rounded down.
 fn per_cent(weight: u32, limit: u16) -> u32
     requires { (1 ≤ limit) × (weight ≤ limit) }
-    ensures { result ≡ perCent weight limit }
+    ensures { result ≡ per_cent weight limit }
 {
     100 * weight / (limit as u32)
 }
@@ -62,7 +62,7 @@ fn per_cent(weight: u32, limit: u16) -> u32
 // The line of page p, from its first node, last sibling and weight.
 pub fn page_line(p: u16, first: u16, last: u16, weight: u32, limit: u16) -> [u8; LINE]
     requires { (1 ≤ limit) × (weight ≤ limit) }
-    ensures { result ≡ lineForPage limit p (record { first = first; last = last; weight = weight }) }
+    ensures { result ≡ line_for_page limit p (record { first = first; last = last; weight = weight }) }
 {
     let numbered = put_field(blank_line(), 0, 6, p as u32);
     let begun = put_field(numbered, 6, 6, first as u32);

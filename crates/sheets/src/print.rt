@@ -1,7 +1,7 @@
 // The entry. It judges the plan, and prints the pages of the layout that the judge found.
 ghost use Rattle.std.specs.Prelude.{◌≡◌, ◌*◌, length};
-ghost use Rattle.model.specs.Sheets.{sheetBytes, sheetCount, sheetsOf};
-ghost use Rattle.model.specs.Refusals.{outcome, printSheets};
+ghost use Rattle.model.specs.Sheets.{sheet_bytes, sheet_count, sheets_of};
+ghost use Rattle.model.specs.Refusals.{outcome, print_sheets};
 ghost use Rattle.model.specs.Demand.{PrintPromise};
 ghost use Rattle.layout.specs.Rows.{layout_of, FeasibleLayout};
 
@@ -22,8 +22,8 @@ fn fill_sheets<'a>(
     out: &mut [u8],
 )
     requires { FeasibleLayout table.now marks.now (layout_of rows.now weights.now pages)
-        × (length out.old ≡ sheetBytes * sheetCount pages) }
-    ensures { out.new ≡ sheetsOf table.now marks.now }
+        × (length out.old ≡ sheet_bytes * sheet_count pages) }
+    ensures { out.new ≡ sheets_of table.now marks.now }
 {
     let limit = limit_of(table);
     put_sheets(&rows[FIRSTS], &rows[LASTS], weights, pages, limit, out);
@@ -32,7 +32,7 @@ fn fill_sheets<'a>(
 // Entry: the printer of leader sheets. The refusals of the judge, and 12. Any feasible plan is printed.
 pub fn print_sheets(table: &[u8], marks: &[u8], out: &mut [u8]) -> Answer
     ensures out_after { outcome result out.new
-        ≡ printSheets table.now marks.now out.old }
+        ≡ print_sheets table.now marks.now out.old }
     ensures print_promise { PrintPromise table.now marks.now out.old
         result out.new }
 {

@@ -1,10 +1,10 @@
 // The sheets of a plan, line by line, put one after the other into an output of their length.
 ghost use Rattle.std.specs.Prelude.{◌≡◌, ◌+◌, ◌*◌, ◌≤◌, ◌<◌, length};
 ghost use Rattle.model.specs.Table.{slots};
-ghost use Rattle.model.specs.Sheets.{sheetLines, sheetBytes, sheetCount, line_at, sheetAt, sheetsBy};
+ghost use Rattle.model.specs.Sheets.{sheet_lines, sheet_bytes, sheet_count, line_at, sheet_at, sheets_by};
 ghost use Rattle.theory.specs.Appended.{Appended};
 ghost use Rattle.layout.specs.Rows.{LightPages};
-ghost use Rattle.sheets.specs.Lines.{pageIn};
+ghost use Rattle.sheets.specs.Lines.{page_in};
 
 use crate::line::{LINE, blank_line, first_line, last_line, page_line};
 use table::SLOTS;
@@ -17,14 +17,14 @@ const SHEET_PAGES: u16 = SHEET_LINES - 2;
 // How many sheets so many pages take, and their bytes.
 fn sheet_count(pages: u16) -> u16
     requires { pages < slots }
-    ensures { result ≡ sheetCount pages }
+    ensures { result ≡ sheet_count pages }
 {
     (pages + (SHEET_PAGES - 1)) / SHEET_PAGES
 }
 
 pub fn sheet_bytes(pages: u16) -> u32
     requires { pages < slots }
-    ensures { result ≡ sheetBytes * sheetCount pages }
+    ensures { result ≡ sheet_bytes * sheet_count pages }
 {
     (LINE as u32) * (SHEET_LINES as u32) * (sheet_count(pages) as u32)
 }
@@ -39,10 +39,10 @@ fn line_at<'a>(
     sheet: u16,
     l: u16,
 ) -> [u8; LINE]
-    requires { LightPages weights.now pages limit × (1 ≤ sheet) × (sheet ≤ sheetCount pages) × (1 ≤ l)
-        × (l ≤ sheetLines) }
+    requires { LightPages weights.now pages limit × (1 ≤ sheet) × (sheet ≤ sheet_count pages) × (1 ≤ l)
+        × (l ≤ sheet_lines) }
     ensures { result
-        ≡ line_at pages limit (pageIn firsts.now lasts.now weights.now) sheet l }
+        ≡ line_at pages limit (page_in firsts.now lasts.now weights.now) sheet l }
 {
     let before = sheet - 1;
     if l == 1 {
@@ -70,10 +70,10 @@ fn put_sheet<'a>(
     out: &mut [u8],
     at: usize,
 ) -> usize
-    requires { LightPages weights.now pages limit × (1 ≤ sheet) × (sheet ≤ sheetCount pages)
-        × (at + sheetBytes ≤ length out.old) }
+    requires { LightPages weights.now pages limit × (1 ≤ sheet) × (sheet ≤ sheet_count pages)
+        × (at + sheet_bytes ≤ length out.old) }
     ensures { Appended out.old at
-        (sheetAt pages limit (pageIn firsts.now lasts.now weights.now) sheet)
+        (sheet_at pages limit (page_in firsts.now lasts.now weights.now) sheet)
         out.new result }
 {
     let mut end = at;
@@ -95,9 +95,9 @@ pub fn put_sheets<'a>(
     limit: u16,
     out: &mut [u8],
 )
-    requires { LightPages weights.now pages limit × (length out.old ≡ sheetBytes * sheetCount pages) }
+    requires { LightPages weights.now pages limit × (length out.old ≡ sheet_bytes * sheet_count pages) }
     ensures { out.new
-        ≡ sheetsBy pages limit (pageIn firsts.now lasts.now weights.now) }
+        ≡ sheets_by pages limit (page_in firsts.now lasts.now weights.now) }
 {
     let sheets = sheet_count(pages);
     let mut at: usize = 0;

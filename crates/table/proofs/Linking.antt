@@ -1,5 +1,5 @@
--- The sibling before each node, from the links to the sibling after. Defines Linking. Proves linking-start,
--- linking-turn and linking-end: one store a node. Assumes nothing.
+-- The sibling before each node, from the links to the sibling after. Defines Linking. Proves linking_start,
+-- linking_turn and linking_end: one store a node. Assumes nothing.
 use Prim.Native.Nat.{ℕ, ◌+◌, ◌≤◌, ◌<◌}
 use mathlib.Core.Path.{◌≡◌, refl, sym, ◌∙◌, ap}
 use mathlib.Core.Bool.{Bool, true, false}
@@ -9,34 +9,34 @@ use lib.ListN.{length, get_or, set, replicate, length-set, length-replicate}
 use lib.Seq.{get_or-set_same, get_or-set_other}
 use lib.Dec.{eqb}
 use borrow.Author.Tests.{eqb-true, eqb-false}
-use Rattle.model.specs.Table.{slots, nodeCount, next_at}
-use Rattle.model.specs.Plan.{prevAt}
+use Rattle.model.specs.Table.{slots, node_count, next_at}
+use Rattle.model.specs.Plan.{prev_at}
 use Rattle.theory.specs.TableFacts.{AcceptedFacts}
-use Rattle.theory.specs.TableLinks.{prevAt-less, prevAt-next, next-prev, next-later, next_le}
+use Rattle.theory.specs.TableLinks.{prev_at_less, prev_at_next, next_prev, next_later, next_le}
 use Rattle.theory.specs.Lists.{zeros}
 use Rattle.theory.specs.SiblingsBack.{Earlier, SiblingsLinked}
 
 -- the links from the nodes 1 to v are kept
 pub record Linking (t : List ℕ) (v : ℕ) (prevs : List ℕ) : Type 0 where
   pub long : length prevs ≡ slots
-  pub seen : (u : ℕ) → 1 ≤ u → u ≤ nodeCount t → prevAt t u ≤ v → get_or prevs u 0 ≡ prevAt t u
+  pub seen : (u : ℕ) → 1 ≤ u → u ≤ node_count t → prev_at t u ≤ v → get_or prevs u 0 ≡ prev_at t u
   pub earlier : Earlier prevs
 
-pub linking-start : (t : List ℕ) → Linking t 0 (replicate slots 0)
-linking-start t =
+pub linking_start : (t : List ℕ) → Linking t 0 (replicate slots 0)
+linking_start t =
     record {
       long = length-replicate {A = ℕ} slots 0;
-      seen = λ u low high h. let z : prevAt t u ≡ 0 = omega arith in zeros slots u ∙ sym z;
+      seen = λ u low high h. let z : prev_at t u ≡ 0 = omega arith in zeros slots u ∙ sym z;
       earlier = λ u low. omega (arith, zeros slots u);
     }
 
 module _ {t : List ℕ} (a : AcceptedFacts t) where
-  pub link_fits : (v : ℕ) → 1 ≤ v → v ≤ nodeCount t → next_at t v < slots
-  link_fits v low high = omega (arith, next_le a.sound v low high, a.sound.count-high)
+  pub link_fits : (v : ℕ) → 1 ≤ v → v ≤ node_count t → next_at t v < slots
+  link_fits v low high = omega (arith, next_le a.sound v low high, a.sound.count_high)
 
-  pub linking-turn : (v x : ℕ) (prevs : List ℕ) → v < nodeCount t → x ≡ next_at t (v + 1) → Linking t v prevs
+  pub linking_turn : (v x : ℕ) (prevs : List ℕ) → v < node_count t → x ≡ next_at t (v + 1) → Linking t v prevs
       → Linking t (v + 1) (set prevs x (v + 1))
-  linking-turn v x prevs less e l =
+  linking_turn v x prevs less e l =
       record {
         long = simp length-set l.long;
         seen = λ u low high h. seen u low high h (eqb u x) refl;
@@ -49,29 +49,29 @@ module _ {t : List ℕ} (a : AcceptedFacts t) where
       same : (u : ℕ) → u ≡ x → get_or (set prevs x (v + 1)) u 0 ≡ v + 1
       same u q = rw q (get_or-set_same prevs x (v + 1) 0 fits)
 
-      seen : (u : ℕ) → 1 ≤ u → u ≤ nodeCount t → prevAt t u ≤ v + 1 → (b : Bool) → eqb u x ≡ b
-          → get_or (set prevs x (v + 1)) u 0 ≡ prevAt t u
+      seen : (u : ℕ) → 1 ≤ u → u ≤ node_count t → prev_at t u ≤ v + 1 → (b : Bool) → eqb u x ≡ b
+          → get_or (set prevs x (v + 1)) u 0 ≡ prev_at t u
       seen u low high h true q =
           let is : u ≡ x = eqb-true u x q in
-          same u is ∙ sym (next-prev a.sound (v + 1) u (omega arith) (omega arith) low (sym (is ∙ e)))
+          same u is ∙ sym (next_prev a.sound (v + 1) u (omega arith) (omega arith) low (sym (is ∙ e)))
       seen u low high h false q =
           let other : u ≡ x → ⊥ = eqb-false u x q in
-          let not-this : prevAt t u ≡ v + 1 → ⊥ =
-          λ z. other (sym (prevAt-next t u (omega arith)) ∙ ap (next_at t) z ∙ sym e) in
+          let not_this : prev_at t u ≡ v + 1 → ⊥ =
+          λ z. other (sym (prev_at_next t u (omega arith)) ∙ ap (next_at t) z ∙ sym e) in
           get_or-set_other prevs x u (v + 1) 0 other ∙ l.seen u low high (omega arith)
 
       early : (u : ℕ) → 1 ≤ u → (b : Bool) → eqb u x ≡ b → get_or (set prevs x (v + 1)) u 0 < u
       early u low true q =
           let is : u ≡ x = eqb-true u x q in
-          omega (arith, same u is, next-later a.sound (v + 1) (omega arith) (omega arith) (omega arith))
+          omega (arith, same u is, next_later a.sound (v + 1) (omega arith) (omega arith) (omega arith))
       early u low false q = omega (arith, get_or-set_other prevs x u (v + 1) 0 (eqb-false u x q), l.earlier u low)
 
 -- and 0 has none before it
-pub linking-end : {t : List ℕ} (v : ℕ) (prevs : List ℕ) → nodeCount t ≤ v → Linking t v prevs
+pub linking_end : {t : List ℕ} (v : ℕ) (prevs : List ℕ) → node_count t ≤ v → Linking t v prevs
     → SiblingsLinked t (set prevs 0 0)
-linking-end {t} v prevs high l =
+linking_end {t} v prevs high l =
     record {
-      before = λ u low up. other u low ∙ l.seen u low up (omega (arith, prevAt-less t u low));
+      before = λ u low up. other u low ∙ l.seen u low up (omega (arith, prev_at_less t u low));
       earlier = λ u low. omega (arith, other u low, l.earlier u low);
       none = get_or-set_same prevs 0 0 0 (omega (arith, l.long));
     }

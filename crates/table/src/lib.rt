@@ -4,12 +4,12 @@ pub mod links;
 mod walk;
 
 ghost use Rattle.std.specs.Prelude.{◌≡◌, eqb, ltb, ◌||◌};
-ghost use Rattle.model.specs.Basics.{pick, firstTo, when, at_place};
-ghost use Rattle.model.specs.Table.{tableBytes, weightAt, labelAt};
-ghost use Rattle.model.specs.Refusals.{refused, accepted, headChecks, first_of, readTree};
+ghost use Rattle.model.specs.Basics.{pick, first_to, when, at_place};
+ghost use Rattle.model.specs.Table.{table_bytes, weight_at, label_at};
+ghost use Rattle.model.specs.Refusals.{refused, accepted, head_checks, first_of, read_tree};
 ghost use Rattle.model.specs.Demand.{WeightPromise};
 ghost use Rattle.model.specs.declared.Place.TheVariants.{Nowhere};
-ghost use Rattle.theory.specs.JudgeAnswers.{treeAnswer};
+ghost use Rattle.theory.specs.JudgeAnswers.{tree_answer};
 
 use model::{Answer, Beside, Place};
 use walk::walk_place;
@@ -37,7 +37,7 @@ pub fn refuse(number: u32, place: u32) -> Answer
 
 // The first node with label 0.
 fn first_unlabelled(table: &[u8], nodes: u16) -> Place
-    ensures { result ≡ firstTo nodes (λ v. eqb (labelAt table.now v) 0) }
+    ensures { result ≡ first_to nodes (λ v. eqb (label_at table.now v) 0) }
 {
     let mut node: u16 = 0;
     while node < nodes {
@@ -51,7 +51,7 @@ fn first_unlabelled(table: &[u8], nodes: u16) -> Place
 
 // The first node with label 0, where a tree is to be filed.
 fn first_unfiled(table: &[u8], nodes: u16, filed: bool) -> Place
-    ensures { result ≡ pick filed (firstTo nodes (λ v. eqb (labelAt table.now v) 0)) Nowhere }
+    ensures { result ≡ pick filed (first_to nodes (λ v. eqb (label_at table.now v) 0)) Nowhere }
 {
     if filed {
         first_unlabelled(table, nodes)
@@ -62,7 +62,7 @@ fn first_unfiled(table: &[u8], nodes: u16, filed: bool) -> Place
 
 // The first node that outweighs the limit.
 fn first_heavier(table: &[u8], nodes: u16, limit: u16) -> Place
-    ensures { result ≡ firstTo nodes (λ v. ltb limit (weightAt table.now v)) }
+    ensures { result ≡ first_to nodes (λ v. ltb limit (weight_at table.now v)) }
 {
     let mut v: u16 = 0;
     while v < nodes {
@@ -94,7 +94,7 @@ fn outside(word: u16, most: u16) -> Place
 
 // How many bytes the table of so many nodes has.
 pub fn table_bytes(nodes: u16) -> u32
-    ensures { result ≡ tableBytes nodes }
+    ensures { result ≡ table_bytes nodes }
 {
     4 + 8 * (nodes as u32)
 }
@@ -122,7 +122,7 @@ pub fn earlier(number: u32, place: Place, rest: Answer) -> Answer
 
 // 1 to 4: the head and the length.
 fn read_head(table: &[u8]) -> Answer
-    ensures { result ≡ first_of (headChecks table.now) accepted }
+    ensures { result ≡ first_of (head_checks table.now) accepted }
 {
     let nodes = node_count(table);
     let size = table_bytes(nodes);
@@ -139,7 +139,7 @@ fn read_head(table: &[u8]) -> Answer
 
 // The refusals 1 to 7 but 5, with 14 or, for trees told by film that may be older, without.
 pub fn check_tree(table: &[u8], filed: bool) -> Answer
-    ensures { result ≡ treeAnswer filed table.now }
+    ensures { result ≡ tree_answer filed table.now }
 {
     let head = read_head(table);
     if head.number != 0 {
@@ -155,7 +155,7 @@ pub fn check_tree(table: &[u8], filed: bool) -> Answer
 // Entry: the tree reader, with the refusals 1 to 7 but 5, and 14. 7 means that no sequence of sibling runs holds the
 // tree.
 pub fn read_tree(table: &[u8]) -> Answer
-    ensures value { result ≡ readTree table.now }
+    ensures value { result ≡ read_tree table.now }
     ensures weight_promise { WeightPromise table.now result }
 {
     check_tree(table, true)

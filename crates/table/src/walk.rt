@@ -1,6 +1,6 @@
 // The walk of the chains, child before sibling.
 ghost use Rattle.std.specs.Prelude.{◌≡◌, [], ◌∷◌, ◌+◌, ◌*◌, ◌≤◌};
-ghost use Rattle.model.specs.Table.{maxNodes, nodeCount, walkFrom, walkPlace};
+ghost use Rattle.model.specs.Table.{max_nodes, node_count, walk_from, walk_place};
 
 use crate::SLOTS;
 use model::Place;
@@ -9,8 +9,8 @@ use words::read::{first_at, next_at};
 // Where the walk from node 1 fails. What is still to be visited is a stack; each node met puts two links in the place
 // of one, so that it is never higher than the nodes met and one.
 fn walk_from_root(table: &[u8], nodes: u16) -> Place
-    requires { nodes ≤ maxNodes }
-    ensures { result ≡ walkFrom (2 * nodes + 2) table.now nodes 0 (1 ∷ []) }
+    requires { nodes ≤ max_nodes }
+    ensures { result ≡ walk_from (2 * nodes + 2) table.now nodes 0 (1 ∷ []) }
 {
     let mut pending = [0u16; SLOTS];
     pending[0] = 1;
@@ -41,8 +41,8 @@ fn walk_from_root(table: &[u8], nodes: u16) -> Place
 
 // Where the walk fails: at 0 where node 1 has a sibling.
 pub fn walk_place(table: &[u8], nodes: u16) -> Place
-    requires { (nodes ≡ nodeCount table.now) × (nodes ≤ maxNodes) }
-    ensures { result ≡ walkPlace table.now }
+    requires { (nodes ≡ node_count table.now) × (nodes ≤ max_nodes) }
+    ensures { result ≡ walk_place table.now }
 {
     if next_at(table, 1) == 0 {
         walk_from_root(table, nodes)

@@ -1,102 +1,102 @@
 -- Demand 3 read off the archive's bytes, in an edition: page count, the weight in page record 1 and the runs in the
 -- page records are the plan's; so where a planner promises that its plan is the lowest, the archive of that plan is the
 -- lowest too.
--- Proves archive-figures, archive-plan, film-lowest. Assumes nothing.
+-- Proves archive_figures, archive_plan, film_lowest. Assumes nothing.
 use Prim.Native.Nat.{ℕ, suc, ◌-◌, ◌≤◌, ◌<◌}
 use Rattle.std.proofs.Common.{arith, ◌∙◌}
 use Rattle.std.specs.Prelude.{◌≡◌, List, [], ◌∷◌}
 use Rattle.std.proofs.Math.Path.{sym, ap, ap₂}
 use Rattle.std.proofs.Math.ListN.{get_or}
 use Rattle.std.proofs.Math.Seq.{ext_get_or}
-use Rattle.model.specs.Basics.{listTo}
-use Rattle.model.specs.Plan.{pageCount, pageWeight, verdictOf}
-use Rattle.model.specs.Runs.{rootRun, runsOf, pageRun}
-use Rattle.model.specs.Archive.{archiveOf, pagesIn}
+use Rattle.model.specs.Basics.{list_to}
+use Rattle.model.specs.Plan.{page_count, page_weight, verdict_of}
+use Rattle.model.specs.Runs.{root_run, runs_of, page_run}
+use Rattle.model.specs.Archive.{archive_of, pages_in}
 use Rattle.model.specs.Refusals.{answer_of}
-use Rattle.model.specs.Demand.{PlanLent, PlanPromise, BestPromise, runIn, runsIn, rootIn, PlanOnFilm}
+use Rattle.model.specs.Demand.{PlanLent, PlanPromise, BestPromise, run_in, runs_in, root_in, PlanOnFilm}
 use Rattle.model.specs.Demand.{LowestOnFilm}
 use Rattle.model.specs.declared.Verdict.TheVariants.{Feasible, Failed}
 use Rattle.model.specs.declared.Beside.{Beside}
 use Rattle.model.specs.declared.Beside.TheVariants.{Given, Nothing}
 use Rattle.model.specs.declared.Answer.{Answer}
 use Rattle.model.specs.declared.Edition.{Edition}
-use Rattle.theory.specs.Ranges.{length-listTo, getD-listTo}
-use Rattle.theory.specs.PlanPages.{pages-low}
-use Rattle.theory.specs.PlanFeasible.{Judged, feasible-judged, judged-verdict}
-use Rattle.theory.specs.RunsMarked.{length-runsOf}
-use Rattle.theory.specs.ArchiveWords.{Described, archive-pages, archive-begin, archive-end, archive-weight}
+use Rattle.theory.specs.Ranges.{length-list_to, get_d_list_to}
+use Rattle.theory.specs.PlanPages.{pages_low}
+use Rattle.theory.specs.PlanFeasible.{Judged, feasible_judged, judged_verdict}
+use Rattle.theory.specs.RunsMarked.{length-runs_of}
+use Rattle.theory.specs.ArchiveWords.{Described, archive_pages, archive_begin, archive_end, archive_weight}
 
 -- ---- The page records of a table and marks
 
 module _ {e : Edition} (d : Described e) (t m : List ℕ) where
   abbrev a : List ℕ
-  a = archiveOf e t m
+  a = archive_of e t m
 
-  run-back : (i : ℕ) → i < pagesIn e a → runIn e a (suc i) ≡ get_or (runsOf t m) i rootRun
-  unfolding pageRun
-  run-back i h =
-      let high : suc i ≤ pageCount t m = omega (arith, archive-pages d t m) in
-      ap₂ (λ u v. record { first = u; last = v }) (archive-begin d t m (suc i) (omega arith) high)
-      (archive-end d t m (suc i) (omega arith) high)
-      ∙ ap (λ j. get_or (runsOf t m) j rootRun) (omega arith)
+  run_back : (i : ℕ) → i < pages_in e a → run_in e a (suc i) ≡ get_or (runs_of t m) i root_run
+  unfolding page_run
+  run_back i h =
+      let high : suc i ≤ page_count t m = omega (arith, archive_pages d t m) in
+      ap₂ (λ u v. record { first = u; last = v }) (archive_begin d t m (suc i) (omega arith) high)
+      (archive_end d t m (suc i) (omega arith) high)
+      ∙ ap (λ j. get_or (runs_of t m) j root_run) (omega arith)
 
-  archive-runs : runsIn e (archiveOf e t m) ≡ runsOf t m
-  unfolding runsIn
-  archive-runs =
-      let long = length-listTo (pagesIn e a) (runIn e a) in
-      ext_get_or rootRun (listTo (pagesIn e a) (λ q. runIn e a q ∷ [])) (runsOf t m)
-      (long ∙ archive-pages d t m ∙ sym (length-runsOf t m))
+  archive_runs : runs_in e (archive_of e t m) ≡ runs_of t m
+  unfolding runs_in
+  archive_runs =
+      let long = length-list_to (pages_in e a) (run_in e a) in
+      ext_get_or root_run (list_to (pages_in e a) (λ q. run_in e a q ∷ [])) (runs_of t m)
+      (long ∙ archive_pages d t m ∙ sym (length-runs_of t m))
       (λ i h.
-      let less : i < pagesIn e a =
-      rw long at h in getD-listTo (pagesIn e a) i (runIn e a) rootRun less ∙ run-back i less)
+      let less : i < pages_in e a =
+      rw long at h in get_d_list_to (pages_in e a) i (run_in e a) root_run less ∙ run_back i less)
 
-  archive-root : 1 ≤ pageCount t m → rootIn e (archiveOf e t m) ≡ pageWeight t m 1
-  unfolding rootIn
-  archive-root some = archive-weight d t m 1 (omega arith) some
+  archive_root : 1 ≤ page_count t m → root_in e (archive_of e t m) ≡ page_weight t m 1
+  unfolding root_in
+  archive_root some = archive_weight d t m 1 (omega arith) some
 
   -- of a feasible plan, with the verdict's figures
   module _ (judged : Judged t m) where
-    root-back : rootIn e (archiveOf e t m) ≡ pageWeight t m 1
-    root-back = archive-root (pages-low judged.tree.sound m judged.marked)
+    root_back : root_in e (archive_of e t m) ≡ page_weight t m 1
+    root_back = archive_root (pages_low judged.tree.sound m judged.marked)
 
-    pub archive-figures : answer_of (verdictOf t m)
-        ≡ answer_of (Feasible (pagesIn e (archiveOf e t m)) (rootIn e (archiveOf e t m)))
-    archive-figures =
-        ap answer_of (judged-verdict judged)
-        ∙ ap₂ (λ (x y : ℕ). answer_of (Feasible x y)) (sym (archive-pages d t m)) (sym root-back)
+    pub archive_figures : answer_of (verdict_of t m)
+        ≡ answer_of (Feasible (pages_in e (archive_of e t m)) (root_in e (archive_of e t m)))
+    archive_figures =
+        ap answer_of (judged_verdict judged)
+        ∙ ap₂ (λ (x y : ℕ). answer_of (Feasible x y)) (sym (archive_pages d t m)) (sym root_back)
 
-    pub archive-plan : PlanOnFilm e t m (archiveOf e t m)
-    archive-plan = record { pages = archive-pages d t m; root = root-back; runs = archive-runs }
+    pub archive_plan : PlanOnFilm e t m (archive_of e t m)
+    archive_plan = record { pages = archive_pages d t m; root = root_back; runs = archive_runs }
 
 -- ---- The archive of a plan that its planner promises to be the lowest
 
 -- the root weight of the verdict beside an answer
-abbrev rootBeside : Beside → ℕ
-rootBeside (Given (Feasible pages root)) = root
-rootBeside (Given (Failed c)) = 0
-rootBeside Nothing = 0
+abbrev root_beside : Beside → ℕ
+root_beside (Given (Feasible pages root)) = root
+root_beside (Given (Failed c)) = 0
+root_beside Nothing = 0
 
 module _ {t m s marks scratch : List ℕ} {r : Answer} (p : PlanPromise t m s r marks scratch)
     (ready : PlanLent t m s) where
   judged : Judged t marks
-  judged = feasible-judged t marks (p.accepts ready).1
+  judged = feasible_judged t marks (p.accepts ready).1
 
   module _ {e : Edition} (d : Described e) where
     abbrev film : List ℕ
-    film = archiveOf e t marks
+    film = archive_of e t marks
 
-    pub film-lowest : BestPromise t m s r marks
-        → LowestOnFilm e t (archiveOf e t marks) r (answer_of (verdictOf t marks))
-    film-lowest b =
+    pub film_lowest : BestPromise t m s r marks
+        → LowestOnFilm e t (archive_of e t marks) r (answer_of (verdict_of t marks))
+    film_lowest b =
         let answer = (p.accepts ready).0 in
         let low = b.lowest ready in
-        let count : low.0 ≡ pagesIn e film =
-        sym low.3.count ∙ length-runsOf t marks ∙ sym (archive-pages d t marks) in
-        let root : low.1 ≡ rootIn e film =
-        ap (λ (x : Answer). rootBeside x.beside) (sym low.2 ∙ answer) ∙ sym (root-back d t marks judged) in
-        let figures = archive-figures d t marks judged in
+        let count : low.0 ≡ pages_in e film =
+        sym low.3.count ∙ length-runs_of t marks ∙ sym (archive_pages d t marks) in
+        let root : low.1 ≡ root_in e film =
+        ap (λ (x : Answer). root_beside x.beside) (sym low.2 ∙ answer) ∙ sym (root_back d t marks judged) in
+        let figures = archive_figures d t marks judged in
         record {
-          planner = answer ∙ sym (ap answer_of (judged-verdict judged)) ∙ figures;
+          planner = answer ∙ sym (ap answer_of (judged_verdict judged)) ∙ figures;
           writer = figures;
-          lowest = rw (← count, ← root, archive-runs d t marks) low.3;
+          lowest = rw (← count, ← root, archive_runs d t marks) low.3;
         }

@@ -1,5 +1,5 @@
--- The candidates of an entry, and the one that wins: what holds of every candidate holds of the winner (winner-all),
--- and the winner is no worse than any candidate (winner-below).
+-- The candidates of an entry, and the one that wins: what holds of every candidate holds of the winner (winner_all),
+-- and the winner is no worse than any candidate (winner_below).
 -- Defines AllOf, AnyOf, Below, stayed and ran (the candidates where the last child stays, and where it ends a run).
 -- Assumes nothing.
 use Rattle.std.specs.Prelude.{ℕ, ◌+◌, ◌≤◌, ◌≡◌, refl, Bool, true, false, ◌&&◌, ◌||◌, List, [], ◌∷◌, ◌++◌, reverse, ◌⊎◌, leb, ltb, eqb}
@@ -7,9 +7,9 @@ use Rattle.std.proofs.Common.{inl, inr, arith, leb-true, le-leb, ltb-true, ltb-f
 use Rattle.std.proofs.lemmas.Bool.{eqb-false}
 use Rattle.model.specs.Basics.{pick}
 use Rattle.model.specs.Plan.{stays, begins}
-use Rattle.model.specs.Steps.{Member, Child, Entry, restSum, takenCount, better, leastOf, winner, staying, runChoices}
+use Rattle.model.specs.Steps.{Member, Child, Entry, rest_sum, taken_count, better, least_of, winner, staying, run_choices}
 use Rattle.model.specs.Steps.{running}
-use Rattle.theory.specs.Ranges.{pick-both}
+use Rattle.theory.specs.Ranges.{pick_both}
 
 abbrev pub AllOf : (Entry → Type 0) → List Entry → Type 0
 AllOf P [] = Unit {0}
@@ -28,35 +28,35 @@ any_left P [] ds p = absurd p
 any_left P (c ∷ cs) ds (inl p) = inl p
 any_left P (c ∷ cs) ds (inr p) = inr (any_left P cs ds p)
 
-pub any-right : (P : Entry → Type 0) (cs ds : List Entry) → AnyOf P ds → AnyOf P (cs ++ ds)
-any-right P [] ds p = p
-any-right P (c ∷ cs) ds p = inr (any-right P cs ds p)
+pub any_right : (P : Entry → Type 0) (cs ds : List Entry) → AnyOf P ds → AnyOf P (cs ++ ds)
+any_right P [] ds p = p
+any_right P (c ∷ cs) ds p = inr (any_right P cs ds p)
 
 -- what holds of each holds of the least
-pub least-all : (P : Entry → Type 0) (e : Entry) (cs : List Entry) → P e → AllOf P cs → P (leastOf e cs)
-unfolding leastOf better
-least-all P e [] p q = p
-least-all P e (c ∷ cs) p q = least-all P (better e c) cs (pick-both P _ c e q.0 p) q.1
+pub least_all : (P : Entry → Type 0) (e : Entry) (cs : List Entry) → P e → AllOf P cs → P (least_of e cs)
+unfolding least_of better
+least_all P e [] p q = p
+least_all P e (c ∷ cs) p q = least_all P (better e c) cs (pick_both P _ c e q.0 p) q.1
 
 -- the winner is a candidate, if there is one
-pub winner-all : (P Q : Entry → Type 0) (s : ℕ) (cs : List Entry) → AllOf P cs → AnyOf Q cs → P (winner s cs)
+pub winner_all : (P Q : Entry → Type 0) (s : ℕ) (cs : List Entry) → AllOf P cs → AnyOf Q cs → P (winner s cs)
 unfolding winner
-winner-all P Q s [] p q = absurd q
-winner-all P Q s (c ∷ cs) p q = least-all P c cs p.0 p.1
+winner_all P Q s [] p q = absurd q
+winner_all P Q s (c ∷ cs) p q = least_all P c cs p.0 p.1
 
 -- an entry is no worse than n pages and rest z: no more pages and, where it has as many, no heavier rest
 pub record Below (e : Entry) (n z : ℕ) : Type 0 where
   pub count : e.count ≤ n
   pub rest : n ≤ e.count → e.rest ≤ z
 
-below-trans : {e c : Entry} {n z : ℕ} → Below e c.count c.rest → Below c n z → Below e n z
-below-trans p q =
+below_trans : {e c : Entry} {n z : ℕ} → Below e c.count c.rest → Below c n z → Below e n z
+below_trans p q =
     record { count = omega arith; rest = λ i. omega (arith, p.rest (omega arith), q.rest (omega arith)) }
 
 -- the better of two entries is no worse than either
-better-below : (e c : Entry) → Below (better e c) e.count e.rest × Below (better e c) c.count c.rest
+better_below : (e c : Entry) → Below (better e c) e.count e.rest × Below (better e c) c.count c.rest
 unfolding better pick
-better-below e c =
+better_below e c =
     ask (ltb c.count e.count) refl (eqb c.count e.count) refl (ltb c.rest e.rest) refl
   where
     self : (e : Entry) → Below e e.count e.rest
@@ -78,19 +78,19 @@ better-below e c =
         let h = ltb-false c.count e.count p in
         (self e, record { count = h; rest = λ i. absurd (eqb-false c.count e.count q (omega arith)) })
 
-least-below : (e : Entry) (cs : List Entry) (n z : ℕ) → Below e n z ⊎ AnyOf (λ (c : Entry). Below c n z) cs
-    → Below (leastOf e cs) n z
-unfolding leastOf
-least-below e [] n z (inl h) = h
-least-below e [] n z (inr h) = absurd h
-least-below e (c ∷ cs) n z (inl h) = least-below (better e c) cs n z (inl (below-trans (better-below e c).0 h))
-least-below e (c ∷ cs) n z (inr (inl h)) = least-below (better e c) cs n z (inl (below-trans (better-below e c).1 h))
-least-below e (c ∷ cs) n z (inr (inr h)) = least-below (better e c) cs n z (inr h)
+least_below : (e : Entry) (cs : List Entry) (n z : ℕ) → Below e n z ⊎ AnyOf (λ (c : Entry). Below c n z) cs
+    → Below (least_of e cs) n z
+unfolding least_of
+least_below e [] n z (inl h) = h
+least_below e [] n z (inr h) = absurd h
+least_below e (c ∷ cs) n z (inl h) = least_below (better e c) cs n z (inl (below_trans (better_below e c).0 h))
+least_below e (c ∷ cs) n z (inr (inl h)) = least_below (better e c) cs n z (inl (below_trans (better_below e c).1 h))
+least_below e (c ∷ cs) n z (inr (inr h)) = least_below (better e c) cs n z (inr h)
 
-pub winner-below : (s : ℕ) (cs : List Entry) (n z : ℕ) → AnyOf (λ (c : Entry). Below c n z) cs → Below (winner s cs) n z
+pub winner_below : (s : ℕ) (cs : List Entry) (n z : ℕ) → AnyOf (λ (c : Entry). Below c n z) cs → Below (winner s cs) n z
 unfolding winner
-winner-below s [] n z h = absurd h
-winner-below s (c ∷ cs) n z h = least-below c cs n z h
+winner_below s [] n z h = absurd h
+winner_below s (c ∷ cs) n z h = least_below c cs n z h
 
 -- the candidate where the last child stays, and the one where it ends a run
 abbrev pub stayed : Entry → Entry
@@ -99,36 +99,36 @@ stayed e = record { count = e.count; rest = e.rest; choices = record { mark = st
 abbrev pub ran : List Member → Entry → Entry
 ran ms e =
     record {
-      count = e.count + 1 + takenCount ms;
+      count = e.count + 1 + taken_count ms;
       rest = e.rest;
-      choices = reverse (runChoices begins ms) ++ e.choices;
+      choices = reverse (run_choices begins ms) ++ e.choices;
     }
 
 -- a candidate that there is where a is at most K
-tested-all : (P : Entry → Type 0) (a K : ℕ) (c : Entry) → (a ≤ K → P c) → AllOf P (pick (leb a K) (c ∷ []) [])
+tested_all : (P : Entry → Type 0) (a K : ℕ) (c : Entry) → (a ≤ K → P c) → AllOf P (pick (leb a K) (c ∷ []) [])
 unfolding pick
-tested-all P a K c h = ask (leb a K) refl
+tested_all P a K c h = ask (leb a K) refl
   where
     ask : (b : Bool) → leb a K ≡ b → AllOf P (pick b (c ∷ []) [])
     ask true p = (h (leb-true a K p), tt)
     ask false p = tt
 
-pub staying-all : (P : Entry → Type 0) (K s : ℕ) (k : Child) (e : Entry) → (s + k.rest ≤ K → P (stayed e))
+pub staying_all : (P : Entry → Type 0) (K s : ℕ) (k : Child) (e : Entry) → (s + k.rest ≤ K → P (stayed e))
     → AllOf P (staying K s k e)
 unfolding staying
-staying-all P K s k e h = tested-all P (s + k.rest) K (stayed e) h
+staying_all P K s k e h = tested_all P (s + k.rest) K (stayed e) h
 
-pub staying-any : (P : Entry → Type 0) (K s : ℕ) (k : Child) (e : Entry) → s + k.rest ≤ K → P (stayed e)
+pub staying_any : (P : Entry → Type 0) (K s : ℕ) (k : Child) (e : Entry) → s + k.rest ≤ K → P (stayed e)
     → AnyOf P (staying K s k e)
 unfolding staying pick
-staying-any P K s k e l h = rw (le-leb (s + k.rest) K l) (inl h)
+staying_any P K s k e l h = rw (le-leb (s + k.rest) K l) (inl h)
 
-pub running-all : (P : Entry → Type 0) (K : ℕ) (ms : List Member) (e : Entry) → (restSum ms ≤ K → P (ran ms e))
+pub running_all : (P : Entry → Type 0) (K : ℕ) (ms : List Member) (e : Entry) → (rest_sum ms ≤ K → P (ran ms e))
     → AllOf P (running K ms e)
 unfolding running
-running-all P K ms e h = tested-all P (restSum ms) K (ran ms e) h
+running_all P K ms e h = tested_all P (rest_sum ms) K (ran ms e) h
 
-pub running-any : (P : Entry → Type 0) (K : ℕ) (ms : List Member) (e : Entry) → restSum ms ≤ K → P (ran ms e)
+pub running_any : (P : Entry → Type 0) (K : ℕ) (ms : List Member) (e : Entry) → rest_sum ms ≤ K → P (ran ms e)
     → AnyOf P (running K ms e)
 unfolding running pick
-running-any P K ms e l h = rw (le-leb (restSum ms) K l) (inl h)
+running_any P K ms e l h = rw (le-leb (rest_sum ms) K l) (inl h)

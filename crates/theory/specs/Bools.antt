@@ -21,20 +21,20 @@ same_true false false f g = refl
 
 -- ---- And
 
-pub and-true : (a b : Bool) → a ≡ true → b ≡ true → (a && b) ≡ true
-and-true a b e h = rw (e, h)
+pub and_true : (a b : Bool) → a ≡ true → b ≡ true → (a && b) ≡ true
+and_true a b e h = rw (e, h)
 
-pub and-false-left : (a b : Bool) → a ≡ false → (a && b) ≡ false
-and-false-left a b e = rw e
+pub and_false_left : (a b : Bool) → a ≡ false → (a && b) ≡ false
+and_false_left a b e = rw e
 
-pub and-false-right : (a b : Bool) → b ≡ false → (a && b) ≡ false
-and-false-right a b e = rw (e, and-false)
+pub and_false_right : (a b : Bool) → b ≡ false → (a && b) ≡ false
+and_false_right a b e = rw (e, and-false)
 
 pub both_true : (a b : Bool) → (a && b) ≡ true → (a ≡ true) × (b ≡ true)
 both_true a b = (and-eq-true_iff a b).0
 
-pub three-true : (a b c : Bool) → (a && b && c) ≡ true → (a ≡ true) × (b ≡ true) × (c ≡ true)
-three-true a b c e = let h = both_true (a && b) c e in let k = both_true a b h.0 in (k.0, k.1, h.1)
+pub three_true : (a b c : Bool) → (a && b && c) ≡ true → (a ≡ true) × (b ≡ true) × (c ≡ true)
+three_true a b c e = let h = both_true (a && b) c e in let k = both_true a b h.0 in (k.0, k.1, h.1)
 
 -- ---- Or
 

@@ -1,91 +1,91 @@
 -- An entry that judges a tree and a plan under rules, and then checks a list of its own: its ends, as a program comes
 -- to them, and what its answer tells.
--- Proves judge-passes, judge-fails, judge-given, given-zero; after_never, after-parts, after-zero; judge-stands,
--- after-stands, after-done, after_last; and of the check of a length short-output, long-output. Assumes nothing.
+-- Proves judge_passes, judge_fails, judge_given, given_zero; after_never, after_parts, after_zero; judge_stands,
+-- after_stands, after_done, after_last; and of the check of a length short_output, long_output. Assumes nothing.
 use Rattle.std.specs.Prelude.{ℕ, false, ◌≡◌, List, [], ◌∷◌, ◌++◌, length}
 use Rattle.std.proofs.Math.Bool.{true}
 use Rattle.std.proofs.Math.Path.{sym}
 use Rattle.std.proofs.Common.{◌∙◌, ap}
-use Rattle.model.specs.Plan.{verdictOf}
-use Rattle.model.specs.Refusals.{Rules, Check, badOutput, judgeChecks, passes, feasibleBy, answer_of, refused, first_of}
-use Rattle.model.specs.Refusals.{outcome, checked, judgeBy}
+use Rattle.model.specs.Plan.{verdict_of}
+use Rattle.model.specs.Refusals.{Rules, Check, bad_output, judge_checks, passes, feasible_by, answer_of, refused, first_of}
+use Rattle.model.specs.Refusals.{outcome, checked, judge_by}
 use Rattle.model.specs.declared.Answer.{Answer}
-use Rattle.theory.specs.Ranges.{atPlace-at, atPlace-nowhere}
+use Rattle.theory.specs.Ranges.{at_place_at, at_place_nowhere}
 use Rattle.theory.specs.Bools.{never_true}
-use Rattle.theory.specs.Checks.{Never, passes-both, firstOf-pass, firstOf-all}
-use Rattle.theory.specs.Checks.{never-append, accepted-pass, judge-never}
-use Rattle.theory.specs.Entries.{unequal, equal, entry-after, entry_done, entry-stands, entry-before}
-use Rattle.theory.specs.PlanFeasible.{with-judged, judged-zero}
+use Rattle.theory.specs.Checks.{Never, passes_both, first_of_pass, first_of_all}
+use Rattle.theory.specs.Checks.{never_append, accepted_pass, judge_never}
+use Rattle.theory.specs.Entries.{unequal, equal, entry_after, entry_done, entry_stands, entry_before}
+use Rattle.theory.specs.PlanFeasible.{with_judged, judged_zero}
 
 -- ---- The judge
 
 module _ (rules : Rules) (t m : List ℕ) where
   abbrev judging : List Check
-  judging = judgeChecks rules t m
+  judging = judge_checks rules t m
 
   abbrev given : Answer
-  given = answer_of (verdictOf t m)
+  given = answer_of (verdict_of t m)
 
-  pub judge-passes : (judgeBy rules t m).number ≡ 0 → feasibleBy rules t m ≡ true
-  judge-passes z = accepted-pass judging given (judge-never rules t m) z
+  pub judge_passes : (judge_by rules t m).number ≡ 0 → feasible_by rules t m ≡ true
+  judge_passes z = accepted_pass judging given (judge_never rules t m) z
 
-  pub judge-given : feasibleBy rules t m ≡ true → judgeBy rules t m ≡ answer_of (verdictOf t m)
-  judge-given f = firstOf-all judging given f
+  pub judge_given : feasible_by rules t m ≡ true → judge_by rules t m ≡ answer_of (verdict_of t m)
+  judge_given f = first_of_all judging given f
 
-  pub given-zero : feasibleBy rules t m ≡ true → (answer_of (verdictOf t m)).number ≡ 0
-  given-zero f = judged-zero (with-judged rules t m f)
+  pub given_zero : feasible_by rules t m ≡ true → (answer_of (verdict_of t m)).number ≡ 0
+  given_zero f = judged_zero (with_judged rules t m f)
 
-  pub judge-fails : ((judgeBy rules t m).number ≡ 0 → ⊥) → feasibleBy rules t m ≡ false
-  judge-fails h =
-      never_true (feasibleBy rules t m)
-      (λ f. h (ap (λ (x : Answer). x.number) (judge-given f) ∙ given-zero f))
+  pub judge_fails : ((judge_by rules t m).number ≡ 0 → ⊥) → feasible_by rules t m ≡ false
+  judge_fails h =
+      never_true (feasible_by rules t m)
+      (λ f. h (ap (λ (x : Answer). x.number) (judge_given f) ∙ given_zero f))
 
   -- ---- What is checked after it
 
   module _ (after : List Check) where
-    pub after_never : Never 0 after → Never 0 (judgeChecks rules t m ++ after)
-    after_never fine = never-append 0 judging after (judge-never rules t m) fine
+    pub after_never : Never 0 after → Never 0 (judge_checks rules t m ++ after)
+    after_never fine = never_append 0 judging after (judge_never rules t m) fine
 
-    pub after-parts : passes (judgeChecks rules t m ++ after) ≡ true
-        → (feasibleBy rules t m ≡ true) × (passes after ≡ true)
-    after-parts e = passes-both judging after e
+    pub after_parts : passes (judge_checks rules t m ++ after) ≡ true
+        → (feasible_by rules t m ≡ true) × (passes after ≡ true)
+    after_parts e = passes_both judging after e
 
-    pub after-zero : passes (judgeChecks rules t m ++ after) ≡ true → (answer_of (verdictOf t m)).number ≡ 0
-    after-zero e = given-zero (after-parts e).0
+    pub after_zero : passes (judge_checks rules t m ++ after) ≡ true → (answer_of (verdict_of t m)).number ≡ 0
+    after_zero e = given_zero (after_parts e).0
 
     module _ {Left : Type 0} (done lent : Left) where
       -- a refusal of the judge
-      pub judge-stands : {j : Answer} → j ≡ judgeBy rules t m → (j.number ≡ 0 → ⊥)
-          → outcome j lent ≡ checked (judgeChecks rules t m ++ after) (answer_of (verdictOf t m)) done lent
-      judge-stands is h = entry-before given done lent judging after given given-zero is h
+      pub judge_stands : {j : Answer} → j ≡ judge_by rules t m → (j.number ≡ 0 → ⊥)
+          → outcome j lent ≡ checked (judge_checks rules t m ++ after) (answer_of (verdict_of t m)) done lent
+      judge_stands is h = entry_before given done lent judging after given given_zero is h
 
-      module _ (f : feasibleBy rules t m ≡ true) where
+      module _ (f : feasible_by rules t m ≡ true) where
         -- one of what is checked after it
-        pub after-stands : {r : Answer} → r ≡ first_of after (answer_of (verdictOf t m)) → (r.number ≡ 0 → ⊥)
-            → outcome r lent ≡ checked (judgeChecks rules t m ++ after) (answer_of (verdictOf t m)) done lent
-        after-stands is h =
-            entry-stands given done lent after (λ e. given-zero f) is h
-            ∙ sym (entry-after given done lent judging after f)
+        pub after_stands : {r : Answer} → r ≡ first_of after (answer_of (verdict_of t m)) → (r.number ≡ 0 → ⊥)
+            → outcome r lent ≡ checked (judge_checks rules t m ++ after) (answer_of (verdict_of t m)) done lent
+        after_stands is h =
+            entry_stands given done lent after (λ e. given_zero f) is h
+            ∙ sym (entry_after given done lent judging after f)
 
-        pub after-done : passes after ≡ true
-            → checked (judgeChecks rules t m ++ after) (answer_of (verdictOf t m)) done lent
-            ≡ outcome (answer_of (verdictOf t m)) done
-        after-done e = entry-after given done lent judging after f ∙ entry_done given done lent after e
+        pub after_done : passes after ≡ true
+            → checked (judge_checks rules t m ++ after) (answer_of (verdict_of t m)) done lent
+            ≡ outcome (answer_of (verdict_of t m)) done
+        after_done e = entry_after given done lent judging after f ∙ entry_done given done lent after e
 
         -- the answer is that of what is checked after it
-        pub after_last : (checked (judgeChecks rules t m ++ after) (answer_of (verdictOf t m)) done lent).answer
-            ≡ first_of after (answer_of (verdictOf t m))
+        pub after_last : (checked (judge_checks rules t m ++ after) (answer_of (verdict_of t m)) done lent).answer
+            ≡ first_of after (answer_of (verdict_of t m))
         unfolding checked
-        after_last = firstOf-pass judging after given f
+        after_last = first_of_pass judging after given f
 
 -- ---- The length of an output
 
 module _ (size : ℕ) (out : List ℕ) where
-  pub short-output : (a : Answer) → (length out ≡ size → ⊥) → refused 12 size ≡ first_of (badOutput size out ∷ []) a
-  unfolding badOutput first_of
-  short-output a other =
-      sym (atPlace-at (badOutput size out).place size (refused 12) a (unequal (length out) size other))
+  pub short_output : (a : Answer) → (length out ≡ size → ⊥) → refused 12 size ≡ first_of (bad_output size out ∷ []) a
+  unfolding bad_output first_of
+  short_output a other =
+      sym (at_place_at (bad_output size out).place size (refused 12) a (unequal (length out) size other))
 
-  pub long-output : length out ≡ size → passes (badOutput size out ∷ []) ≡ true
-  unfolding badOutput passes
-  long-output fits = atPlace-nowhere (badOutput size out).place (λ q. false) true (equal (length out) size fits)
+  pub long_output : length out ≡ size → passes (bad_output size out ∷ []) ≡ true
+  unfolding bad_output passes
+  long_output fits = at_place_nowhere (bad_output size out).place (λ q. false) true (equal (length out) size fits)

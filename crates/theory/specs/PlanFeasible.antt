@@ -1,34 +1,34 @@
 -- Feasible plans by number and by shape: the judge finds nothing just where node 1 has mark 1, the marks of the tree
 -- are allowed and every page by shape is within the limit; the verdict is then page count and root weight.
--- Defines Judged, ShapePlan. Proves within-limit, with-judged, stricter, feasible-judged, film-judged, feasible-filed,
--- feasible-film, judged-feasible, judged-verdict, judged-zero, feasible-judge; filed-feasible, label-stops, film-filed;
--- heavy-bridge, judged-bridge; shape-judged (from FeasibleShape). Assumes nothing.
+-- Defines Judged, ShapePlan. Proves within_limit_lem, with_judged, stricter, feasible_judged, film_judged, feasible_filed,
+-- feasible_film_lem, judged_feasible, judged_verdict, judged_zero, feasible_judge; filed_feasible, label_stops, film_filed;
+-- heavy_bridge, judged_bridge; shape_judged (from FeasibleShape). Assumes nothing.
 use Rattle.std.specs.Prelude.{ℕ, zero, suc, ◌-◌, ◌≤◌, false, not, ◌≡◌, refl, ◌↔◌, List, [], ◌∷◌, length, get_or}
 use Rattle.std.proofs.Common.{arith, ◌∙◌, ap}
 use Rattle.std.proofs.Math.Bool.{true}
 use Rattle.std.proofs.Math.Dec.{ltb}
 use borrow.Author.Tests.{eqb-true, eq-eqb, le-ltb, ltb-false, not-false}
 use Rattle.model.specs.Basics.{pick}
-use Rattle.model.specs.Table.{nodeCount, limitOf, tree_of}
-use Rattle.model.specs.Plan.{markAt, pageCount, pageWeight, badMark, heavyPage, verdictOf}
-use Rattle.model.specs.Refusals.{Rules, passes, asked, no_label, badMarks, markRefused, pageRefused, headChecks}
-use Rattle.model.specs.Refusals.{nodeChecks, weightChecks, formChecks, treeChecks, foundChecks, markChecks, judgeChecks}
-use Rattle.model.specs.Refusals.{acceptedTree, plainRules, filmRules, feasibleBy, feasiblePlan, feasibleFilm}
-use Rattle.model.specs.Refusals.{first_of, answer_of, refused, judgePlan}
+use Rattle.model.specs.Table.{node_count, limit_of, tree_of}
+use Rattle.model.specs.Plan.{mark_at, page_count, page_weight, bad_mark, heavy_page, verdict_of}
+use Rattle.model.specs.Refusals.{Rules, passes, asked, no_label, bad_marks, mark_refused, page_refused, head_checks}
+use Rattle.model.specs.Refusals.{node_checks, weight_checks, form_checks, tree_checks, found_checks, mark_checks, judge_checks}
+use Rattle.model.specs.Refusals.{accepted_tree, plain_rules, film_rules, feasible_by, feasible_plan, feasible_film}
+use Rattle.model.specs.Refusals.{first_of, answer_of, refused, judge_plan}
 use Rattle.model.specs.Demand.{Filed}
 use Rattle.model.specs.declared.Answer.{Answer}
 use Rattle.model.specs.declared.Edition.{Edition}
 use Rattle.model.specs.declared.Place.TheVariants.{At, Nowhere}
 use Rattle.model.specs.declared.Verdict.TheVariants.{Feasible}
-use Rattle.theory.specs.Ranges.{Upto, when_false, when-nowhere, atPlace-nowhere, firstTo-none, firstTo-nowhere}
-use Rattle.theory.specs.Checks.{Pass, pass_all, passes-both, both-pass, firstOf-all}
-use Rattle.theory.specs.Checks.{firstOf-pass, firstOf-append, asked-none, asked-less, node-stops}
-use Rattle.theory.specs.TableFacts.{SoundFacts, AcceptedFacts, nowhere-filed, passed-facts}
-use Rattle.theory.specs.TableNumbered.{tree-size}
+use Rattle.theory.specs.Ranges.{Upto, when_false, when_nowhere, at_place_nowhere, first_to_none, first_to_nowhere}
+use Rattle.theory.specs.Checks.{Pass, pass_all, passes_both, both_pass, first_of_all}
+use Rattle.theory.specs.Checks.{first_of_pass, first_of_append, asked_none, asked_less, node_stops}
+use Rattle.theory.specs.TableFacts.{SoundFacts, AcceptedFacts, nowhere_filed, passed_facts}
+use Rattle.theory.specs.TableNumbered.{tree_size}
 use Rattle.theory.specs.PlanShape.{allowed, weighed, AllWithin}
 use Rattle.theory.specs.PlanLaid.{FeasibleShape}
-use Rattle.theory.specs.PlanMarks.{marks-bridge}
-use Rattle.theory.specs.PlanBridge.{count-bridge, weight-bridge}
+use Rattle.theory.specs.PlanMarks.{marks_bridge}
+use Rattle.theory.specs.PlanBridge.{count_bridge, weight_bridge}
 
 -- ---- Pages within a limit, by their places in the list
 
@@ -42,10 +42,10 @@ within_all K (x ∷ ps) h (suc (suc p)) low high =
     let there : suc p - 1 ≡ p = omega arith in
     rw here (rw there at (within_all K ps h.1 (suc p) (omega arith) (omega arith)))
 
-pub all-within : (K : ℕ) (ps : List ℕ) → Upto (length ps) (λ p. get_or ps (p - 1) 0 ≤ K) → AllWithin K ps
+pub all_within : (K : ℕ) (ps : List ℕ) → Upto (length ps) (λ p. get_or ps (p - 1) 0 ≤ K) → AllWithin K ps
 unfolding AllWithin
-all-within K [] h = tt
-all-within K (x ∷ ps) h = (h 1 (omega arith) (omega arith), all-within K ps rest)
+all_within K [] h = tt
+all_within K (x ∷ ps) h = (h 1 (omega arith) (omega arith), all_within K ps rest)
   where
     rest : Upto (length ps) (λ p. get_or ps (p - 1) 0 ≤ K)
     rest zero low high = absurd (omega arith)
@@ -59,175 +59,175 @@ all-within K (x ∷ ps) h = (h 1 (omega arith) (omega arith), all-within K ps re
 -- the judge finds nothing in a tree and a plan
 pub record Judged (t m : List ℕ) : Type 0 where
   pub tree : AcceptedFacts t
-  pub long : length m ≡ nodeCount t
-  pub marked : badMark t m ≡ Nowhere
-  pub light : heavyPage t m ≡ Nowhere
+  pub long : length m ≡ node_count t
+  pub marked : bad_mark t m ≡ Nowhere
+  pub light : heavy_page t m ≡ Nowhere
 
-pub within-limit : {t m : List ℕ} → Judged t m → Upto (pageCount t m) (λ p. pageWeight t m p ≤ limitOf t)
-unfolding heavyPage
-within-limit {t} {m} j p low high =
-    ltb-false (limitOf t) (pageWeight t m p)
-    (firstTo-nowhere (pageCount t m) (λ q. ltb (limitOf t) (pageWeight t m q)) j.light p low high)
+pub within_limit_lem : {t m : List ℕ} → Judged t m → Upto (page_count t m) (λ p. page_weight t m p ≤ limit_of t)
+unfolding heavy_page
+within_limit_lem {t} {m} j p low high =
+    ltb-false (limit_of t) (page_weight t m p)
+    (first_to_nowhere (page_count t m) (λ q. ltb (limit_of t) (page_weight t m q)) j.light p low high)
 
-pub marks-judged : (t m : List ℕ) → AcceptedFacts t → passes (markChecks t m) ≡ true → Judged t m
-unfolding Pass markChecks badMarks foundChecks markRefused pageRefused
-marks-judged t m a e =
-    let p = (pass_all (markChecks t m)).0 e in
+pub marks_judged : (t m : List ℕ) → AcceptedFacts t → passes (mark_checks t m) ≡ true → Judged t m
+unfolding Pass mark_checks bad_marks found_checks mark_refused page_refused
+marks_judged t m a e =
+    let p = (pass_all (mark_checks t m)).0 e in
     record {
       tree = a;
-      long = eqb-true (length m) (nodeCount t) (not-false _ (when-nowhere _ (nodeCount t) p.0));
+      long = eqb-true (length m) (node_count t) (not-false _ (when_nowhere _ (node_count t) p.0));
       marked = p.1.0;
       light = p.1.1.0;
     }
 
 -- the judge under rules finds nothing
-module _ (r : Rules) (t m : List ℕ) (f : feasibleBy r t m ≡ true) where
-  rule-parts : (passes (headChecks t) ≡ true) × (passes (nodeChecks r.filed t) ≡ true)
-      × (passes (weightChecks t) ≡ true) × (passes (markChecks t m) ≡ true)
-  unfolding judgeChecks treeChecks formChecks
-  rule-parts =
-      let plan = passes-both (treeChecks r.filed t) (markChecks t m) f in
-      let tree = passes-both (formChecks r.filed t) (weightChecks t) plan.0 in
-      let form = passes-both (headChecks t) (nodeChecks r.filed t) tree.0 in
+module _ (r : Rules) (t m : List ℕ) (f : feasible_by r t m ≡ true) where
+  rule_parts : (passes (head_checks t) ≡ true) × (passes (node_checks r.filed t) ≡ true)
+      × (passes (weight_checks t) ≡ true) × (passes (mark_checks t m) ≡ true)
+  unfolding judge_checks tree_checks form_checks
+  rule_parts =
+      let plan = passes_both (tree_checks r.filed t) (mark_checks t m) f in
+      let tree = passes_both (form_checks r.filed t) (weight_checks t) plan.0 in
+      let form = passes_both (head_checks t) (node_checks r.filed t) tree.0 in
       (form.0, form.1, tree.1, plan.1)
 
-  pub with-judged : Judged t m
-  unfolding judgeChecks
-  with-judged =
-      let plan = passes-both (treeChecks r.filed t) (markChecks t m) f in
-      marks-judged t m (passed-facts r.filed t plan.0) plan.1
+  pub with_judged : Judged t m
+  unfolding judge_checks
+  with_judged =
+      let plan = passes_both (tree_checks r.filed t) (mark_checks t m) f in
+      marks_judged t m (passed_facts r.filed t plan.0) plan.1
 
-  labels-asked : (asked r.filed (no_label t)).place ≡ Nowhere
-  unfolding Pass nodeChecks
-  labels-asked = ((pass_all (nodeChecks r.filed t)).0 rule-parts.1).0
+  labels_asked : (asked r.filed (no_label t)).place ≡ Nowhere
+  unfolding Pass node_checks
+  labels_asked = ((pass_all (node_checks r.filed t)).0 rule_parts.1).0
 
   -- nor does the judge under others, where what they ask for applies nowhere
-  other-rules : (s : Rules) → (asked s.filed (no_label t)).place ≡ Nowhere → feasibleBy s t m ≡ true
-  unfolding Pass judgeChecks treeChecks formChecks nodeChecks
-  other-rules s labels =
-      let p = rule-parts in
-      let walk = ((pass_all (nodeChecks r.filed t)).0 p.1).1 in
-      both-pass (treeChecks s.filed t) (markChecks t m)
-      (both-pass (formChecks s.filed t) (weightChecks t)
-      (both-pass (headChecks t) (nodeChecks s.filed t) p.0 ((pass_all (nodeChecks s.filed t)).1 (labels, walk)))
+  other_rules : (s : Rules) → (asked s.filed (no_label t)).place ≡ Nowhere → feasible_by s t m ≡ true
+  unfolding Pass judge_checks tree_checks form_checks node_checks
+  other_rules s labels =
+      let p = rule_parts in
+      let walk = ((pass_all (node_checks r.filed t)).0 p.1).1 in
+      both_pass (tree_checks s.filed t) (mark_checks t m)
+      (both_pass (form_checks s.filed t) (weight_checks t)
+      (both_pass (head_checks t) (node_checks s.filed t) p.0 ((pass_all (node_checks s.filed t)).1 (labels, walk)))
       p.2)
       p.3
 
   -- nor under rules that ask no more
-  pub stricter : (s : Rules) → (s.filed ≡ true → r.filed ≡ true) → feasibleBy s t m ≡ true
-  stricter s filed = other-rules s (asked-less r.filed s.filed (no_label t) filed labels-asked)
+  pub stricter : (s : Rules) → (s.filed ≡ true → r.filed ≡ true) → feasible_by s t m ≡ true
+  stricter s filed = other_rules s (asked_less r.filed s.filed (no_label t) filed labels_asked)
 
-pub feasible-judged : (t m : List ℕ) → feasiblePlan t m ≡ true → Judged t m
-unfolding feasiblePlan
-feasible-judged t m e = with-judged plainRules t m e
+pub feasible_judged : (t m : List ℕ) → feasible_plan t m ≡ true → Judged t m
+unfolding feasible_plan
+feasible_judged t m e = with_judged plain_rules t m e
 
-pub film-judged : (e : Edition) (t m : List ℕ) → feasibleFilm e t m ≡ true → Judged t m
-unfolding feasibleFilm
-film-judged e t m f = with-judged (filmRules e) t m f
+pub film_judged : (e : Edition) (t m : List ℕ) → feasible_film e t m ≡ true → Judged t m
+unfolding feasible_film
+film_judged e t m f = with_judged (film_rules e) t m f
 
 -- no label of an accepted tree is 0
-pub feasible-filed : (t m : List ℕ) → feasiblePlan t m ≡ true → Filed t
-unfolding feasiblePlan asked pick
-feasible-filed t m f = nowhere-filed t (labels-asked plainRules t m f)
+pub feasible_filed : (t m : List ℕ) → feasible_plan t m ≡ true → Filed t
+unfolding feasible_plan asked pick
+feasible_filed t m f = nowhere_filed t (labels_asked plain_rules t m f)
 
 -- a feasible plan is one on film of every edition
-pub feasible-film : (e : Edition) (t m : List ℕ) → feasiblePlan t m ≡ true → feasibleFilm e t m ≡ true
-unfolding feasiblePlan feasibleFilm
-feasible-film e t m f = stricter plainRules t m f (filmRules e) (λ h. refl)
+pub feasible_film_lem : (e : Edition) (t m : List ℕ) → feasible_plan t m ≡ true → feasible_film e t m ≡ true
+unfolding feasible_plan feasible_film
+feasible_film_lem e t m f = stricter plain_rules t m f (film_rules e) (λ h. refl)
 
-pub judged-feasible : {t m : List ℕ} → acceptedTree t ≡ true → Judged t m → feasiblePlan t m ≡ true
-unfolding Pass feasiblePlan judgeChecks acceptedTree markChecks badMarks foundChecks markRefused pageRefused
-judged-feasible {t} {m} e j =
-    both-pass (treeChecks true t) (markChecks t m) e
-    ((pass_all (markChecks t m)).1
-    (when_false _ (nodeCount t) (ap not (eq-eqb (length m) (nodeCount t) j.long)), (j.marked, (j.light, tt))))
+pub judged_feasible : {t m : List ℕ} → accepted_tree t ≡ true → Judged t m → feasible_plan t m ≡ true
+unfolding Pass feasible_plan judge_checks accepted_tree mark_checks bad_marks found_checks mark_refused page_refused
+judged_feasible {t} {m} e j =
+    both_pass (tree_checks true t) (mark_checks t m) e
+    ((pass_all (mark_checks t m)).1
+    (when_false _ (node_count t) (ap not (eq-eqb (length m) (node_count t) j.long)), (j.marked, (j.light, tt))))
 
-pub judged-verdict : {t m : List ℕ} → Judged t m → verdictOf t m ≡ Feasible (pageCount t m) (pageWeight t m 1)
-unfolding verdictOf
-judged-verdict {t} {m} j = atPlace-nowhere (badMark t m) _ _ j.marked ∙ atPlace-nowhere (heavyPage t m) _ _
+pub judged_verdict : {t m : List ℕ} → Judged t m → verdict_of t m ≡ Feasible (page_count t m) (page_weight t m 1)
+unfolding verdict_of
+judged_verdict {t} {m} j = at_place_nowhere (bad_mark t m) _ _ j.marked ∙ at_place_nowhere (heavy_page t m) _ _
     j.light
 
-pub judged-zero : {t m : List ℕ} → Judged t m → (answer_of (verdictOf t m)).number ≡ 0
-judged-zero j = ap (λ v. (answer_of v).number) (judged-verdict j)
+pub judged_zero : {t m : List ℕ} → Judged t m → (answer_of (verdict_of t m)).number ≡ 0
+judged_zero j = ap (λ v. (answer_of v).number) (judged_verdict j)
 
 -- ---- The judge's answer
 
-pub feasible-judge : (t m : List ℕ) → feasiblePlan t m ≡ true
-    → judgePlan t m ≡ answer_of (Feasible (pageCount t m) (pageWeight t m 1))
-unfolding judgePlan feasiblePlan
-feasible-judge t m e =
-    firstOf-all (judgeChecks plainRules t m) (answer_of (verdictOf t m)) e
-    ∙ ap answer_of (judged-verdict (feasible-judged t m e))
+pub feasible_judge : (t m : List ℕ) → feasible_plan t m ≡ true
+    → judge_plan t m ≡ answer_of (Feasible (page_count t m) (page_weight t m 1))
+unfolding judge_plan feasible_plan
+feasible_judge t m e =
+    first_of_all (judge_checks plain_rules t m) (answer_of (verdict_of t m)) e
+    ∙ ap answer_of (judged_verdict (feasible_judged t m e))
 
 -- ---- A plan on film, in which nothing but labels is refused
 
-module _ (e : Edition) (t m : List ℕ) (f : feasibleFilm e t m ≡ true) where
+module _ (e : Edition) (t m : List ℕ) (f : feasible_film e t m ≡ true) where
   -- with no label 0 it is feasible
-  pub filed-feasible : (no_label t).place ≡ Nowhere → feasiblePlan t m ≡ true
-  unfolding feasiblePlan feasibleFilm
-  filed-feasible none = other-rules (filmRules e) t m f plainRules (asked-none true (no_label t) none)
+  pub filed_feasible : (no_label t).place ≡ Nowhere → feasible_plan t m ≡ true
+  unfolding feasible_plan feasible_film
+  filed_feasible none = other_rules (film_rules e) t m f plain_rules (asked_none true (no_label t) none)
 
   -- with one, 14 is the answer
-  pub label-stops : (v : ℕ) → (no_label t).place ≡ At v → (a : Answer)
-      → first_of (judgeChecks plainRules t m) a ≡ refused 14 v
-  unfolding feasibleFilm judgeChecks treeChecks formChecks
-  label-stops v found a =
-      firstOf-append (treeChecks true t) (markChecks t m) a
-      ∙ firstOf-append (formChecks true t) (weightChecks t) (first_of (markChecks t m) a)
-      ∙ firstOf-pass (headChecks t) (nodeChecks true t) _ (rule-parts (filmRules e) t m f).0
-      ∙ node-stops t v found _
+  pub label_stops : (v : ℕ) → (no_label t).place ≡ At v → (a : Answer)
+      → first_of (judge_checks plain_rules t m) a ≡ refused 14 v
+  unfolding feasible_film judge_checks tree_checks form_checks
+  label_stops v found a =
+      first_of_append (tree_checks true t) (mark_checks t m) a
+      ∙ first_of_append (form_checks true t) (weight_checks t) (first_of (mark_checks t m) a)
+      ∙ first_of_pass (head_checks t) (node_checks true t) _ (rule_parts (film_rules e) t m f).0
+      ∙ node_stops t v found _
 
   -- film of a filed edition has none
-  pub film-filed : e.filed ≡ true → feasiblePlan t m ≡ true
-  unfolding feasiblePlan feasibleFilm
-  film-filed is = stricter (filmRules e) t m f plainRules (λ h. is)
+  pub film_filed : e.filed ≡ true → feasible_plan t m ≡ true
+  unfolding feasible_plan feasible_film
+  film_filed is = stricter (film_rules e) t m f plain_rules (λ h. is)
 
 -- ---- By shape
 
 -- a plan by shape
 pub record ShapePlan (t m : List ℕ) : Type 0 where
-  pub first : markAt m 1 ≡ 1
+  pub first : mark_at m 1 ≡ 1
   pub allows : allowed false (tree_of t) m ≡ true
-  pub within : AllWithin (limitOf t) (weighed (tree_of t) m).pages
+  pub within : AllWithin (limit_of t) (weighed (tree_of t) m).pages
 
-module _ {t : List ℕ} (s : SoundFacts t) (m : List ℕ) (long : length m ≡ nodeCount t) where
-  pub heavy-bridge : allowed false (tree_of t) m ≡ true → (heavyPage t m ≡ Nowhere) ↔ AllWithin (limitOf t)
+module _ {t : List ℕ} (s : SoundFacts t) (m : List ℕ) (long : length m ≡ node_count t) where
+  pub heavy_bridge : allowed false (tree_of t) m ≡ true → (heavy_page t m ≡ Nowhere) ↔ AllWithin (limit_of t)
       (weighed (tree_of t) m).pages
-  unfolding heavyPage
-  heavy-bridge ok = (
-    λ e. all-within (limitOf t) (weighed (tree_of t) m).pages
+  unfolding heavy_page
+  heavy_bridge ok = (
+    λ e. all_within (limit_of t) (weighed (tree_of t) m).pages
         (λ p low high.
-        rw (← weight-bridge s m long ok p low)
-        (ltb-false (limitOf t) (pageWeight t m p)
-        (firstTo-nowhere (pageCount t m) (λ p. ltb (limitOf t) (pageWeight t m p)) e p low
-        (omega (arith, count-bridge s m long ok))))),
-    λ h. firstTo-none (pageCount t m) (λ p. ltb (limitOf t) (pageWeight t m p))
+        rw (← weight_bridge s m long ok p low)
+        (ltb-false (limit_of t) (page_weight t m p)
+        (first_to_nowhere (page_count t m) (λ p. ltb (limit_of t) (page_weight t m p)) e p low
+        (omega (arith, count_bridge s m long ok))))),
+    λ h. first_to_none (page_count t m) (λ p. ltb (limit_of t) (page_weight t m p))
         (λ p low high.
-        le-ltb (limitOf t) (pageWeight t m p)
-        (rw (weight-bridge s m long ok p low)
-        (within_all (limitOf t) (weighed (tree_of t) m).pages h p low (omega (arith, count-bridge s m long ok))))),
+        le-ltb (limit_of t) (page_weight t m p)
+        (rw (weight_bridge s m long ok p low)
+        (within_all (limit_of t) (weighed (tree_of t) m).pages h p low (omega (arith, count_bridge s m long ok))))),
   )
 
-module _ {t : List ℕ} (a : AcceptedFacts t) (m : List ℕ) (long : length m ≡ nodeCount t) where
+module _ {t : List ℕ} (a : AcceptedFacts t) (m : List ℕ) (long : length m ≡ node_count t) where
   -- the judge finds nothing: a plan by shape
-  pub judged-bridge : Judged t m ↔ ShapePlan t m
-  judged-bridge = (
+  pub judged_bridge : Judged t m ↔ ShapePlan t m
+  judged_bridge = (
     λ j.
-        let both = (marks-bridge a.sound m long).0 j.marked in
-        record { first = both.0; allows = both.1; within = (heavy-bridge a.sound m long both.1).0 j.light },
+        let both = (marks_bridge a.sound m long).0 j.marked in
+        record { first = both.0; allows = both.1; within = (heavy_bridge a.sound m long both.1).0 j.light },
     λ p. record {
       tree = a;
       long = long;
-      marked = (marks-bridge a.sound m long).1 (p.first, p.allows);
-      light = (heavy-bridge a.sound m long p.allows).1 p.within;
+      marked = (marks_bridge a.sound m long).1 (p.first, p.allows);
+      light = (heavy_bridge a.sound m long p.allows).1 p.within;
     },
   )
 
 -- what the judge finds of a plan by shape
-pub shape-judged : {t : List ℕ} → AcceptedFacts t → (m : List ℕ) (root : ℕ) → FeasibleShape (limitOf t) (tree_of t) m
+pub shape_judged : {t : List ℕ} → AcceptedFacts t → (m : List ℕ) (root : ℕ) → FeasibleShape (limit_of t) (tree_of t) m
     root
     → Judged t m
-unfolding markAt
-shape-judged {t} a m root f =
-    let long : length m ≡ nodeCount t = omega (arith, f.long, tree-size a.sound) in
-    (judged-bridge a m long).1 (record { first = f.first; allows = f.allows; within = f.within })
+unfolding mark_at
+shape_judged {t} a m root f =
+    let long : length m ≡ node_count t = omega (arith, f.long, tree_size a.sound) in
+    (judged_bridge a m long).1 (record { first = f.first; allows = f.allows; within = f.within })

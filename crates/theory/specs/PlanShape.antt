@@ -11,18 +11,18 @@ runs zero = false
 runs (suc k) = true
 
 -- 0 and 1 are allowed anywhere, and 2 after a sibling in a run
-unfoldable pub allowedMark : Bool → ℕ → Bool
-allowedMark after zero = true
-allowedMark after (suc zero) = true
-allowedMark after (suc (suc zero)) = after
-allowedMark after (suc (suc (suc k))) = false
+unfoldable pub allowed_mark : Bool → ℕ → Bool
+allowed_mark after zero = true
+allowed_mark after (suc zero) = true
+allowed_mark after (suc (suc zero)) = after
+allowed_mark after (suc (suc (suc k))) = false
 
 -- the marks of a chain are allowed, where `after` says that the sibling just before it is in a run
 unfoldable pub allowed : Bool → Chain → List ℕ → Bool
 allowed after end ms = true
 allowed after (node w l kids next) [] = false
 allowed after (node w l kids next) (k ∷ ms) =
-    allowedMark after k && allowed false kids ms && allowed (runs k) next (drop (size kids) ms)
+    allowed_mark after k && allowed false kids ms && allowed (runs k) next (drop (size kids) ms)
 
 -- What the marks of a chain make of its weight: what stays on the parent's page, what goes to the run that the chain
 -- continues, and the pages that begin in it, by their first nodes.

@@ -1,78 +1,78 @@
 -- What the archive's entries promise beside their equations, in an edition: the writer that every feasible plan is
--- written, and demand 3 (write-promise), the reader demand 2 (read-promise). They rest on the promises of the planner
+-- written, and demand 3 (write_promise), the reader demand 2 (read_promise). They rest on the promises of the planner
 -- and the judge, and on the laws of writing and reading back.
--- Proves write-promise, writes_again, film-written, read-promise. Assumes nothing.
+-- Proves write_promise, writes_again, film_written, read_promise. Assumes nothing.
 use Rattle.std.specs.Prelude.{ℕ, ◌≤◌, true, ◌≡◌, refl, ◌↔◌, List, length}
 use Rattle.std.proofs.Common.{arith, sym, ◌∙◌, ap₂}
 use Rattle.std.proofs.Math.Bool.{false, true≢false}
 use Rattle.std.proofs.Math.Path.{ap}
-use Rattle.model.specs.Table.{Bytes, maxNodes, nodeCount, tableBytes}
-use Rattle.model.specs.Plan.{verdictOf}
-use Rattle.model.specs.Archive.{archiveOf, nodesIn, tableIn, marksIn}
-use Rattle.model.specs.Refusals.{judgeChecks, filmChecks, first_of, feasiblePlan, feasibleFilm, answer_of, Outcome}
-use Rattle.model.specs.Refusals.{outcome, checked, planBest, Written, writeChecks, writeArchive, writeFilm, isArchive}
-use Rattle.model.specs.Refusals.{Rules, filmRules, writerRules, feasibleBy, writeBy, ReadBuffers, readArchive}
+use Rattle.model.specs.Table.{Bytes, max_nodes, node_count, table_bytes}
+use Rattle.model.specs.Plan.{verdict_of}
+use Rattle.model.specs.Archive.{archive_of, nodes_in, table_in, marks_in}
+use Rattle.model.specs.Refusals.{judge_checks, film_checks, first_of, feasible_plan, feasible_film, answer_of, Outcome}
+use Rattle.model.specs.Refusals.{outcome, checked, plan_best, Written, write_checks, write_archive, write_film, is_archive}
+use Rattle.model.specs.Refusals.{Rules, film_rules, writer_rules, feasible_by, write_by, ReadBuffers, read_archive}
 use Rattle.model.specs.Demand.{LowestOnFilm, WritePromise, WrittenFrom, Filed, ReadPromise}
 use Rattle.model.specs.declared.Answer.{Answer}
 use Rattle.model.specs.declared.Edition.{Edition}
 use Rattle.theory.specs.Bools.{never_true}
-use Rattle.theory.specs.Checks.{firstOf-append, never_first, judge-fifteen}
-use Rattle.theory.specs.TableFacts.{filed-nowhere, unfiled-first}
-use Rattle.theory.specs.PlanFeasible.{Judged, feasible-judged, film-judged, judged-verdict}
-use Rattle.theory.specs.PlanFeasible.{judged-zero, feasible-film, filed-feasible, film-filed, feasible-filed}
-use Rattle.theory.specs.PromiseWeight.{write-weight, read-five}
-use Rattle.theory.specs.PromisePlanner.{best-lent, best-plan, best-promise}
-use Rattle.theory.specs.ArchiveWords.{Described, length-archive, archive-nodes}
-use Rattle.theory.specs.ArchiveBack.{write_read, WritesBack, read-write, tableIn-bytes}
-use Rattle.theory.specs.ArchiveAnswers.{write_done, write-many, write-fifteen, write_kept}
-use Rattle.theory.specs.ArchiveAnswers.{WriteDone, writer-done}
-use Rattle.theory.specs.ArchiveAnswers.{unfiled-stops, read_none, read_done, read_kept, reader-done}
-use Rattle.theory.specs.ArchiveAnswers.{read-thirteen}
-use Rattle.theory.specs.ArchiveLowest.{archive-figures, archive-plan, film-lowest}
+use Rattle.theory.specs.Checks.{first_of_append, never_first, judge_fifteen}
+use Rattle.theory.specs.TableFacts.{filed_nowhere, unfiled_first}
+use Rattle.theory.specs.PlanFeasible.{Judged, feasible_judged, film_judged, judged_verdict}
+use Rattle.theory.specs.PlanFeasible.{judged_zero, feasible_film_lem, filed_feasible, film_filed, feasible_filed}
+use Rattle.theory.specs.PromiseWeight.{write_weight, read_five}
+use Rattle.theory.specs.PromisePlanner.{best_lent, best_plan_lem, best_promise}
+use Rattle.theory.specs.ArchiveWords.{Described, length_archive, archive_nodes_lem}
+use Rattle.theory.specs.ArchiveBack.{write_read, WritesBack, read_write, table_in-bytes}
+use Rattle.theory.specs.ArchiveAnswers.{write_done, write_many, write_fifteen, write_kept}
+use Rattle.theory.specs.ArchiveAnswers.{WriteDone, writer_done}
+use Rattle.theory.specs.ArchiveAnswers.{unfiled_stops, read_none, read_done, read_kept, reader_done}
+use Rattle.theory.specs.ArchiveAnswers.{read_thirteen}
+use Rattle.theory.specs.ArchiveLowest.{archive_figures, archive_plan, film_lowest}
 
 -- ---- The writer
 
 module _ {e : Edition} (d : Described e) (t m out : List ℕ) where
   -- what the best planner left
-  best-film : (lent scratch : List ℕ) → (planBest t lent scratch).answer.number ≡ 0
-      → (planBest t lent scratch).left.marks ≡ m
-      → LowestOnFilm e t (archiveOf e t m) (planBest t lent scratch).answer (answer_of (verdictOf t m))
-  best-film lent scratch z is =
+  best_film : (lent scratch : List ℕ) → (plan_best t lent scratch).answer.number ≡ 0
+      → (plan_best t lent scratch).left.marks ≡ m
+      → LowestOnFilm e t (archive_of e t m) (plan_best t lent scratch).answer (answer_of (verdict_of t m))
+  best_film lent scratch z is =
       rw is at
-      (film-lowest (best-plan t lent scratch) (best-lent t lent scratch z) d (best-promise t lent scratch))
+      (film_lowest (best_plan_lem t lent scratch) (best_lent t lent scratch z) d (best_promise t lent scratch))
 
   -- an edition that takes as many nodes as a table has never too few
-  never-fifteen : maxNodes ≤ e.most → (writeArchive e t m out).answer.number ≡ 15 → ⊥
-  unfolding writeArchive checked writeChecks feasiblePlan
-  never-fifteen room h =
-      let judging = judgeChecks (writerRules e) t m in
+  never_fifteen : max_nodes ≤ e.most → (write_archive e t m out).answer.number ≡ 15 → ⊥
+  unfolding write_archive checked write_checks feasible_plan
+  never_fifteen room h =
+      let judging = judge_checks (writer_rules e) t m in
       let f =
-      (never_first 15 judging (first_of (filmChecks e t m out) (answer_of (verdictOf t m)))
-      (judge-fifteen (writerRules e) t m)
+      (never_first 15 judging (first_of (film_checks e t m out) (answer_of (verdict_of t m)))
+      (judge_fifteen (writer_rules e) t m)
       (ap (λ (x : Answer). x.number)
-      (sym (firstOf-append judging (filmChecks e t m out) (answer_of (verdictOf t m))))
+      (sym (first_of_append judging (film_checks e t m out) (answer_of (verdict_of t m))))
       ∙ h)).0 in
-      write-fifteen (writerRules e) e t m out f (omega (arith, (feasible-judged t m f).tree.sound.count-high)) h
+      write_fifteen (writer_rules e) e t m out f (omega (arith, (feasible_judged t m f).tree.sound.count_high)) h
 
-  pub write-promise : WritePromise e t m out (writeArchive e t m out).answer (writeArchive e t m out).left
-  unfolding writeArchive feasiblePlan
-  write-promise =
+  pub write_promise : WritePromise e t m out (write_archive e t m out).answer (write_archive e t m out).left
+  unfolding write_archive feasible_plan
+  write_promise =
       record {
         accepts =
             λ f few long.
-            ap (λ (w : Written). w.answer) (write_done (writerRules e) e t m out f few long)
-            ∙ ap answer_of (judged-verdict (feasible-judged t m f));
+            ap (λ (w : Written). w.answer) (write_done (writer_rules e) e t m out f few long)
+            ∙ ap answer_of (judged_verdict (feasible_judged t m f));
         carries =
             λ z.
-            let done = writer-done (writerRules e) e t m out z in
-            rw done.wrote (archive-figures d t m done.judged, archive-plan d t m done.judged);
+            let done = writer_done (writer_rules e) e t m out z in
+            rw done.wrote (archive_figures d t m done.judged, archive_plan d t m done.judged);
         lowest =
             λ lent scratch z is done.
-            rw (writer-done (writerRules e) e t m out done).wrote (best-film lent scratch z is);
-        many = write-many (writerRules e) e t m out;
-        few = never-fifteen;
-        kept = write_kept (writerRules e) e t m out;
-        weight = write-weight t m e out;
+            rw (writer_done (writer_rules e) e t m out done).wrote (best_film lent scratch z is);
+        many = write_many (writer_rules e) e t m out;
+        few = never_fifteen;
+        kept = write_kept (writer_rules e) e t m out;
+        weight = write_weight t m e out;
       }
 
 -- ---- The reader
@@ -80,131 +80,131 @@ module _ {e : Edition} (d : Described e) (t m out : List ℕ) where
 module _ {e : Edition} (d : Described e) (a : List ℕ) where
   -- an archive that was written under rules that ask as much as those of its edition's film is one, and tells what it
   -- was written from
-  module _ (rules : Rules) (film : (u n : List ℕ) → feasibleBy rules u n ≡ true → feasibleFilm e u n ≡ true)
-      (u n : List ℕ) (w : WrittenFrom (writeBy rules e) u n a) where
+  module _ (rules : Rules) (film : (u n : List ℕ) → feasible_by rules u n ≡ true → feasible_film e u n ≡ true)
+      (u n : List ℕ) (w : WrittenFrom (write_by rules e) u n a) where
     done : WriteDone rules e u n w.out
-    done = writer-done rules e u n w.out w.accepts
+    done = writer_done rules e u n w.out w.accepts
 
-    same : archiveOf e u n ≡ a
+    same : archive_of e u n ≡ a
     same = sym (ap (λ (x : Written). x.left) done.wrote) ∙ w.leaves
 
-    back : (tableIn e a ≡ u) × (marksIn e a ≡ n) × (isArchive e a ≡ true)
+    back : (table_in e a ≡ u) × (marks_in e a ≡ n) × (is_archive e a ≡ true)
     back = rw same at (write_read d w.bytes (film u n done.feasible) done.few)
 
-    nodes : nodesIn e a ≡ nodeCount u
-    nodes = ap (nodesIn e) (sym same) ∙ archive-nodes d u n
+    nodes : nodes_in e a ≡ node_count u
+    nodes = ap (nodes_in e) (sym same) ∙ archive_nodes_lem d u n
 
     read_back : (table marks : List ℕ) → length table ≡ length u → length marks ≡ length n
-        → ((readArchive e a table marks).answer.number ≡ 0) × ((readArchive e a table marks).left.table ≡ u)
-        × ((readArchive e a table marks).left.marks ≡ n)
+        → ((read_archive e a table marks).answer.number ≡ 0) × ((read_archive e a table marks).left.table ≡ u)
+        × ((read_archive e a table marks).left.marks ≡ n)
     read_back table marks long-table long-marks =
         let j = done.judged in
         let r =
-        read_done e a table marks back.2 (long-table ∙ j.tree.sound.bytes ∙ ap tableBytes (sym nodes))
+        read_done e a table marks back.2 (long-table ∙ j.tree.sound.bytes ∙ ap table_bytes (sym nodes))
         (long-marks ∙ j.long ∙ sym nodes) in (
           ap (λ (x : Outcome Answer ReadBuffers). x.answer.number) r
-              ∙ ap₂ (λ x y. (answer_of (verdictOf x y)).number) back.0 back.1
-              ∙ judged-zero j,
+              ∙ ap₂ (λ x y. (answer_of (verdict_of x y)).number) back.0 back.1
+              ∙ judged_zero j,
           ap (λ (x : Outcome Answer ReadBuffers). x.left.table) r ∙ back.0,
           ap (λ (x : Outcome Answer ReadBuffers). x.left.marks) r ∙ back.1,
         )
 
   -- an archive is written again by what it tells, under rules by which that is feasible
-  pub writes_again : (rules : Rules) → isArchive e a ≡ true → feasibleBy rules (tableIn e a) (marksIn e a) ≡ true
+  pub writes_again : (rules : Rules) → is_archive e a ≡ true → feasible_by rules (table_in e a) (marks_in e a) ≡ true
       → (out : List ℕ) → length out ≡ length a
-      → writeBy rules e (tableIn e a) (marksIn e a) out
-      ≡ outcome (answer_of (verdictOf (tableIn e a) (marksIn e a))) a
+      → write_by rules e (table_in e a) (marks_in e a) out
+      ≡ outcome (answer_of (verdict_of (table_in e a) (marks_in e a))) a
   writes_again rules is f out long =
-      let t : List ℕ = tableIn e a in
-      let m : List ℕ = marksIn e a in
-      let w : WritesBack e a = read-write e a is in
-      write_done rules e t m out f (omega (arith, w.few, ap (nodesIn e) w.same, archive-nodes d t m))
-      (long ∙ ap length (sym w.same) ∙ length-archive d t m)
-      ∙ ap (outcome (answer_of (verdictOf t m))) w.same
+      let t : List ℕ = table_in e a in
+      let m : List ℕ = marks_in e a in
+      let w : WritesBack e a = read_write e a is in
+      write_done rules e t m out f (omega (arith, w.few, ap (nodes_in e) w.same, archive_nodes_lem d t m))
+      (long ∙ ap length (sym w.same) ∙ length_archive d t m)
+      ∙ ap (outcome (answer_of (verdict_of t m))) w.same
 
   -- what is told
-  module _ (is : isArchive e a ≡ true) where
-    told : feasibleFilm e (tableIn e a) (marksIn e a) ≡ true
-    told = (read-write e a is).feasible
+  module _ (is : is_archive e a ≡ true) where
+    told : feasible_film e (table_in e a) (marks_in e a) ≡ true
+    told = (read_write e a is).feasible
 
-    told-judged : Judged (tableIn e a) (marksIn e a)
-    told-judged = film-judged e (tableIn e a) (marksIn e a) told
+    told_judged : Judged (table_in e a) (marks_in e a)
+    told_judged = film_judged e (table_in e a) (marks_in e a) told
 
-    again-film : (out : List ℕ) → length out ≡ length a
-        → writeFilm e (tableIn e a) (marksIn e a) out
-        ≡ outcome (answer_of (verdictOf (tableIn e a) (marksIn e a))) a
-    unfolding writeFilm feasibleFilm
-    again-film = writes_again (filmRules e) is told
+    again_film : (out : List ℕ) → length out ≡ length a
+        → write_film e (table_in e a) (marks_in e a) out
+        ≡ outcome (answer_of (verdict_of (table_in e a) (marks_in e a))) a
+    unfolding write_film feasible_film
+    again_film = writes_again (film_rules e) is told
 
-    told-filed : e.filed ≡ true → Filed (tableIn e a)
-    told-filed filed =
-        feasible-filed (tableIn e a) (marksIn e a) (film-filed e (tableIn e a) (marksIn e a) told filed)
+    told_filed : e.filed ≡ true → Filed (table_in e a)
+    told_filed filed =
+        feasible_filed (table_in e a) (marks_in e a) (film_filed e (table_in e a) (marks_in e a) told filed)
 
-    again-filed : Filed (tableIn e a)
-        → (feasiblePlan (tableIn e a) (marksIn e a) ≡ true) × ((out : List ℕ) → length out ≡ length a
-        → writeArchive e (tableIn e a) (marksIn e a) out
-        ≡ outcome (answer_of (verdictOf (tableIn e a) (marksIn e a))) a)
-    unfolding writeArchive feasiblePlan
-    again-filed labels =
-        let f = filed-feasible e (tableIn e a) (marksIn e a) told (filed-nowhere (tableIn e a) labels) in
-        (f, writes_again (writerRules e) is f)
+    again_filed : Filed (table_in e a)
+        → (feasible_plan (table_in e a) (marks_in e a) ≡ true) × ((out : List ℕ) → length out ≡ length a
+        → write_archive e (table_in e a) (marks_in e a) out
+        ≡ outcome (answer_of (verdict_of (table_in e a) (marks_in e a))) a)
+    unfolding write_archive feasible_plan
+    again_filed labels =
+        let f = filed_feasible e (table_in e a) (marks_in e a) told (filed_nowhere (table_in e a) labels) in
+        (f, writes_again (writer_rules e) is f)
 
-    written-again : Bytes a → WrittenFrom (writeFilm e) (tableIn e a) (marksIn e a) a
-    written-again b =
-        let again = again-film a refl in
+    written_again : Bytes a → WrittenFrom (write_film e) (table_in e a) (marks_in e a) a
+    written_again b =
+        let again = again_film a refl in
         record {
-          bytes = tableIn-bytes e a b;
+          bytes = table_in-bytes e a b;
           out = a;
-          accepts = ap (λ (x : Written). x.answer.number) again ∙ judged-zero told-judged;
+          accepts = ap (λ (x : Written). x.answer.number) again ∙ judged_zero told_judged;
           leaves = ap (λ (x : Written). x.left) again;
         }
 
   -- film of the edition, as far as the writer can tell
-  pub film-written : Bytes a → (isArchive e a ≡ false) ↔ ((u n : List ℕ) → WrittenFrom (writeFilm e) u n a → ⊥)
-  unfolding writeFilm feasibleFilm
-  film-written b = (
-    λ h u n w. true≢false (sym (back (filmRules e) (λ x y f. f) u n w).2 ∙ h),
-    λ h. never_true (isArchive e a) (λ is. h (tableIn e a) (marksIn e a) (written-again is b)),
+  pub film_written : Bytes a → (is_archive e a ≡ false) ↔ ((u n : List ℕ) → WrittenFrom (write_film e) u n a → ⊥)
+  unfolding write_film feasible_film
+  film_written b = (
+    λ h u n w. true≢false (sym (back (film_rules e) (λ x y f. f) u n w).2 ∙ h),
+    λ h. never_true (is_archive e a) (λ is. h (table_in e a) (marks_in e a) (written_again is b)),
   )
 
   module _ (table marks : List ℕ) where
     abbrev read : Outcome Answer ReadBuffers
-    read = readArchive e a table marks
+    read = read_archive e a table marks
 
-    is-archive : read.answer.number ≡ 0 → isArchive e a ≡ true
-    is-archive z = (reader-done e a table marks z).0
+    is_archive_lem : read.answer.number ≡ 0 → is_archive e a ≡ true
+    is_archive_lem z = (reader_done e a table marks z).0
 
-    pub read-promise : (f : Edition) → (isArchive e a ≡ true → isArchive f a ≡ true → ⊥) → Bytes a
-        → ReadPromise e f a table marks (readArchive e a table marks).answer (readArchive e a table marks).left.table
-        (readArchive e a table marks).left.marks
-    unfolding writeArchive writeFilm feasiblePlan feasibleFilm
-    read-promise f apart b =
+    pub read_promise : (f : Edition) → (is_archive e a ≡ true → is_archive f a ≡ true → ⊥) → Bytes a
+        → ReadPromise e f a table marks (read_archive e a table marks).answer (read_archive e a table marks).left.table
+        (read_archive e a table marks).left.marks
+    unfolding write_archive write_film feasible_plan feasible_film
+    read_promise f apart b =
         record {
-          back = λ u n w. read_back (filmRules e) (λ x y h. h) u n w table marks;
-          written = λ u n w. read_back (writerRules e) (feasible-film e) u n w table marks;
+          back = λ u n w. read_back (film_rules e) (λ x y h. h) u n w table marks;
+          written = λ u n w. read_back (writer_rules e) (feasible_film_lem e) u n w table marks;
           sound =
-              λ z. rw (reader-done e a table marks z).1
-              (ap answer_of (judged-verdict (told-judged (is-archive z))), told (is-archive z));
-          again = λ z. rw (reader-done e a table marks z).1 (again-film (is-archive z));
-          labels = λ filed z. rw (reader-done e a table marks z).1 (told-filed (is-archive z) filed);
-          filed = λ z. rw (reader-done e a table marks z).1 (again-filed (is-archive z));
+              λ z. rw (reader_done e a table marks z).1
+              (ap answer_of (judged_verdict (told_judged (is_archive_lem z))), told (is_archive_lem z));
+          again = λ z. rw (reader_done e a table marks z).1 (again_film (is_archive_lem z));
+          labels = λ filed z. rw (reader_done e a table marks z).1 (told_filed (is_archive_lem z) filed);
+          filed = λ z. rw (reader_done e a table marks z).1 (again_filed (is_archive_lem z));
           unfiled =
-              λ z. rw (reader-done e a table marks z).1
+              λ z. rw (reader_done e a table marks z).1
               (λ v first out.
-              unfiled-stops e e (tableIn e a) (marksIn e a) out (told (is-archive z)) v
-              (unfiled-first (tableIn e a) v first));
+              unfiled_stops e e (table_in e a) (marks_in e a) out (told (is_archive_lem z)) v
+              (unfiled_first (table_in e a) v first));
           none = (
-            λ h. (film-written b).0 (read-thirteen e a table marks h),
-            λ h. thirteen ((film-written b).1 h),
+            λ h. (film_written b).0 (read_thirteen e a table marks h),
+            λ h. thirteen ((film_written b).1 h),
           );
           other =
               λ h u n.
-              let none : isArchive f a ≡ false =
-              never_true (isArchive f a) (λ is. h (thirteen (never_true (isArchive e a) (λ own. apart own is)))) in
+              let none : is_archive f a ≡ false =
+              never_true (is_archive f a) (λ is. h (thirteen (never_true (is_archive e a) (λ own. apart own is)))) in
               ap (λ (x : Outcome Answer ReadBuffers). x.answer) (read_none f a u n none);
           kept = read_kept e a table marks;
-          five = read-five e a table marks;
+          five = read_five e a table marks;
         }
       where
-        thirteen : isArchive e a ≡ false → read.answer.number ≡ 13
+        thirteen : is_archive e a ≡ false → read.answer.number ≡ 13
         thirteen n = ap (λ (x : Outcome Answer ReadBuffers). x.answer.number) (read_none e a table marks n)

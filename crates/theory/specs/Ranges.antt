@@ -6,7 +6,7 @@ use Rattle.std.proofs.Math.Nat.{le-suc_iff}
 use Rattle.std.proofs.lemmas.Bool.{false≢true, eqb-false}
 use Rattle.std.proofs.Math.ListN.{get_or-append}
 use Rattle.std.proofs.Math.Seq.{get_or-append_seam}
-use Rattle.model.specs.Basics.{pick, when, at_place, sum_to, count_to, firstTo, last_to, listTo}
+use Rattle.model.specs.Basics.{pick, when, at_place, sum_to, count_to, first_to, last_to, list_to}
 use Rattle.model.specs.declared.Place.{Place}
 use Rattle.model.specs.declared.Place.TheVariants.{At, Nowhere}
 use Rattle.theory.specs.Bools.{bool_cases}
@@ -18,16 +18,16 @@ unfolding pick
 pick_true true x y e = refl
 pick_true false x y e = absurd (false≢true e)
 
-pub pick-false {ℓ} : {X : Type ℓ} (b : Bool) (x y : X) → b ≡ false → pick b x y ≡ y
+pub pick_false {ℓ} : {X : Type ℓ} (b : Bool) (x y : X) → b ≡ false → pick b x y ≡ y
 unfolding pick
-pick-false true x y e = absurd (true≢false e)
-pick-false false x y e = refl
+pick_false true x y e = absurd (true≢false e)
+pick_false false x y e = refl
 
 -- what holds of both holds of the choice
-pub pick-both {ℓ ℓ'} : {X : Type ℓ} (P : X → Type ℓ') (b : Bool) (x y : X) → P x → P y → P (pick b x y)
+pub pick_both {ℓ ℓ'} : {X : Type ℓ} (P : X → Type ℓ') (b : Bool) (x y : X) → P x → P y → P (pick b x y)
 unfolding pick
-pick-both P true x y p q = p
-pick-both P false x y p q = q
+pick_both P true x y p q = p
+pick_both P false x y p q = q
 
 pub when_true : (b : Bool) (p : ℕ) → b ≡ true → when b p ≡ At p
 unfolding when
@@ -39,190 +39,190 @@ unfolding when
 when_false true p e = absurd (true≢false e)
 when_false false p e = refl
 
-pub at-nowhere : (p : ℕ) → At p ≡ Nowhere → ⊥
-at-nowhere p e = let z : ◌≡◌ {A = ℕ} 0 1 = cc in omega arith
+pub at_nowhere : (p : ℕ) → At p ≡ Nowhere → ⊥
+at_nowhere p e = let z : ◌≡◌ {A = ℕ} 0 1 = cc in omega arith
 
 pub at_same : {p q : ℕ} → At p ≡ At q → p ≡ q
 at_same e = cc
 
-pub when-nowhere : (b : Bool) (p : ℕ) → when b p ≡ Nowhere → b ≡ false
+pub when_nowhere : (b : Bool) (p : ℕ) → when b p ≡ Nowhere → b ≡ false
 unfolding when
-when-nowhere true p e = absurd (at-nowhere p e)
-when-nowhere false p e = refl
+when_nowhere true p e = absurd (at_nowhere p e)
+when_nowhere false p e = refl
 
-when-at : (b : Bool) (p q : ℕ) → when b p ≡ At q → (b ≡ true) × (p ≡ q)
+when_at : (b : Bool) (p q : ℕ) → when b p ≡ At q → (b ≡ true) × (p ≡ q)
 unfolding when
-when-at true p q e = (refl, at_same e)
-when-at false p q e = absurd (at-nowhere q (sym e))
+when_at true p q e = (refl, at_same e)
+when_at false p q e = absurd (at_nowhere q (sym e))
 
-pub atPlace-at {ℓ} : {X : Type ℓ} (o : Place) (p : ℕ) (f : ℕ → X) (x : X) → o ≡ At p → at_place o f x ≡ f p
+pub at_place_at {ℓ} : {X : Type ℓ} (o : Place) (p : ℕ) (f : ℕ → X) (x : X) → o ≡ At p → at_place o f x ≡ f p
 unfolding at_place
-atPlace-at o p f x e = rw e
+at_place_at o p f x e = rw e
 
-pub atPlace-nowhere {ℓ} : {X : Type ℓ} (o : Place) (f : ℕ → X) (x : X) → o ≡ Nowhere → at_place o f x ≡ x
+pub at_place_nowhere {ℓ} : {X : Type ℓ} (o : Place) (f : ℕ → X) (x : X) → o ≡ Nowhere → at_place o f x ≡ x
 unfolding at_place
-atPlace-nowhere o f x e = rw e
+at_place_nowhere o f x e = rw e
 
 -- a place is a number or none
-pub place-cases : (o : Place) → ((p : ℕ) × (o ≡ At p)) ⊎ (o ≡ Nowhere)
-place-cases (At p) = inl (p, refl)
-place-cases Nowhere = inr refl
+pub place_cases : (o : Place) → ((p : ℕ) × (o ≡ At p)) ⊎ (o ≡ Nowhere)
+place_cases (At p) = inl (p, refl)
+place_cases Nowhere = inr refl
 
 -- ---- Numbers in order
 
-pub order-cases : (a b : ℕ) → (a < b) ⊎ ((a ≡ b) ⊎ (b < a))
-order-cases a b =
+pub order_cases : (a b : ℕ) → (a < b) ⊎ ((a ≡ b) ⊎ (b < a))
+order_cases a b =
     ⊎_elim (λ e. ⊎_elim (λ q. inr (inl q)) inl (eq-or-lt_of_le (leb-true a b e))) (λ e. inr (inr (leb-false a b e)))
     (bool_cases (leb a b))
 
 -- what holds of a number where it holds of all earlier ones holds of every number
-pub by-earlier {ℓ} : (P : ℕ → Type ℓ) → ((v : ℕ) → ((u : ℕ) → u < v → P u) → P v) → (v : ℕ) → P v
-by-earlier P turn v = upto (suc v) v (omega arith)
+pub by_earlier {ℓ} : (P : ℕ → Type ℓ) → ((v : ℕ) → ((u : ℕ) → u < v → P u) → P v) → (v : ℕ) → P v
+by_earlier P turn v = upto (suc v) v (omega arith)
   where
     upto : (f u : ℕ) → u < f → P u
     upto zero u h = absurd (omega arith)
     upto (suc f) u h = turn u (λ w less. upto f w (omega arith))
 
 -- what is found by steps back from v is found with v steps or more
-pub steps-enough {ℓ} : {X : Type ℓ} (found : ℕ → ℕ → X) (back : ℕ → ℕ) → ((v : ℕ) → 1 ≤ v → back v < v)
+pub steps_enough {ℓ} : {X : Type ℓ} (found : ℕ → ℕ → X) (back : ℕ → ℕ) → ((v : ℕ) → 1 ≤ v → back v < v)
     → ((f g : ℕ) → found f 0 ≡ found g 0)
     → ((f g v : ℕ) → found f (back v) ≡ found g (back v) → found (suc f) v ≡ found (suc g) v)
     → (f g v : ℕ) → v ≤ f → v ≤ g → found f v ≡ found g v
-steps-enough found back less none turn zero g v a b = let z : v ≡ 0 = omega arith in rw z (none 0 g)
-steps-enough found back less none turn (suc f) zero v a b = let z : v ≡ 0 = omega arith in rw z (none (suc f) 0)
-steps-enough found back less none turn (suc f) (suc g) zero a b = none (suc f) (suc g)
-steps-enough found back less none turn (suc f) (suc g) (suc v) a b =
+steps_enough found back less none turn zero g v a b = let z : v ≡ 0 = omega arith in rw z (none 0 g)
+steps_enough found back less none turn (suc f) zero v a b = let z : v ≡ 0 = omega arith in rw z (none (suc f) 0)
+steps_enough found back less none turn (suc f) (suc g) zero a b = none (suc f) (suc g)
+steps_enough found back less none turn (suc f) (suc g) (suc v) a b =
     let l : back (suc v) < suc v = less (suc v) (omega arith) in
-    turn f g (suc v) (steps-enough found back less none turn f g (back (suc v)) (omega arith) (omega arith))
+    turn f g (suc v) (steps_enough found back less none turn f g (back (suc v)) (omega arith) (omega arith))
 
 -- ---- The numbers 1 to n
 
 abbrev pub Upto {ℓ} : ℕ → (ℕ → Type ℓ) → Type ℓ
 Upto n P = (v : ℕ) → 1 ≤ v → v ≤ n → P v
 
-pub upto-suc : (n v : ℕ) → v ≤ suc n → (v ≤ n) ⊎ (v ≡ suc n)
-upto-suc n v h = le-suc_iff.0 h
+pub upto_suc : (n v : ℕ) → v ≤ suc n → (v ≤ n) ⊎ (v ≡ suc n)
+upto_suc n v h = le-suc_iff.0 h
 
 -- what holds of 1 to n and of n + 1 holds of 1 to n + 1, and back
 upto_add {ℓ} : (P : ℕ → Type ℓ) (n : ℕ) → Upto n P → P (suc n) → Upto (suc n) P
-upto_add P n below last v low high = ⊎_elim (below v low) (λ e. rw e last) (upto-suc n v high)
+upto_add P n below last v low high = ⊎_elim (below v low) (λ e. rw e last) (upto_suc n v high)
 
-pub upto-less {ℓ} : (P : ℕ → Type ℓ) (n : ℕ) → Upto (suc n) P → Upto n P
-upto-less P n h v low high = h v low (omega arith)
+pub upto_less {ℓ} : (P : ℕ → Type ℓ) (n : ℕ) → Upto (suc n) P → Upto n P
+upto_less P n h v low high = h v low (omega arith)
 
-pub upto-last {ℓ} : (P : ℕ → Type ℓ) (n : ℕ) → Upto (suc n) P → P (suc n)
-upto-last P n h = h (suc n) (omega arith) (omega arith)
+pub upto_last {ℓ} : (P : ℕ → Type ℓ) (n : ℕ) → Upto (suc n) P → P (suc n)
+upto_last P n h = h (suc n) (omega arith) (omega arith)
 
 -- ---- Sums
 
-pub sumTo-zero : (f : ℕ → ℕ) → sum_to 0 f ≡ 0
+pub sum_to_zero : (f : ℕ → ℕ) → sum_to 0 f ≡ 0
 unfolding sum_to
-sumTo-zero f = refl
+sum_to_zero f = refl
 
-pub sumTo-suc : (n : ℕ) (f : ℕ → ℕ) → sum_to (suc n) f ≡ sum_to n f + f (suc n)
+pub sum_to_suc : (n : ℕ) (f : ℕ → ℕ) → sum_to (suc n) f ≡ sum_to n f + f (suc n)
 unfolding sum_to
-sumTo-suc n f = refl
+sum_to_suc n f = refl
 
-pub sumTo-cong : (n : ℕ) (f g : ℕ → ℕ) → Upto n (λ v. f v ≡ g v) → sum_to n f ≡ sum_to n g
-sumTo-cong zero f g h = simp sumTo-zero
-sumTo-cong (suc n) f g h =
-    let before : sum_to n f ≡ sum_to n g = sumTo-cong n f g (upto-less (λ v. f v ≡ g v) n h) in
-    let last : f (suc n) ≡ g (suc n) = upto-last (λ v. f v ≡ g v) n h in
-    rw (sumTo-suc n f, sumTo-suc n g, before, last)
+pub sum_to_cong : (n : ℕ) (f g : ℕ → ℕ) → Upto n (λ v. f v ≡ g v) → sum_to n f ≡ sum_to n g
+sum_to_cong zero f g h = simp sum_to_zero
+sum_to_cong (suc n) f g h =
+    let before : sum_to n f ≡ sum_to n g = sum_to_cong n f g (upto_less (λ v. f v ≡ g v) n h) in
+    let last : f (suc n) ≡ g (suc n) = upto_last (λ v. f v ≡ g v) n h in
+    rw (sum_to_suc n f, sum_to_suc n g, before, last)
 
-pub sumTo-add : (n : ℕ) (f g : ℕ → ℕ) → sum_to n (λ v. f v + g v) ≡ sum_to n f + sum_to n g
-sumTo-add zero f g = simp sumTo-zero
-sumTo-add (suc n) f g =
-    omega (arith, sumTo-add n f g, sumTo-suc n (λ v. f v + g v), sumTo-suc n f, sumTo-suc n g)
+pub sum_to_add : (n : ℕ) (f g : ℕ → ℕ) → sum_to n (λ v. f v + g v) ≡ sum_to n f + sum_to n g
+sum_to_add zero f g = simp sum_to_zero
+sum_to_add (suc n) f g =
+    omega (arith, sum_to_add n f g, sum_to_suc n (λ v. f v + g v), sum_to_suc n f, sum_to_suc n g)
 
-pub sumTo-none : (n : ℕ) (f : ℕ → ℕ) → Upto n (λ v. f v ≡ 0) → sum_to n f ≡ 0
-sumTo-none zero f h = sumTo-zero f
-sumTo-none (suc n) f h =
-    omega (arith, sumTo-none n f (upto-less (λ v. f v ≡ 0) n h), upto-last (λ v. f v ≡ 0) n h, sumTo-suc n f)
+pub sum_to_none : (n : ℕ) (f : ℕ → ℕ) → Upto n (λ v. f v ≡ 0) → sum_to n f ≡ 0
+sum_to_none zero f h = sum_to_zero f
+sum_to_none (suc n) f h =
+    omega (arith, sum_to_none n f (upto_less (λ v. f v ≡ 0) n h), upto_last (λ v. f v ≡ 0) n h, sum_to_suc n f)
 
 -- ---- Counts
 
-pub countTo-zero : (p : ℕ → Bool) → count_to 0 p ≡ 0
+pub count_to_zero : (p : ℕ → Bool) → count_to 0 p ≡ 0
 unfolding count_to
-countTo-zero p = sumTo-zero (λ v. pick (p v) 1 0)
+count_to_zero p = sum_to_zero (λ v. pick (p v) 1 0)
 
-pub countTo-suc : (n : ℕ) (p : ℕ → Bool) → count_to (suc n) p ≡ count_to n p + pick (p (suc n)) 1 0
+pub count_to_suc : (n : ℕ) (p : ℕ → Bool) → count_to (suc n) p ≡ count_to n p + pick (p (suc n)) 1 0
 unfolding count_to
-countTo-suc n p = sumTo-suc n (λ v. pick (p v) 1 0)
+count_to_suc n p = sum_to_suc n (λ v. pick (p v) 1 0)
 
-pub countTo-yes : (n : ℕ) (p : ℕ → Bool) → p (suc n) ≡ true → count_to (suc n) p ≡ suc (count_to n p)
-countTo-yes n p e = omega (arith, countTo-suc n p, pick_true {X = ℕ} (p (suc n)) 1 0 e)
+pub count_to_yes : (n : ℕ) (p : ℕ → Bool) → p (suc n) ≡ true → count_to (suc n) p ≡ suc (count_to n p)
+count_to_yes n p e = omega (arith, count_to_suc n p, pick_true {X = ℕ} (p (suc n)) 1 0 e)
 
-pub countTo-no : (n : ℕ) (p : ℕ → Bool) → p (suc n) ≡ false → count_to (suc n) p ≡ count_to n p
-countTo-no n p e = omega (arith, countTo-suc n p, pick-false {X = ℕ} (p (suc n)) 1 0 e)
+pub count_to_no : (n : ℕ) (p : ℕ → Bool) → p (suc n) ≡ false → count_to (suc n) p ≡ count_to n p
+count_to_no n p e = omega (arith, count_to_suc n p, pick_false {X = ℕ} (p (suc n)) 1 0 e)
 
-pub countTo-le : (n : ℕ) (p : ℕ → Bool) → count_to n p ≤ n
-countTo-le zero p = omega (arith, countTo-zero p)
-countTo-le (suc n) p =
-    omega (arith, countTo-le n p, countTo-suc n p, pick-both (λ k. k ≤ 1) (p (suc n)) 1 0 (omega arith) (omega arith))
+pub count_to_le : (n : ℕ) (p : ℕ → Bool) → count_to n p ≤ n
+count_to_le zero p = omega (arith, count_to_zero p)
+count_to_le (suc n) p =
+    omega (arith, count_to_le n p, count_to_suc n p, pick_both (λ k. k ≤ 1) (p (suc n)) 1 0 (omega arith) (omega arith))
 
-pub countTo-all : (n : ℕ) (p : ℕ → Bool) → Upto n (λ v. p v ≡ true) → count_to n p ≡ n
-countTo-all zero p h = countTo-zero p
-countTo-all (suc n) p h =
+pub count_to_all : (n : ℕ) (p : ℕ → Bool) → Upto n (λ v. p v ≡ true) → count_to n p ≡ n
+count_to_all zero p h = count_to_zero p
+count_to_all (suc n) p h =
     omega (
       arith,
-      countTo-all n p (upto-less (λ v. p v ≡ true) n h),
-      countTo-yes n p (upto-last (λ v. p v ≡ true) n h),
+      count_to_all n p (upto_less (λ v. p v ≡ true) n h),
+      count_to_yes n p (upto_last (λ v. p v ≡ true) n h),
     )
 
-pub countTo-none : (n : ℕ) (p : ℕ → Bool) → Upto n (λ v. p v ≡ false) → count_to n p ≡ 0
-countTo-none zero p h = countTo-zero p
-countTo-none (suc n) p h =
+pub count_to_none : (n : ℕ) (p : ℕ → Bool) → Upto n (λ v. p v ≡ false) → count_to n p ≡ 0
+count_to_none zero p h = count_to_zero p
+count_to_none (suc n) p h =
     omega (
       arith,
-      countTo-none n p (upto-less (λ v. p v ≡ false) n h),
-      countTo-no n p (upto-last (λ v. p v ≡ false) n h),
+      count_to_none n p (upto_less (λ v. p v ≡ false) n h),
+      count_to_no n p (upto_last (λ v. p v ≡ false) n h),
     )
 
-pub countTo-full : (n : ℕ) (p : ℕ → Bool) → count_to n p ≡ n → Upto n (λ v. p v ≡ true)
-countTo-full zero p e = λ v low high. absurd (omega arith)
-countTo-full (suc n) p e =
-    ⊎_elim (λ q. upto_add (λ v. p v ≡ true) n (countTo-full n p (omega (arith, countTo-yes n p q))) q)
-    (λ q. absurd (omega (arith, countTo-no n p q, countTo-le n p))) (bool_cases (p (suc n)))
+pub count_to_full : (n : ℕ) (p : ℕ → Bool) → count_to n p ≡ n → Upto n (λ v. p v ≡ true)
+count_to_full zero p e = λ v low high. absurd (omega arith)
+count_to_full (suc n) p e =
+    ⊎_elim (λ q. upto_add (λ v. p v ≡ true) n (count_to_full n p (omega (arith, count_to_yes n p q))) q)
+    (λ q. absurd (omega (arith, count_to_no n p q, count_to_le n p))) (bool_cases (p (suc n)))
 
 -- ---- The first that passes
 
-pub firstTo-zero : (p : ℕ → Bool) → firstTo 0 p ≡ Nowhere
-unfolding firstTo
-firstTo-zero p = refl
+pub first_to_zero : (p : ℕ → Bool) → first_to 0 p ≡ Nowhere
+unfolding first_to
+first_to_zero p = refl
 
-pub firstTo-suc : (n : ℕ) (p : ℕ → Bool) → firstTo (suc n) p ≡ at_place (firstTo n p) At (when (p (suc n)) (suc n))
-unfolding firstTo
-firstTo-suc n p = refl
+pub first_to_suc : (n : ℕ) (p : ℕ → Bool) → first_to (suc n) p ≡ at_place (first_to n p) At (when (p (suc n)) (suc n))
+unfolding first_to
+first_to_suc n p = refl
 
-firstTo-found : (n v : ℕ) (p : ℕ → Bool) → firstTo n p ≡ At v → firstTo (suc n) p ≡ At v
-firstTo-found n v p e = firstTo-suc n p ∙ atPlace-at (firstTo n p) v At (when (p (suc n)) (suc n)) e
+first_to_found : (n v : ℕ) (p : ℕ → Bool) → first_to n p ≡ At v → first_to (suc n) p ≡ At v
+first_to_found n v p e = first_to_suc n p ∙ at_place_at (first_to n p) v At (when (p (suc n)) (suc n)) e
 
-pub firstTo-further : (n : ℕ) (p : ℕ → Bool) → firstTo n p ≡ Nowhere → firstTo (suc n) p ≡ when (p (suc n)) (suc n)
-firstTo-further n p e = firstTo-suc n p ∙ atPlace-nowhere (firstTo n p) At (when (p (suc n)) (suc n)) e
+pub first_to-further : (n : ℕ) (p : ℕ → Bool) → first_to n p ≡ Nowhere → first_to (suc n) p ≡ when (p (suc n)) (suc n)
+first_to-further n p e = first_to_suc n p ∙ at_place_nowhere (first_to n p) At (when (p (suc n)) (suc n)) e
 
-pub firstTo-cong : (n : ℕ) (p q : ℕ → Bool) → Upto n (λ v. p v ≡ q v) → firstTo n p ≡ firstTo n q
-firstTo-cong zero p q h = simp firstTo-zero
-firstTo-cong (suc n) p q h =
-    let before : firstTo n p ≡ firstTo n q = firstTo-cong n p q (upto-less (λ v. p v ≡ q v) n h) in
-    let last : p (suc n) ≡ q (suc n) = upto-last (λ v. p v ≡ q v) n h in
-    rw (firstTo-suc n p, firstTo-suc n q, before, last)
+pub first_to_cong : (n : ℕ) (p q : ℕ → Bool) → Upto n (λ v. p v ≡ q v) → first_to n p ≡ first_to n q
+first_to_cong zero p q h = simp first_to_zero
+first_to_cong (suc n) p q h =
+    let before : first_to n p ≡ first_to n q = first_to_cong n p q (upto_less (λ v. p v ≡ q v) n h) in
+    let last : p (suc n) ≡ q (suc n) = upto_last (λ v. p v ≡ q v) n h in
+    rw (first_to_suc n p, first_to_suc n q, before, last)
 
 -- no number passes, and none is found
-pub firstTo-none : (n : ℕ) (p : ℕ → Bool) → Upto n (λ v. p v ≡ false) → firstTo n p ≡ Nowhere
-firstTo-none zero p h = firstTo-zero p
-firstTo-none (suc n) p h =
-    firstTo-further n p (firstTo-none n p (upto-less (λ v. p v ≡ false) n h))
-    ∙ when_false (p (suc n)) (suc n) (upto-last (λ v. p v ≡ false) n h)
+pub first_to_none : (n : ℕ) (p : ℕ → Bool) → Upto n (λ v. p v ≡ false) → first_to n p ≡ Nowhere
+first_to_none zero p h = first_to_zero p
+first_to_none (suc n) p h =
+    first_to-further n p (first_to_none n p (upto_less (λ v. p v ≡ false) n h))
+    ∙ when_false (p (suc n)) (suc n) (upto_last (λ v. p v ≡ false) n h)
 
-pub firstTo-nowhere : (n : ℕ) (p : ℕ → Bool) → firstTo n p ≡ Nowhere → Upto n (λ v. p v ≡ false)
-firstTo-nowhere zero p e = λ v low high. absurd (omega arith)
-firstTo-nowhere (suc n) p e =
-    ⊎_elim (λ f. absurd (at-nowhere f.0 (sym (firstTo-found n f.0 p f.1) ∙ e)))
+pub first_to_nowhere : (n : ℕ) (p : ℕ → Bool) → first_to n p ≡ Nowhere → Upto n (λ v. p v ≡ false)
+first_to_nowhere zero p e = λ v low high. absurd (omega arith)
+first_to_nowhere (suc n) p e =
+    ⊎_elim (λ f. absurd (at_nowhere f.0 (sym (first_to_found n f.0 p f.1) ∙ e)))
     (λ q.
-    upto_add (λ v. p v ≡ false) n (firstTo-nowhere n p q)
-    (when-nowhere (p (suc n)) (suc n) (sym (firstTo-further n p q) ∙ e)))
-    (place-cases (firstTo n p))
+    upto_add (λ v. p v ≡ false) n (first_to_nowhere n p q)
+    (when_nowhere (p (suc n)) (suc n) (sym (first_to-further n p q) ∙ e)))
+    (place_cases (first_to n p))
 
 -- v is the first of 1 to n that passes
 pub record First (n : ℕ) (p : ℕ → Bool) (v : ℕ) : Type 0 where
@@ -231,18 +231,18 @@ pub record First (n : ℕ) (p : ℕ → Bool) (v : ℕ) : Type 0 where
   pub passed : p v ≡ true
   pub before : (u : ℕ) → 1 ≤ u → u < v → p u ≡ false
 
-pub firstTo-at : (n v : ℕ) (p : ℕ → Bool) → firstTo n p ≡ At v → First n p v
-firstTo-at zero v p e = absurd (at-nowhere v (sym e ∙ firstTo-zero p))
-firstTo-at (suc n) v p e = go (firstTo n p) refl (firstTo-at n)
+pub first_to_at : (n v : ℕ) (p : ℕ → Bool) → first_to n p ≡ At v → First n p v
+first_to_at zero v p e = absurd (at_nowhere v (sym e ∙ first_to_zero p))
+first_to_at (suc n) v p e = go (first_to n p) refl (first_to_at n)
   where
     more : First n p v → First (suc n) p v
     more f = record { low = f.low; high = omega (arith, f.high); passed = f.passed; before = f.before }
 
-    go : (o : Place) → firstTo n p ≡ o → ((u : ℕ) (q : ℕ → Bool) → firstTo n q ≡ At u → First n q u) → First (suc n) p v
-    go (At u) q ih = more (ih v p (q ∙ sym (firstTo-found n u p q) ∙ e))
+    go : (o : Place) → first_to n p ≡ o → ((u : ℕ) (q : ℕ → Bool) → first_to n q ≡ At u → First n q u) → First (suc n) p v
+    go (At u) q ih = more (ih v p (q ∙ sym (first_to_found n u p q) ∙ e))
     go Nowhere q ih =
-        let both = when-at (p (suc n)) (suc n) v (sym (firstTo-further n p q) ∙ e) in
-        let none : Upto n (λ u. p u ≡ false) = firstTo-nowhere n p q in
+        let both = when_at (p (suc n)) (suc n) v (sym (first_to-further n p q) ∙ e) in
+        let none : Upto n (λ u. p u ≡ false) = first_to_nowhere n p q in
         record {
           low = omega arith;
           high = omega arith;
@@ -251,15 +251,15 @@ firstTo-at (suc n) v p e = go (firstTo n p) refl (firstTo-at n)
         }
 
 -- the first one that passes is found
-pub firstTo-first : (n v : ℕ) (p : ℕ → Bool) → First n p v → firstTo n p ≡ At v
-firstTo-first n v p f = go (firstTo n p) refl
+pub first_to-first : (n v : ℕ) (p : ℕ → Bool) → First n p v → first_to n p ≡ At v
+first_to-first n v p f = go (first_to n p) refl
   where
-    go : (o : Place) → firstTo n p ≡ o → firstTo n p ≡ At v
-    go Nowhere e = absurd (true≢false (sym f.passed ∙ firstTo-nowhere n p e v f.low f.high))
-    go (At u) e = e ∙ ap At (same (order-cases u v))
+    go : (o : Place) → first_to n p ≡ o → first_to n p ≡ At v
+    go Nowhere e = absurd (true≢false (sym f.passed ∙ first_to_nowhere n p e v f.low f.high))
+    go (At u) e = e ∙ ap At (same (order_cases u v))
       where
         g : First n p u
-        g = firstTo-at n u p e
+        g = first_to_at n u p e
 
         same : (u < v) ⊎ ((u ≡ v) ⊎ (v < u)) → u ≡ v
         same (inl h) = absurd (true≢false (sym g.passed ∙ f.before u g.low h))
@@ -267,12 +267,12 @@ firstTo-first n v p f = go (firstTo n p) refl
         same (inr (inr h)) = absurd (true≢false (sym f.passed ∙ g.before v f.low h))
 
 -- where none but x can pass
-pub firstTo-only : (n x : ℕ) (p : ℕ → Bool) → 1 ≤ x → x ≤ n → Upto n (λ u. (u ≡ x → ⊥) → p u ≡ false)
-    → firstTo n p ≡ when (p x) x
-firstTo-only n x p low high other =
+pub first_to_only : (n x : ℕ) (p : ℕ → Bool) → 1 ≤ x → x ≤ n → Upto n (λ u. (u ≡ x → ⊥) → p u ≡ false)
+    → first_to n p ≡ when (p x) x
+first_to_only n x p low high other =
     ⊎_elim
     (λ e.
-    firstTo-first n x p
+    first_to-first n x p
     (record {
       low = low;
       high = high;
@@ -281,43 +281,43 @@ firstTo-only n x p low high other =
     })
     ∙ sym (when_true (p x) x e))
     (λ e.
-    firstTo-none n p
+    first_to_none n p
     (λ u a b. ⊎_elim (λ q. rw (eqb-true u x q) e) (λ q. other u a b (eqb-false u x q)) (bool_cases (eqb u x)))
     ∙ sym (when_false (p x) x e))
     (bool_cases (p x))
 
 -- ---- The last that passes
 
-pub lastTo-zero : (p : ℕ → Bool) → last_to 0 p ≡ 0
+pub last_to_zero : (p : ℕ → Bool) → last_to 0 p ≡ 0
 unfolding last_to
-lastTo-zero p = refl
+last_to_zero p = refl
 
-pub lastTo-suc : (n : ℕ) (p : ℕ → Bool) → last_to (suc n) p ≡ pick (p (suc n)) (suc n) (last_to n p)
+pub last_to_suc : (n : ℕ) (p : ℕ → Bool) → last_to (suc n) p ≡ pick (p (suc n)) (suc n) (last_to n p)
 unfolding last_to
-lastTo-suc n p = refl
+last_to_suc n p = refl
 
-pub lastTo-yes : (n : ℕ) (p : ℕ → Bool) → p (suc n) ≡ true → last_to (suc n) p ≡ suc n
-lastTo-yes n p e = lastTo-suc n p ∙ pick_true (p (suc n)) (suc n) (last_to n p) e
+pub last_to_yes : (n : ℕ) (p : ℕ → Bool) → p (suc n) ≡ true → last_to (suc n) p ≡ suc n
+last_to_yes n p e = last_to_suc n p ∙ pick_true (p (suc n)) (suc n) (last_to n p) e
 
-pub lastTo-no : (n : ℕ) (p : ℕ → Bool) → p (suc n) ≡ false → last_to (suc n) p ≡ last_to n p
-lastTo-no n p e = lastTo-suc n p ∙ pick-false (p (suc n)) (suc n) (last_to n p) e
+pub last_to_no : (n : ℕ) (p : ℕ → Bool) → p (suc n) ≡ false → last_to (suc n) p ≡ last_to n p
+last_to_no n p e = last_to_suc n p ∙ pick_false (p (suc n)) (suc n) (last_to n p) e
 
-pub lastTo-le : (n : ℕ) (p : ℕ → Bool) → last_to n p ≤ n
-lastTo-le zero p = omega (arith, lastTo-zero p)
-lastTo-le (suc n) p =
-    rw (lastTo-suc n p)
-    (pick-both (λ k. k ≤ suc n) (p (suc n)) (suc n) (last_to n p) (omega arith) (omega (arith, lastTo-le n p)))
+pub last_to_le : (n : ℕ) (p : ℕ → Bool) → last_to n p ≤ n
+last_to_le zero p = omega (arith, last_to_zero p)
+last_to_le (suc n) p =
+    rw (last_to_suc n p)
+    (pick_both (λ k. k ≤ suc n) (p (suc n)) (suc n) (last_to n p) (omega arith) (omega (arith, last_to_le n p)))
 
-pub lastTo-none : (n : ℕ) (p : ℕ → Bool) → Upto n (λ v. p v ≡ false) → last_to n p ≡ 0
-lastTo-none zero p h = lastTo-zero p
-lastTo-none (suc n) p h =
-    lastTo-no n p (upto-last (λ v. p v ≡ false) n h) ∙ lastTo-none n p (upto-less (λ v. p v ≡ false) n h)
+pub last_to_none : (n : ℕ) (p : ℕ → Bool) → Upto n (λ v. p v ≡ false) → last_to n p ≡ 0
+last_to_none zero p h = last_to_zero p
+last_to_none (suc n) p h =
+    last_to_no n p (upto_last (λ v. p v ≡ false) n h) ∙ last_to_none n p (upto_less (λ v. p v ≡ false) n h)
 
-lastTo-nothing : (n : ℕ) (p : ℕ → Bool) → last_to n p ≡ 0 → Upto n (λ v. p v ≡ false)
-lastTo-nothing zero p e = λ v low high. absurd (omega arith)
-lastTo-nothing (suc n) p e =
-    ⊎_elim (λ q. absurd (omega (arith, lastTo-yes n p q)))
-    (λ q. upto_add (λ v. p v ≡ false) n (lastTo-nothing n p (sym (lastTo-no n p q) ∙ e)) q) (bool_cases (p (suc n)))
+last_to_nothing : (n : ℕ) (p : ℕ → Bool) → last_to n p ≡ 0 → Upto n (λ v. p v ≡ false)
+last_to_nothing zero p e = λ v low high. absurd (omega arith)
+last_to_nothing (suc n) p e =
+    ⊎_elim (λ q. absurd (omega (arith, last_to_yes n p q)))
+    (λ q. upto_add (λ v. p v ≡ false) n (last_to_nothing n p (sym (last_to_no n p q) ∙ e)) q) (bool_cases (p (suc n)))
 
 -- v is the last of 1 to n that passes
 pub record Last (n : ℕ) (p : ℕ → Bool) (v : ℕ) : Type 0 where
@@ -326,16 +326,16 @@ pub record Last (n : ℕ) (p : ℕ → Bool) (v : ℕ) : Type 0 where
   pub passed : p v ≡ true
   pub after : (u : ℕ) → v < u → u ≤ n → p u ≡ false
 
-pub lastTo-at : (n v : ℕ) (p : ℕ → Bool) → last_to n p ≡ v → 1 ≤ v → Last n p v
-lastTo-at zero v p e low = absurd (omega (arith, lastTo-zero p))
-lastTo-at (suc n) v p e low = go (p (suc n)) refl (lastTo-at n v p)
+pub last_to_at : (n v : ℕ) (p : ℕ → Bool) → last_to n p ≡ v → 1 ≤ v → Last n p v
+last_to_at zero v p e low = absurd (omega (arith, last_to_zero p))
+last_to_at (suc n) v p e low = go (p (suc n)) refl (last_to_at n v p)
   where
     go : (b : Bool) → p (suc n) ≡ b → (last_to n p ≡ v → 1 ≤ v → Last n p v) → Last (suc n) p v
     go true q ih =
-        let same : suc n ≡ v = sym (lastTo-yes n p q) ∙ e in
+        let same : suc n ≡ v = sym (last_to_yes n p q) ∙ e in
         record { low = low; high = omega arith; passed = ap p (sym same) ∙ q; after = λ u l h. absurd (omega arith) }
     go false q ih =
-        let f : Last n p v = ih (sym (lastTo-no n p q) ∙ e) low in
+        let f : Last n p v = ih (sym (last_to_no n p q) ∙ e) low in
         record {
           low = low;
           high = omega (arith, f.high);
@@ -345,18 +345,18 @@ lastTo-at (suc n) v p e low = go (p (suc n)) refl (lastTo-at n v p)
         }
 
 -- the last one that passes is found
-pub lastTo-last : (n v : ℕ) (p : ℕ → Bool) → Last n p v → last_to n p ≡ v
-lastTo-last n v p f = go (eq-zero-or-pos u)
+pub last_to_last : (n v : ℕ) (p : ℕ → Bool) → Last n p v → last_to n p ≡ v
+last_to_last n v p f = go (eq-zero-or-pos u)
   where
     u : ℕ
     u = last_to n p
 
     go : (u ≡ 0) ⊎ (1 ≤ u) → u ≡ v
-    go (inl z) = absurd (true≢false (sym f.passed ∙ lastTo-nothing n p z v f.low f.high))
-    go (inr one) = same (order-cases u v)
+    go (inl z) = absurd (true≢false (sym f.passed ∙ last_to_nothing n p z v f.low f.high))
+    go (inr one) = same (order_cases u v)
       where
         g : Last n p u
-        g = lastTo-at n u p refl one
+        g = last_to_at n u p refl one
 
         same : (u < v) ⊎ ((u ≡ v) ⊎ (v < u)) → u ≡ v
         same (inl h) = absurd (true≢false (sym f.passed ∙ g.after v h f.high))
@@ -364,49 +364,49 @@ lastTo-last n v p f = go (eq-zero-or-pos u)
         same (inr (inr h)) = absurd (true≢false (sym g.passed ∙ f.after u h g.high))
 
 -- the only one that passes is found
-pub lastTo-only : (n v : ℕ) (p : ℕ → Bool) → 1 ≤ v → v ≤ n → p v ≡ true → Upto n (λ u. p u ≡ true → u ≡ v)
+pub last_to_only : (n v : ℕ) (p : ℕ → Bool) → 1 ≤ v → v ≤ n → p v ≡ true → Upto n (λ u. p u ≡ true → u ≡ v)
     → last_to n p ≡ v
-lastTo-only n v p low high pass only =
-    lastTo-last n v p (record { low = low; high = high; passed = pass; after = none })
+last_to_only n v p low high pass only =
+    last_to_last n v p (record { low = low; high = high; passed = pass; after = none })
   where
     none : (u : ℕ) → v < u → u ≤ n → p u ≡ false
     none u l h = ⊎_elim (λ e. absurd (omega (arith, only u (omega arith) h e))) (λ e. e) (bool_cases (p u))
 
 -- ---- Lists
 
-pub listTo-zero {ℓ} : {X : Type ℓ} (f : ℕ → List X) → listTo 0 f ≡ []
-unfolding listTo
-listTo-zero f = refl
+pub list_to_zero {ℓ} : {X : Type ℓ} (f : ℕ → List X) → list_to 0 f ≡ []
+unfolding list_to
+list_to_zero f = refl
 
-pub listTo-suc {ℓ} : {X : Type ℓ} (n : ℕ) (f : ℕ → List X) → listTo (suc n) f ≡ listTo n f ++ f (suc n)
-unfolding listTo
-listTo-suc n f = refl
+pub list_to_suc {ℓ} : {X : Type ℓ} (n : ℕ) (f : ℕ → List X) → list_to (suc n) f ≡ list_to n f ++ f (suc n)
+unfolding list_to
+list_to_suc n f = refl
 
-pub listTo-cong {ℓ} : {X : Type ℓ} (n : ℕ) (f g : ℕ → List X) → Upto n (λ v. f v ≡ g v) → listTo n f ≡ listTo n g
-listTo-cong zero f g h = simp listTo-zero
-listTo-cong (suc n) f g h =
-    let before : listTo n f ≡ listTo n g = listTo-cong n f g (upto-less (λ v. f v ≡ g v) n h) in
-    let last : f (suc n) ≡ g (suc n) = upto-last (λ v. f v ≡ g v) n h in
-    rw (listTo-suc n f, listTo-suc n g, before, last)
+pub list_to_cong {ℓ} : {X : Type ℓ} (n : ℕ) (f g : ℕ → List X) → Upto n (λ v. f v ≡ g v) → list_to n f ≡ list_to n g
+list_to_cong zero f g h = simp list_to_zero
+list_to_cong (suc n) f g h =
+    let before : list_to n f ≡ list_to n g = list_to_cong n f g (upto_less (λ v. f v ≡ g v) n h) in
+    let last : f (suc n) ≡ g (suc n) = upto_last (λ v. f v ≡ g v) n h in
+    rw (list_to_suc n f, list_to_suc n g, before, last)
 
-pub length-listTo {ℓ} : {X : Type ℓ} (n : ℕ) (f : ℕ → X) → length (listTo n (λ v. f v ∷ [])) ≡ n
-length-listTo zero f = rw (listTo-zero (λ v. f v ∷ []))
-length-listTo (suc n) f =
-    rw (listTo-suc n (λ v. f v ∷ []), length-append) (omega (arith, length-listTo n f))
+pub length-list_to {ℓ} : {X : Type ℓ} (n : ℕ) (f : ℕ → X) → length (list_to n (λ v. f v ∷ [])) ≡ n
+length-list_to zero f = rw (list_to_zero (λ v. f v ∷ []))
+length-list_to (suc n) f =
+    rw (list_to_suc n (λ v. f v ∷ []), length-append) (omega (arith, length-list_to n f))
 
-pub getD-listTo {ℓ} : {X : Type ℓ} (n i : ℕ) (f : ℕ → X) (d : X) → i < n
-    → get_or (listTo n (λ v. f v ∷ [])) i d ≡ f (suc i)
-getD-listTo zero i f d h = absurd (omega arith)
-getD-listTo {X = X} (suc n) i f d h =
-    rw (listTo-suc n (λ v. f v ∷ [])) (go (upto-suc n (suc i) h) (getD-listTo n i f d))
+pub get_d_list_to {ℓ} : {X : Type ℓ} (n i : ℕ) (f : ℕ → X) (d : X) → i < n
+    → get_or (list_to n (λ v. f v ∷ [])) i d ≡ f (suc i)
+get_d_list_to zero i f d h = absurd (omega arith)
+get_d_list_to {X = X} (suc n) i f d h =
+    rw (list_to_suc n (λ v. f v ∷ [])) (go (upto_suc n (suc i) h) (get_d_list_to n i f d))
   where
     xs : List X
-    xs = listTo n (λ v. f v ∷ [])
+    xs = list_to n (λ v. f v ∷ [])
 
     go : (suc i ≤ n) ⊎ (suc i ≡ suc n) → (i < n → get_or xs i d ≡ f (suc i))
         → get_or (xs ++ (f (suc n) ∷ [])) i d ≡ f (suc i)
     go (inl l) ih =
-        let fits : i < length xs = rw (length-listTo n f) l in get_or-append xs (f (suc n) ∷ []) d i fits ∙ ih l
+        let fits : i < length xs = rw (length-list_to n f) l in get_or-append xs (f (suc n) ∷ []) d i fits ∙ ih l
     go (inr e) ih =
-        let here : i ≡ length xs = rw (length-listTo n f) (omega arith) in
+        let here : i ≡ length xs = rw (length-list_to n f) (omega arith) in
         ap (λ k. get_or (xs ++ (f (suc n) ∷ [])) k d) here ∙ get_or-append_seam xs (f (suc n)) [] d ∙ ap f (sym e)

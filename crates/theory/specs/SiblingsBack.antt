@@ -1,7 +1,7 @@
 -- Siblings from one of them back, by number: a list of what each gives, the last first; the children of a node; and
 -- what an array keeps of the sibling before each node.
--- Defines backFrom, listBack; ChildOrNone, after_at; SiblingsBefore, Earlier, SiblingsLinked. Proves list-none,
--- list-cons, list_length, list_same; prev-child, child-high. Assumes nothing.
+-- Defines back_from, list_back; ChildOrNone, after_at; SiblingsBefore, Earlier, SiblingsLinked. Proves list_none,
+-- list_cons, list_length, list_same; prev_child, child_high. Assumes nothing.
 use Prim.Native.Nat.{ℕ, zero, suc, ◌≤◌, ◌<◌}
 use native.Mathlib.Omega.{arith}
 use Rattle.std.specs.Prelude.{◌≡◌, Bool, true, false, ◌⊎◌, length, get_or, eqb}
@@ -10,90 +10,90 @@ use Rattle.std.proofs.Common.{sym, ◌∙◌, inl, inr, eqb-true}
 use mathlib.Core.List.{List, [], ◌∷◌}
 use Rattle.std.proofs.lemmas.Bool.{eqb-false}
 use Rattle.model.specs.Basics.{pick}
-use Rattle.model.specs.Table.{nodeCount, first_at, next_at}
-use Rattle.model.specs.Plan.{prevAt, parentAt}
-use Rattle.theory.specs.TableLinks.{prevAt-less, parentAt-later}
+use Rattle.model.specs.Table.{node_count, first_at, next_at}
+use Rattle.model.specs.Plan.{prev_at, parent_at}
+use Rattle.theory.specs.TableLinks.{prev_at_less, parent_at_later}
 
 -- ---- A list from the last back
 
 -- what x gives for place u and for those before it by p, the last first; f bounds them, and 0 is none
-unfoldable pub backFrom : {A : Type 0} → ℕ → (ℕ → A) → (ℕ → ℕ) → ℕ → List A
-backFrom zero x p u = []
-backFrom (suc f) x p zero = []
-backFrom (suc f) x p (suc u) = x (suc u) ∷ backFrom f x p (p (suc u))
+unfoldable pub back_from : {A : Type 0} → ℕ → (ℕ → A) → (ℕ → ℕ) → ℕ → List A
+back_from zero x p u = []
+back_from (suc f) x p zero = []
+back_from (suc f) x p (suc u) = x (suc u) ∷ back_from f x p (p (suc u))
 
-unfoldable pub listBack : {A : Type 0} → (ℕ → A) → (ℕ → ℕ) → ℕ → List A
-listBack x p u = backFrom u x p u
+unfoldable pub list_back : {A : Type 0} → (ℕ → A) → (ℕ → ℕ) → ℕ → List A
+list_back x p u = back_from u x p u
 
-pub list-none : {A : Type 0} (x : ℕ → A) (p : ℕ → ℕ) → listBack x p 0 ≡ []
-unfolding listBack backFrom
-list-none x p = refl
+pub list_none : {A : Type 0} (x : ℕ → A) (p : ℕ → ℕ) → list_back x p 0 ≡ []
+unfolding list_back back_from
+list_none x p = refl
 
 module _ {A : Type 0} (x : ℕ → A) (p : ℕ → ℕ) (less : (u : ℕ) → 1 ≤ u → p u < u) where
-  back-enough : (f g u : ℕ) → u ≤ f → u ≤ g → backFrom f x p u ≡ backFrom g x p u
-  unfolding backFrom
-  back-enough zero zero u a b = refl
-  back-enough zero (suc g) zero a b = refl
-  back-enough zero (suc g) (suc u) a b = absurd (omega arith)
-  back-enough (suc f) zero zero a b = refl
-  back-enough (suc f) zero (suc u) a b = absurd (omega arith)
-  back-enough (suc f) (suc g) zero a b = refl
-  back-enough (suc f) (suc g) (suc u) a b =
+  back_enough : (f g u : ℕ) → u ≤ f → u ≤ g → back_from f x p u ≡ back_from g x p u
+  unfolding back_from
+  back_enough zero zero u a b = refl
+  back_enough zero (suc g) zero a b = refl
+  back_enough zero (suc g) (suc u) a b = absurd (omega arith)
+  back_enough (suc f) zero zero a b = refl
+  back_enough (suc f) zero (suc u) a b = absurd (omega arith)
+  back_enough (suc f) (suc g) zero a b = refl
+  back_enough (suc f) (suc g) (suc u) a b =
       let l : p (suc u) < suc u = less (suc u) (omega arith) in
-      ap (λ xs. x (suc u) ∷ xs) (back-enough f g (p (suc u)) (omega arith) (omega arith))
+      ap (λ xs. x (suc u) ∷ xs) (back_enough f g (p (suc u)) (omega arith) (omega arith))
 
-  pub list-cons : (u : ℕ) → 1 ≤ u → listBack x p u ≡ x u ∷ listBack x p (p u)
-  unfolding listBack backFrom
-  list-cons zero a = absurd (omega arith)
-  list-cons (suc u) a =
+  pub list_cons : (u : ℕ) → 1 ≤ u → list_back x p u ≡ x u ∷ list_back x p (p u)
+  unfolding list_back back_from
+  list_cons zero a = absurd (omega arith)
+  list_cons (suc u) a =
       let l : p (suc u) < suc u = less (suc u) (omega arith) in
-      ap (λ xs. x (suc u) ∷ xs) (back-enough u (p (suc u)) (p (suc u)) (omega arith) (omega arith))
+      ap (λ xs. x (suc u) ∷ xs) (back_enough u (p (suc u)) (p (suc u)) (omega arith) (omega arith))
 
-  back-length : (f u : ℕ) → length (backFrom f x p u) ≤ u
-  unfolding backFrom
-  back-length zero u = omega arith
-  back-length (suc f) zero = omega arith
-  back-length (suc f) (suc u) = omega (arith, back-length f (p (suc u)), less (suc u) (omega arith))
+  back_length : (f u : ℕ) → length (back_from f x p u) ≤ u
+  unfolding back_from
+  back_length zero u = omega arith
+  back_length (suc f) zero = omega arith
+  back_length (suc f) (suc u) = omega (arith, back_length f (p (suc u)), less (suc u) (omega arith))
 
-  pub list_length : (u : ℕ) → length (listBack x p u) ≤ u
-  unfolding listBack
-  list_length u = back-length u u
+  pub list_length : (u : ℕ) → length (list_back x p u) ≤ u
+  unfolding list_back
+  list_length u = back_length u u
 
 -- it is the same where it is the same at each place
 module _ {A : Type 0} {x y : ℕ → A} {p q : ℕ → ℕ} (In : ℕ → Type 0)
     (step : (u : ℕ) → 1 ≤ u → In u → (x u ≡ y u) × (p u ≡ q u) × In (q u))
   where
-    back-same : (f u : ℕ) → In u → backFrom f x p u ≡ backFrom f y q u
-    unfolding backFrom
-    back-same zero u i = refl
-    back-same (suc f) zero i = refl
-    back-same (suc f) (suc u) i =
+    back_same : (f u : ℕ) → In u → back_from f x p u ≡ back_from f y q u
+    unfolding back_from
+    back_same zero u i = refl
+    back_same (suc f) zero i = refl
+    back_same (suc f) (suc u) i =
         let s = step (suc u) (omega arith) i in
-        ap₂ ◌∷◌ s.0 (ap (backFrom f x p) s.1 ∙ back-same f (q (suc u)) s.2)
+        ap₂ ◌∷◌ s.0 (ap (back_from f x p) s.1 ∙ back_same f (q (suc u)) s.2)
 
-    pub list_same : (u : ℕ) → In u → listBack x p u ≡ listBack y q u
-    unfolding listBack
-    list_same u i = back-same u u i
+    pub list_same : (u : ℕ) → In u → list_back x p u ≡ list_back y q u
+    unfolding list_back
+    list_same u i = back_same u u i
 
 -- ---- The children of a node
 
 -- 0, or a child of node v
 abbrev pub ChildOrNone : List ℕ → ℕ → ℕ → Type 0
-ChildOrNone t v u = (u ≡ 0) ⊎ ((1 ≤ u) × (u ≤ nodeCount t) × (parentAt t u ≡ v))
+ChildOrNone t v u = (u ≡ 0) ⊎ ((1 ≤ u) × (u ≤ node_count t) × (parent_at t u ≡ v))
 
-pub prev-child : (t : List ℕ) (v u : ℕ) → 1 ≤ u → u ≤ nodeCount t → parentAt t u ≡ v → ChildOrNone t v (prevAt t u)
-prev-child t v u low high e = go (eqb (prevAt t u) 0) refl
+pub prev_child : (t : List ℕ) (v u : ℕ) → 1 ≤ u → u ≤ node_count t → parent_at t u ≡ v → ChildOrNone t v (prev_at t u)
+prev_child t v u low high e = go (eqb (prev_at t u) 0) refl
   where
-    go : (b : Bool) → eqb (prevAt t u) 0 ≡ b → ChildOrNone t v (prevAt t u)
-    go true q = inl (eqb-true (prevAt t u) 0 q)
+    go : (b : Bool) → eqb (prev_at t u) 0 ≡ b → ChildOrNone t v (prev_at t u)
+    go true q = inl (eqb-true (prev_at t u) 0 q)
     go false q =
-        let d : prevAt t u ≡ 0 → ⊥ = eqb-false (prevAt t u) 0 q in
-        let one : 1 ≤ prevAt t u = omega arith in
-        inr (one, omega (arith, prevAt-less t u low), sym (parentAt-later t u low one) ∙ e)
+        let d : prev_at t u ≡ 0 → ⊥ = eqb-false (prev_at t u) 0 q in
+        let one : 1 ≤ prev_at t u = omega arith in
+        inr (one, omega (arith, prev_at_less t u low), sym (parent_at_later t u low one) ∙ e)
 
-pub child-high : (t : List ℕ) (v u : ℕ) → ChildOrNone t v u → u ≤ nodeCount t
-child-high t v u (inl e) = omega arith
-child-high t v u (inr q) = q.1
+pub child_high : (t : List ℕ) (v u : ℕ) → ChildOrNone t v u → u ≤ node_count t
+child_high t v u (inl e) = omega arith
+child_high t v u (inr q) = q.1
 
 -- the link after the child u of node v, or to its first child where u is 0
 abbrev pub after_at : List ℕ → ℕ → ℕ → ℕ
@@ -103,7 +103,7 @@ after_at t v u = pick (eqb u 0) (first_at t v) (next_at t u)
 
 -- the sibling before is kept
 abbrev pub SiblingsBefore : List ℕ → List ℕ → Type 0
-SiblingsBefore t prevs = (u : ℕ) → 1 ≤ u → u ≤ nodeCount t → get_or prevs u 0 ≡ prevAt t u
+SiblingsBefore t prevs = (u : ℕ) → 1 ≤ u → u ≤ node_count t → get_or prevs u 0 ≡ prev_at t u
 
 -- the sibling before a node comes before it
 abbrev pub Earlier : List ℕ → Type 0

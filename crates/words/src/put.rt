@@ -1,6 +1,6 @@
 // Words and texts put into a string of bytes. Of a word, what would lie past its end is not put.
 ghost use Rattle.std.specs.Prelude.{◌≡◌, length, set, ◌+◌, ◌≤◌, ◌<◌};
-ghost use Rattle.theory.specs.Put.{putWord, putRecord};
+ghost use Rattle.theory.specs.Put.{put_word, put_record};
 ghost use Rattle.theory.specs.Appended.{Appended};
 
 fn put_byte(out: &mut [u8], i: usize, b: u8)
@@ -13,7 +13,7 @@ fn put_byte(out: &mut [u8], i: usize, b: u8)
 
 // A word: high byte first.
 pub fn put_word(out: &mut [u8], i: u32, w: u16)
-    ensures { out.new ≡ putWord out.old i w }
+    ensures { out.new ≡ put_word out.old i w }
 {
     let at = 2 * (i as usize);
     put_byte(out, at, (w / 256) as u8);
@@ -23,7 +23,7 @@ pub fn put_word(out: &mut [u8], i: u32, w: u16)
 // Four words, from word i on.
 pub fn put_record(out: &mut [u8], i: u32, a: u16, b: u16, c: u16, d: u16)
     requires { i + 3 < 4294967296 }
-    ensures { out.new ≡ putRecord out.old i a b c d }
+    ensures { out.new ≡ put_record out.old i a b c d }
 {
     put_word(out, i, a);
     put_word(out, i + 1, b);

@@ -1,6 +1,6 @@
 // The words of a string of bytes, and the records of a table. What lies past the end reads as 0, as in the definitions.
 ghost use Rattle.std.specs.Prelude.{◌≡◌, ◌+◌, ◌*◌, get_or};
-ghost use Rattle.model.specs.Table.{wordAt, nodeCount, limitOf, field_at, weightAt, labelAt, first_at, next_at};
+ghost use Rattle.model.specs.Table.{word_at, node_count, limit_of, field_at, weight_at, label_at, first_at, next_at};
 
 fn byte_at(bytes: &[u8], i: usize) -> u8
     ensures { result ≡ get_or bytes.now i 0 }
@@ -16,20 +16,20 @@ fn word_of(high: u8, low: u8) -> u16
 }
 
 pub fn word_at(bytes: &[u8], i: u32) -> u16
-    ensures { result ≡ wordAt bytes.now i }
+    ensures { result ≡ word_at bytes.now i }
 {
     let at = 2 * (i as usize);
     word_of(byte_at(bytes, at), byte_at(bytes, at + 1))
 }
 
 pub fn node_count(table: &[u8]) -> u16
-    ensures { result ≡ nodeCount table.now }
+    ensures { result ≡ node_count table.now }
 {
     word_at(table, 0)
 }
 
 pub fn limit_of(table: &[u8]) -> u16
-    ensures { result ≡ limitOf table.now }
+    ensures { result ≡ limit_of table.now }
 {
     word_at(table, 1)
 }
@@ -43,13 +43,13 @@ pub fn field_at(table: &[u8], v: u16, f: u8) -> u16
 }
 
 pub fn weight_at(table: &[u8], v: u16) -> u16
-    ensures { result ≡ weightAt table.now v }
+    ensures { result ≡ weight_at table.now v }
 {
     field_at(table, v, 0)
 }
 
 pub fn label_at(table: &[u8], v: u16) -> u16
-    ensures { result ≡ labelAt table.now v }
+    ensures { result ≡ label_at table.now v }
 {
     field_at(table, v, 1)
 }

@@ -2,9 +2,9 @@
 // found.
 ghost use Rattle.std.specs.Prelude.{◌≡◌, not, ◌≤◌, length, eqb, ltb};
 ghost use Rattle.model.specs.Basics.{when, at_place};
-ghost use Rattle.model.specs.Table.{nodeCount};
-ghost use Rattle.model.specs.Archive.{firstEdition, secondEdition, archiveOf, archiveBytes};
-ghost use Rattle.model.specs.Refusals.{refused, outcome, writeBy, writeArchive};
+ghost use Rattle.model.specs.Table.{node_count};
+ghost use Rattle.model.specs.Archive.{first_edition, second_edition, archive_of, archive_bytes};
+ghost use Rattle.model.specs.Refusals.{refused, outcome, write_by, write_archive};
 ghost use Rattle.model.specs.Demand.{WritePromise};
 ghost use Rattle.layout.specs.Rows.{layout_of, FeasibleLayout};
 ghost use Rattle.records.specs.Size.{InRoom};
@@ -30,9 +30,9 @@ fn fill_archive<'a>(
     out: &mut [u8],
 )
     requires { InRoom e × FeasibleLayout table.now marks.now (layout_of rows.now weights.now pages)
-        × (nodeCount table.now ≤ e.most)
-        × (length out.old ≡ archiveBytes e pages (nodeCount table.now)) }
-    ensures { out.new ≡ archiveOf e table.now marks.now }
+        × (node_count table.now ≤ e.most)
+        × (length out.old ≡ archive_bytes e pages (node_count table.now)) }
+    ensures { out.new ≡ archive_of e table.now marks.now }
 {
     let nodes = node_count(table);
     let limit = limit_of(table);
@@ -59,7 +59,7 @@ fn check_film(e: Edition, nodes: u16, size: u32, length: usize, judged: Answer) 
 pub fn write_edition(e: Edition, filed: bool, table: &[u8], marks: &[u8], out: &mut [u8]) -> Answer
     requires { InRoom e }
     ensures { outcome result out.new
-        ≡ writeBy (record { filed = filed }) e table.now marks.now out.old }
+        ≡ write_by (record { filed = filed }) e table.now marks.now out.old }
 {
     let mut rows = [[0u16; SLOTS]; ROWS];
     let mut weights = [0u32; SLOTS];
@@ -83,8 +83,8 @@ pub fn write_edition(e: Edition, filed: bool, table: &[u8], marks: &[u8], out: &
 // best one is the lowest there is.
 pub fn write_archive(table: &[u8], marks: &[u8], out: &mut [u8]) -> Answer
     ensures out_after { outcome result out.new
-        ≡ writeArchive firstEdition table.now marks.now out.old }
-    ensures write_promise { WritePromise firstEdition table.now marks.now out.old
+        ≡ write_archive first_edition table.now marks.now out.old }
+    ensures write_promise { WritePromise first_edition table.now marks.now out.old
         result out.new }
 {
     write_edition(first_edition(), true, table, marks, out)
@@ -93,8 +93,8 @@ pub fn write_archive(table: &[u8], marks: &[u8], out: &mut [u8]) -> Answer
 // Entry: the writer of edition 2. The refusals of the judge, and 12: it takes as many nodes as a table has.
 pub fn write_archive2(table: &[u8], marks: &[u8], out: &mut [u8]) -> Answer
     ensures out_after { outcome result out.new
-        ≡ writeArchive secondEdition table.now marks.now out.old }
-    ensures write_promise { WritePromise secondEdition table.now marks.now out.old
+        ≡ write_archive second_edition table.now marks.now out.old }
+    ensures write_promise { WritePromise second_edition table.now marks.now out.old
         result out.new }
 {
     write_edition(second_edition(), true, table, marks, out)

@@ -1,8 +1,8 @@
 -- `best::lay_best` meets its contract. Assumes nothing.
 use mathlib.Core.Path.{refl}
 use native.Mathlib.Omega.{arith}
-use Rattle.model.specs.Table.{nodeCount, limitOf}
-use Rattle.best.proofs.NodeStart.{open-fits, starts-ready}
+use Rattle.model.specs.Table.{node_count, limit_of}
+use Rattle.best.proofs.NodeStart.{open_fits, starts_ready}
 use borrow.Author.Rules.{rules}
 use Rattle.best.proofs.lay_best.Statement.{statement}
 use Rattle.best.proofs.lay_best.Tie as tie
@@ -18,16 +18,16 @@ open-block-requires c κs =
     let b = c.before.before.before.before.before.before in
     let t = b.args.table.now in
     let sound = b.requires.0.sound in
-    let fits = open-fits (nodeCount t) (limitOf t) sound.count_low in
+    let fits = open_fits (node_count t) (limit_of t) sound.count_low in
     let limit = c.limit-of.ensures in
-    (omega (arith, limit, sound.limit-high), omega (arith, limit, fits, b.requires.2))
+    (omega (arith, limit, sound.limit_high), omega (arith, limit, fits, b.requires.2))
 
 plan-nodes-requires : tie.Need-plan-nodes-requires
 plan-nodes-requires c κs =
     let o = c.before.before.before.before.before.before.before in
-    let l = o.before.before.before.link-before in
+    let l = o.before.before.before.link_before in
     let b = o.before.before.before.before.before.before.before in (
-      starts-ready _ b.requires.0 b.requires.2 l.ensures o.before.limit-of.ensures o.open_block.ensures,
+      starts_ready _ b.requires.0 b.requires.2 l.ensures o.before.limit-of.ensures o.open_block.ensures,
       refl,
       refl,
       refl,

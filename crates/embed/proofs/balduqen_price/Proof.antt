@@ -2,7 +2,7 @@
 use mathlib.Core.Path.{ap, ◌∙◌}
 use Rattle.model.specs.Refusals.{outcome}
 use Rattle.embed.specs.declared.Figures.{Figures}
-use Rattle.embed.specs.Figures.{withCents, priceAnswer}
+use Rattle.embed.specs.Figures.{with_cents, price_answer}
 use borrow.Author.Rules.{rules}
 use Rattle.embed.proofs.balduqen_price.Statement.{statement}
 use Rattle.embed.proofs.balduqen_price.Tie as tie
@@ -11,8 +11,8 @@ returns : tie.Need-returns
 returns c =
     let p = c.before.before.price in
     let r = p.result in
-    let same = ap (λ (f : Figures). withCents f r.cents) c.flatten.ensures in (
-      same ∙ ap priceAnswer p.ensures.0,
+    let same = ap (λ (f : Figures). with_cents f r.cents) c.flatten.ensures in (
+      same ∙ ap price_answer p.ensures.0,
       record { answer = outcome r.answer r.cents; figures = same; promise = p.ensures.1 },
     )
 

@@ -5,11 +5,11 @@ use mathlib.Core.Path.{◌≡◌, sym, ap, ◌∙◌}
 use Prim.Native.Nat.{ℕ}
 use native.Mathlib.Omega.{arith}
 use lib.ListN.{length}
-use Rattle.model.specs.Table.{nodeCount}
-use Rattle.model.specs.Refusals.{Rules, refused, treeChecks, passes, accepted}
+use Rattle.model.specs.Table.{node_count}
+use Rattle.model.specs.Refusals.{Rules, refused, tree_checks, passes, accepted}
 use Rattle.model.specs.declared.Answer.{Answer}
-use Rattle.theory.specs.Checks.{firstOf-all}
-use Rattle.theory.specs.JudgeAnswers.{treeAnswer, with-passes, judge-refuses, judge-eight}
+use Rattle.theory.specs.Checks.{first_of_all}
+use Rattle.theory.specs.JudgeAnswers.{tree_answer, with_passes, judge_refuses, judge_eight}
 use borrow.Author.Rules.{rules}
 use Rattle.judge.proofs.check_given.Statement.{statement}
 use Rattle.judge.proofs.check_given.Tie as tie
@@ -29,18 +29,18 @@ module _ (c : tie.After-check-tree) where
   abbrev marks : List ℕ
   marks = start.args.marks.now
 
-  number_is : c.check-tree.result.number ≡ (treeAnswer rules.filed table).number
+  number_is : c.check-tree.result.number ≡ (tree_answer rules.filed table).number
   number_is = ap (λ (x : Answer). x.number) c.check-tree.ensures
 
   -- where it is refused, not all of its checks pass
-  refused-tree : (c.check-tree.result.number ≡ 0 → ⊥) → passes (treeChecks rules.filed table) ≡ true → ⊥
-  unfolding treeAnswer
+  refused-tree : (c.check-tree.result.number ≡ 0 → ⊥) → passes (tree_checks rules.filed table) ≡ true → ⊥
+  unfolding tree_answer
   refused-tree other pass =
-      other (number_is ∙ ap (λ (x : Answer). x.number) (firstOf-all (treeChecks rules.filed table) accepted pass))
+      other (number_is ∙ ap (λ (x : Answer). x.number) (first_of_all (tree_checks rules.filed table) accepted pass))
 
   module _ (z : c.check-tree.result.number ≡ 0) where
-    tree : passes (treeChecks rules.filed table) ≡ true
-    tree = with-passes rules.filed table (sym number_is ∙ z)
+    tree : passes (tree_checks rules.filed table) ≡ true
+    tree = with_passes rules.filed table (sym number_is ∙ z)
 
 -- ---- The needs
 
@@ -52,7 +52,7 @@ returns c =
       tree = λ z. absurd (other z);
       long = λ z. absurd (other z);
       refuses = λ h.
-          t.check-tree.ensures ∙ judge-refuses (rules t) (table t) (marks t) (λ z. other (number_is t ∙ z));
+          t.check-tree.ensures ∙ judge_refuses (rules t) (table t) (marks t) (λ z. other (number_is t ∙ z));
       none = λ h pass long. refused-tree t other pass;
     }
 
@@ -61,13 +61,13 @@ returns-2 c =
     let n = c.before.before in
     let t = n.before.before.before in
     let r = c.refuse.ensures ∙ ap (refused 8) n.node-count.ensures in
-    let wrong : length (marks t) ≡ nodeCount (table t) → ⊥ =
+    let wrong : length (marks t) ≡ node_count (table t) → ⊥ =
     λ z. omega (arith, c.before.if2, n.node-count.ensures) in
     let other : c.refuse.result.number ≡ 0 → ⊥ = λ z. omega (arith, ap (λ (x : Answer). x.number) r) in
     record {
       tree = λ z. absurd (other z);
       long = λ z. absurd (other z);
-      refuses = λ h. r ∙ judge-eight (rules t) (table t) (marks t) (tree t n.before.if1.false) wrong;
+      refuses = λ h. r ∙ judge_eight (rules t) (table t) (marks t) (tree t n.before.if1.false) wrong;
       none = λ h pass long. wrong long;
     }
 

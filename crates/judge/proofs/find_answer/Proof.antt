@@ -1,24 +1,24 @@
 -- `judge::find_answer` meets its contract. Assumes nothing.
 use mathlib.Core.Path.{sym, ◌∙◌}
-use Rattle.theory.specs.Ranges.{atPlace-at, atPlace-nowhere}
+use Rattle.theory.specs.Ranges.{at_place_at, at_place_nowhere}
 use borrow.Author.Rules.{rules}
 use Rattle.judge.proofs.find_answer.Statement.{statement}
 use Rattle.judge.proofs.find_answer.Tie as tie
 
 returns : tie.Need-returns
-returns c = c.give-cause.ensures ∙ sym (atPlace-at _ _ _ _ c.before.before.bad.given.1)
+returns c = c.give-cause.ensures ∙ sym (at_place_at _ _ _ _ c.before.before.bad.given.1)
 
 returns-2 : tie.Need-returns-2
 returns-2 c =
     let h = c.before.before in
     c.give-cause2.ensures
     ∙ sym
-    (atPlace-nowhere _ _ _ h.before.before.enum_told.given.1 ∙ atPlace-at _ _ _ _ h.heavy.given.1)
+    (at_place_nowhere _ _ _ h.before.before.enum_told.given.1 ∙ at_place_at _ _ _ _ h.heavy.given.1)
 
 returns-3 : tie.Need-returns-3
 returns-3 c =
     sym
-    (atPlace-nowhere _ _ _ c.before.before.enum_told.given.1 ∙ atPlace-nowhere _ _ _ c.enum-told2.given.1)
+    (at_place_nowhere _ _ _ c.before.before.enum_told.given.1 ∙ at_place_nowhere _ _ _ c.enum-told2.given.1)
 
 pub find-answer-spec : {M : Type 1} → statement M
 find-answer-spec =

@@ -3,9 +3,9 @@ use mathlib.Core.List.{List}
 use mathlib.Core.Path.{◌∙◌}
 use Prim.Native.Nat.{ℕ}
 use Rattle.model.specs.Refusals.{Rules}
-use Rattle.theory.specs.TableFacts.{passed-facts}
-use Rattle.theory.specs.JudgeAnswers.{judge-verdict}
-use Rattle.judge.specs.Judging.{beside_none, beside-laid}
+use Rattle.theory.specs.TableFacts.{passed_facts}
+use Rattle.theory.specs.JudgeAnswers.{judge_verdict}
+use Rattle.judge.specs.Judging.{beside_none, beside_laid}
 use borrow.Author.Rules.{rules}
 use Rattle.judge.proofs.judge_pages.Statement.{statement}
 use Rattle.judge.proofs.judge_pages.Tie as tie
@@ -37,7 +37,7 @@ judge-made-requires : tie.Need-judge-made-requires
 judge-made-requires c κs =
     let e = c.before.before in
     let k = e.before.before in
-    (passed-facts (rules k).filed (table k) (k.check-given.ensures.tree e.if1.false), (start k).requires)
+    (passed_facts (rules k).filed (table k) (k.check-given.ensures.tree e.if1.false), (start k).requires)
 
 returns-2 : tie.Need-returns-2
 returns-2 c =
@@ -46,8 +46,8 @@ returns-2 c =
     let g = k.check-given.ensures in
     let made = c.judge-made.ensures in
     let is =
-    made.0 ∙ judge-verdict (rules k) (table k) (marks k) (g.tree e.if1.false) (g.long e.if1.false) in
-    (is, beside-laid is made.1)
+    made.0 ∙ judge_verdict (rules k) (table k) (marks k) (g.tree e.if1.false) (g.long e.if1.false) in
+    (is, beside_laid is made.1)
 
 pub judge-pages-spec : {M : Type 1} → statement M
 judge-pages-spec = tie.close (tie.spec (λ c κs. search rules) returns judge-made-requires returns-2)

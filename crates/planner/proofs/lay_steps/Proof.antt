@@ -2,8 +2,8 @@
 use mathlib.Core.Path.{◌≡◌, sym, ap, ◌∙◌}
 use mathlib.Core.List.{List}
 use Prim.Native.Nat.{ℕ}
-use Rattle.model.specs.Table.{limitOf, tree_of}
-use Rattle.model.specs.Steps.{bestMarks, levelMarks}
+use Rattle.model.specs.Table.{limit_of, tree_of}
+use Rattle.model.specs.Steps.{best_marks, level_marks}
 use Rattle.planner.specs.declared.Planner.{Planner}
 use Rattle.planner.specs.Planners.{steps_of}
 use borrow.Author.Rules.{rules}
@@ -11,18 +11,18 @@ use Rattle.planner.proofs.lay_steps.Statement.{statement}
 use Rattle.planner.proofs.lay_steps.Tie as tie
 
 -- the steps of the planner that is asked for
-by-steps : (t : List ℕ) {m : List ℕ} {p q : Planner} → p ≡ q → m ≡ steps_of q (limitOf t) (tree_of t)
-    → m ≡ steps_of p (limitOf t) (tree_of t)
-by-steps t e h = h ∙ sym (ap (λ (p : Planner). steps_of p (limitOf t) (tree_of t)) e)
+by-steps : (t : List ℕ) {m : List ℕ} {p q : Planner} → p ≡ q → m ≡ steps_of q (limit_of t) (tree_of t)
+    → m ≡ steps_of p (limit_of t) (tree_of t)
+by-steps t e h = h ∙ sym (ap (λ (p : Planner). steps_of p (limit_of t) (tree_of t)) e)
 
 returns : tie.Need-returns
-unfolding bestMarks
+unfolding best_marks
 returns c =
     let l = c.before.before.before.before in
     by-steps _ l.before.before.before.enum_told.given.1 l.lay-best.ensures
 
 returns-2 : tie.Need-returns-2
-unfolding levelMarks
+unfolding level_marks
 returns-2 c =
     let l = c.before.before.before.before in
     by-steps _ l.before.before.before.enum-told2.given.1 l.lay-best2.ensures

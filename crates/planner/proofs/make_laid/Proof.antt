@@ -1,9 +1,9 @@
 -- `planner::make_laid` meets its contract. Assumes nothing.
 use mathlib.Core.List.{List}
 use Prim.Native.Nat.{ℕ}
-use Rattle.layout.specs.Rows.{feasible-layout}
+use Rattle.layout.specs.Rows.{feasible_layout}
 use Rattle.planner.specs.declared.Planner.{Planner}
-use Rattle.planner.proofs.Planning.{laid-facts, laid-judged, judged-plan, refused-plan}
+use Rattle.planner.proofs.Planning.{laid_facts, laid_judged, judged_plan, refused_plan}
 use borrow.Author.Rules.{rules}
 use Rattle.planner.proofs.make_laid.Statement.{statement}
 use Rattle.planner.proofs.make_laid.Tie as tie
@@ -31,7 +31,7 @@ module _ (k : tie.After-make-marks) where
 returns : tie.Need-returns
 returns c =
     let k = c.before.before.before.before.before.before in (
-      refused-plan (planner k) (table k) (marks k) (scratch k) k.make-marks.ensures c.if1.true,
+      refused_plan (planner k) (table k) (marks k) (scratch k) k.make-marks.ensures c.if1.true,
       λ z. absurd (c.if1.true z),
     )
 
@@ -39,7 +39,7 @@ judge-made-requires : tie.Need-judge-made-requires
 judge-made-requires c κs =
     let e = c.before.before.before in
     let k = e.before.before.before.before.before.before in (
-      laid-facts (planner k) (table k) (marks k) (scratch k) k.make-marks.ensures e.if1.false,
+      laid_facts (planner k) (table k) (marks k) (scratch k) k.make-marks.ensures e.if1.false,
       (start k).requires,
     )
 
@@ -49,8 +49,8 @@ returns-2 c =
     let k = e.before.before.before.before.before.before in
     let made = k.make-marks.ensures in
     let judged = c.judge-made.ensures in (
-      judged-plan (planner k) (table k) (marks k) (scratch k) made e.if1.false judged.0,
-      λ z. feasible-layout (laid-judged (planner k) (table k) (marks k) (scratch k) made e.if1.false) judged.1,
+      judged_plan (planner k) (table k) (marks k) (scratch k) made e.if1.false judged.0,
+      λ z. feasible_layout (laid_judged (planner k) (table k) (marks k) (scratch k) made e.if1.false) judged.1,
     )
 
 pub make-laid-spec : {M : Type 1} → statement M

@@ -3,7 +3,7 @@ use mathlib.Core.Path.{ap, ◌∙◌}
 use Prim.Native.Nat.{ℕ}
 use lib.ListN.{replicate}
 use Rattle.planner.specs.Planners.{steps_of}
-use Rattle.planner.proofs.Planning.{plan-ready, laid-refused, laid_done}
+use Rattle.planner.proofs.Planning.{plan_ready, laid_refused, laid_done}
 use borrow.Author.Rules.{rules}
 use Rattle.planner.proofs.make_marks.Statement.{statement}
 use Rattle.planner.proofs.make_marks.Tie as tie
@@ -22,7 +22,7 @@ returns : tie.Need-returns
 returns c =
     let k = c.before.before in
     let a = (start k).args in
-    laid-refused a.table.now a.marks.now a.scratch.now _ k.check-plan.ensures
+    laid_refused a.table.now a.marks.now a.scratch.now _ k.check-plan.ensures
     (steps_of a.planner) c.if1.true
 
 lay-steps-requires : tie.Need-lay-steps-requires
@@ -30,7 +30,7 @@ lay-steps-requires c κs =
     let e = c.before.before in
     let k = checked e in
     let a = (start k).args in
-    plan-ready a.table.now a.marks.now a.scratch.now k.check-plan.result k.check-plan.ensures
+    plan_ready a.table.now a.marks.now a.scratch.now k.check-plan.result k.check-plan.ensures
     e.if1.false
 
 returns-2 : tie.Need-returns-2

@@ -6,8 +6,8 @@ use native.Mathlib.Omega.{arith}
 use lib.ListN.{length, take}
 use lib.Seq.{length-take-le}
 use Rattle.model.specs.Basics.{same_list}
-use Rattle.archive.specs.Answers.{copy-refused, copy-long, copy-stopped, copy-differs, copy-same}
-use Rattle.archive.specs.Parts.{part-long, part-back}
+use Rattle.archive.specs.Answers.{copy_refused, copy_long, copy_stopped, copy_differs, copy_same}
+use Rattle.archive.specs.Parts.{part_long, part_back}
 use borrow.Author.Rules.{rules}
 use Rattle.archive.proofs.judged.judge_copy.Statement.{statement}
 use Rattle.archive.proofs.judged.judge_copy.Tie as tie
@@ -37,32 +37,32 @@ compared : (s : tie.After-same-bytes)
     same_list (copied w) (archive w) ≡ s.same_bytes.result)
 compared s =
     let w = s.before.before.before.before.before.before in
-    sym (part-back (copied w) _ _ (copied-long w) (archive w)) ∙ sym s.same_bytes.ensures
+    sym (part_back (copied w) _ _ (copied-long w) (archive w)) ∙ sym s.same_bytes.ensures
 
 -- ---- The needs
 
 returns : tie.Need-returns
 returns c =
     let lent = c.before.before.before.before.before.before in
-    copy-refused c.refuse.ensures
-    (copy-long lent.requires.0 _ _ _ lent.requires.1 (omega (arith, lent.requires.2, c.before.if1.true)))
+    copy_refused c.refuse.ensures
+    (copy_long lent.requires.0 _ _ _ lent.requires.1 (omega (arith, lent.requires.2, c.before.if1.true)))
 
 returns-2 : tie.Need-returns-2
 returns-2 c =
     let w = c.before.before.before.before.before in
-    copy-refused c.refuse2.ensures
-    (copy-stopped (start w).requires.0 (archive w) _ _ _ (copied w) _ w.write-edition.ensures c.before.if2.true
+    copy_refused c.refuse2.ensures
+    (copy_stopped (start w).requires.0 (archive w) _ _ _ (copied w) _ w.write-edition.ensures c.before.if2.true
     (start w).requires.1
     (fresh w.before.before))
 
 slice-aggregate-same-bytes : tie.Need-slice-aggregate-same-bytes
 slice-aggregate-same-bytes c =
-    let w = c.before.before.before.before.before in part-long (copied w) _ _ (copied-long w)
+    let w = c.before.before.before.before.before in part_long (copied w) _ _ (copied-long w)
 
 returns-3 : tie.Need-returns-3
 returns-3 c =
     let w = c.before.before.before.before.before.before.before in
-    copy-same (start w).requires.0 (archive w) _ _ _ (copied w) _ w.write-edition.ensures
+    copy_same (start w).requires.0 (archive w) _ _ _ (copied w) _ w.write-edition.ensures
     c.before.before.before.if2.false
     (λ i. omega (arith, w.before.before.before.before.before.shared-slice-known2.given i))
     (compared c.before ∙ c.if3.true)
@@ -70,8 +70,8 @@ returns-3 c =
 returns-4 : tie.Need-returns-4
 returns-4 c =
     let w = c.before.before.before.before.before.before.before.before in
-    copy-refused c.refuse3.ensures
-    (copy-differs (start w).requires.0 (archive w) _ _ _ (copied w) _ w.write-edition.ensures
+    copy_refused c.refuse3.ensures
+    (copy_differs (start w).requires.0 (archive w) _ _ _ (copied w) _ w.write-edition.ensures
     c.before.before.before.before.if2.false
     (compared c.before.before ∙ c.before.if3.false))
 

@@ -3,7 +3,7 @@ use mathlib.Core.Path.{◌≡◌}
 use Prim.Native.Nat.{◌-◌, ◌≤◌}
 use native.Mathlib.Omega.{arith}
 use lib.ListN.{length}
-use Rattle.archive.proofs.SameBytes.{SameUpto, same_start, same_turn, bytes-yes, bytes-long, bytes-differ}
+use Rattle.archive.proofs.SameBytes.{SameUpto, same_start, same_turn, bytes_yes, bytes_long, bytes_differ}
 use borrow.Author.Rules.{rules}
 use Rattle.archive.proofs.judged.same_bytes.Statement.{statement}
 use Rattle.archive.proofs.judged.same_bytes.Tie as tie
@@ -15,7 +15,7 @@ abbrev decreases-loop : tie.decreases-loop
 decreases-loop a b i₀ i = length a - i
 
 returns : tie.Need-returns invariant-loop decreases-loop
-returns c = bytes-long _ _ c.if1.true
+returns c = bytes_long _ _ c.if1.true
 
 loop-holds : tie.Need-loop-init invariant-loop decreases-loop
 loop-holds c = (omega arith, c.if1.false, same_start c.before.args.a.now c.before.args.b.now)
@@ -24,7 +24,7 @@ shared-slice-read-if2-2 : tie.Need-shared-slice-read-if2-2 invariant-loop decrea
 shared-slice-read-if2-2 c = omega (arith, c.before.before.before.loop.invariant.1, c.before.before.loop-test.true)
 
 returns-2 : tie.Need-returns-2 invariant-loop decreases-loop
-returns-2 c = bytes-differ _ _ c.before.before.before.before.loop.i c.if2.true
+returns-2 c = bytes_differ _ _ c.before.before.before.before.loop.i c.if2.true
 
 loop-again : tie.Need-loop-preserved invariant-loop decreases-loop
 loop-again c =
@@ -40,7 +40,7 @@ returns-3 : tie.Need-returns-3 invariant-loop decreases-loop
 returns-3 c =
     let l = c.before.loop in
     let a = c.before.before.before.args in
-    bytes-yes a.a.now a.b.now l.i l.invariant.2 l.invariant.1 c.loop-test.false
+    bytes_yes a.a.now a.b.now l.i l.invariant.2 l.invariant.1 c.loop-test.false
 
 pub same-bytes-spec : {M : Type 1} → statement M
 same-bytes-spec =

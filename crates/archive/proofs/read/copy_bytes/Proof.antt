@@ -3,7 +3,7 @@ use mathlib.Core.Path.{◌≡◌, sym, ◌∙◌}
 use Prim.Native.Nat.{◌-◌, ◌≤◌}
 use native.Mathlib.Omega.{arith}
 use lib.ListN.{length, length-set}
-use Rattle.archive.proofs.SameBytes.{SameUpto, same_start, same-all, copy-turn}
+use Rattle.archive.proofs.SameBytes.{SameUpto, same_start, same_all, copy_turn}
 use borrow.Author.Rules.{rules}
 use Rattle.archive.proofs.read.copy_bytes.Statement.{statement}
 use Rattle.archive.proofs.read.copy_bytes.Tie as tie
@@ -26,7 +26,7 @@ loop-again c =
     let less = c.before.loop-test.true in (
       omega arith,
       simp length-set l.invariant.1,
-      copy-turn c.before.before.before.args.from.now l.to l.i l.invariant.2 (omega (arith, l.invariant.1)),
+      copy_turn c.before.before.before.args.from.now l.to l.i l.invariant.2 (omega (arith, l.invariant.1)),
     )
 
 same_length : tie.Need-same-length invariant-loop decreases-loop
@@ -35,7 +35,7 @@ same_length c = c.before.loop.invariant.1 ∙ sym c.before.before.requires
 returns : tie.Need-returns invariant-loop decreases-loop
 returns c =
     let l = c.before.loop in
-    same-all l.to c.before.before.args.from.now l.i l.invariant.2 l.invariant.1
+    same_all l.to c.before.before.args.from.now l.i l.invariant.2 l.invariant.1
     (omega (arith, l.invariant.1, c.loop-test.false))
 
 pub copy-bytes-spec : {M : Type 1} → statement M

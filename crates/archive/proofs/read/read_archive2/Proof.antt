@@ -1,16 +1,16 @@
 -- `archive::read::read_archive2` meets its contract. Assumes nothing.
 use mathlib.Core.Path.{ap, ◌∙◌}
 use native.Mathlib.Omega.{arith}
-use Rattle.model.specs.Archive.{firstEdition, secondEdition}
-use Rattle.model.specs.Refusals.{ReadBuffers, readArchive}
+use Rattle.model.specs.Archive.{first_edition, second_edition}
+use Rattle.model.specs.Refusals.{ReadBuffers, read_archive}
 use Rattle.model.specs.Demand.{ReadPromise}
 use Rattle.model.specs.declared.Answer.{Answer}
 use Rattle.model.specs.declared.Edition.{Edition}
-use Rattle.theory.specs.ArchiveWords.{second-described}
-use Rattle.theory.specs.ArchiveBack.{editions-apart}
+use Rattle.theory.specs.ArchiveWords.{second_described}
+use Rattle.theory.specs.ArchiveBack.{editions_apart}
 use Rattle.theory.specs.Entries.{promised}
-use Rattle.theory.specs.PromiseArchive.{read-promise}
-use Rattle.records.specs.Size.{second-room}
+use Rattle.theory.specs.PromiseArchive.{read_promise}
+use Rattle.records.specs.Size.{second_room}
 use Rattle.archive.specs.Room.{room_of}
 use borrow.Author.Rules.{rules}
 use Rattle.archive.proofs.read.read_archive2.Statement.{statement}
@@ -18,7 +18,7 @@ use Rattle.archive.proofs.read.read_archive2.Tie as tie
 
 read-edition-requires : tie.Need-read-edition-requires
 read-edition-requires c κs =
-    rw c.before.before.before.before.before.second-edition.ensures (room_of second-room)
+    rw c.before.before.before.before.before.second-edition.ensures (room_of second_room)
 
 returns : tie.Need-returns
 returns c =
@@ -27,12 +27,12 @@ returns c =
     let a = film.before.before.before.before.args in
     promised
     (λ (x : Answer) (b : ReadBuffers).
-    ReadPromise secondEdition firstEdition a.archive.now a.table.now a.marks.now x b.table b.marks)
-    (read-promise second-described a.archive.now a.table.now a.marks.now firstEdition
-    (λ own other. editions-apart a.archive.now other own)
+    ReadPromise second_edition first_edition a.archive.now a.table.now a.marks.now x b.table b.marks)
+    (read_promise second_described a.archive.now a.table.now a.marks.now first_edition
+    (λ own other. editions_apart a.archive.now other own)
     (λ i. omega (arith, film.before.before.before.shared-slice-known.given i)))
     (r.read-edition.ensures
-    ∙ ap (λ (x : Edition). readArchive x a.archive.now a.table.now a.marks.now)
+    ∙ ap (λ (x : Edition). read_archive x a.archive.now a.table.now a.marks.now)
     film.second-edition.ensures)
 
 pub read-archive2-spec : {M : Type 1} → statement M

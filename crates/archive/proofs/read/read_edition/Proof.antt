@@ -3,12 +3,12 @@ use mathlib.Core.List.{List}
 use mathlib.Core.Path.{sym, ap, ap₂, ◌∙◌}
 use Prim.Native.Nat.{ℕ}
 use lib.ListN.{length}
-use Rattle.model.specs.Refusals.{refused, outcome, ReadBuffers, readLeft}
+use Rattle.model.specs.Refusals.{refused, outcome, ReadBuffers, read_left}
 use Rattle.model.specs.declared.Answer.{Answer}
 use Rattle.model.specs.declared.Edition.{Edition}
-use Rattle.theory.specs.ArchiveAnswers.{read_none, read_table, read-marks, read_done}
-use Rattle.archive.specs.Parts.{known-part, Fronts, told-fronts}
-use Rattle.archive.specs.Room.{Room, room-kept}
+use Rattle.theory.specs.ArchiveAnswers.{read_none, read_table, read_marks, read_done}
+use Rattle.archive.specs.Parts.{known_part, Fronts, told_fronts}
+use Rattle.archive.specs.Room.{Room, room_kept}
 use borrow.Author.Rules.{rules}
 use Rattle.archive.proofs.read.read_edition.Statement.{statement}
 use Rattle.archive.proofs.read.read_edition.Tie as tie
@@ -36,7 +36,7 @@ module _ (d : tie.After-decode) where
   plan = d.decode.last.1.1.1.0
 
   room : Room edition (length tree) (length plan) (length start.args.copy.now)
-  room = room-kept start.pre d.decode.kept.1.1.0 d.decode.kept.1.1.1.0
+  room = room_kept start.pre d.decode.kept.1.1.0 d.decode.kept.1.1.1.0
 
 -- ---- Where the film is one
 
@@ -53,7 +53,7 @@ module _ (b : tie.After-table-bytes) where
   fronts : Fronts (edition decoded) (archive decoded) (tree decoded) (plan decoded) b.table-bytes.result
       b.before.nodes-in.result
   fronts =
-      told-fronts judged.judge-film.ensures accepted.if1.left b.table-bytes.ensures
+      told_fronts judged.judge-film.ensures accepted.if1.left b.table-bytes.ensures
       b.before.nodes-in.ensures (room decoded)
 
 -- ---- The needs
@@ -67,7 +67,7 @@ returns c =
     let j = c.before.before.before.before in
     let d = j.before.before.before.before.before.before.before.before in
     let none = j.judge-film.ensures.refuses c.if1.true in
-    ap (λ (r : Answer). readLeft r (table d) (marks d)) none.0
+    ap (λ (r : Answer). read_left r (table d) (marks d)) none.0
     ∙ sym (read_none (edition d) (archive d) (table d) (marks d) none.1)
 
 returns-2 : tie.Need-returns-2
@@ -75,29 +75,29 @@ returns-2 c =
     let b = c.before.before in
     let d = decoded b in
     let f = fronts b in
-    ap (λ (r : Answer). readLeft r (table d) (marks d)) (c.refuse.ensures ∙ ap (refused 12) f.bytes-are)
+    ap (λ (r : Answer). read_left r (table d) (marks d)) (c.refuse.ensures ∙ ap (refused 12) f.bytes_are)
     ∙ sym
     (read_table (edition d) (archive d) (table d) (marks d) f.film
-    (λ long. c.before.if2.true (long ∙ sym f.bytes-are)))
+    (λ long. c.before.if2.true (long ∙ sym f.bytes_are)))
 
 returns-3 : tie.Need-returns-3
 returns-3 c =
     let b = c.before.before.before in
     let d = decoded b in
     let f = fronts b in
-    ap (λ (r : Answer). readLeft r (table d) (marks d)) (c.refuse2.ensures ∙ ap (refused 8) f.count-is)
+    ap (λ (r : Answer). read_left r (table d) (marks d)) (c.refuse2.ensures ∙ ap (refused 8) f.count_is)
     ∙ sym
-    (read-marks (edition d) (archive d) (table d) (marks d) f.film (c.before.before.if2.false ∙ f.bytes-are)
-    (λ long. c.before.if3.true (long ∙ sym f.count-is)))
+    (read_marks (edition d) (archive d) (table d) (marks d) f.film (c.before.before.if2.false ∙ f.bytes_are)
+    (λ long. c.before.if3.true (long ∙ sym f.count_is)))
 
 copy-bytes-requires : tie.Need-copy-bytes-requires
 copy-bytes-requires c κs =
-    let e = c.before.before.before in e.if2.false ∙ known-part _ _ (fronts e.before).tree-fits
+    let e = c.before.before.before in e.if2.false ∙ known_part _ _ (fronts e.before).tree_fits
 
 copy-bytes-requires-2 : tie.Need-copy-bytes-requires-2
 copy-bytes-requires-2 c κs =
     let e = c.before.before.before.before.before.before.before in
-    e.if3.false ∙ known-part _ _ (fronts e.before.before).plan-fits
+    e.if3.false ∙ known_part _ _ (fronts e.before.before).plan_fits
 
 returns-4 : tie.Need-returns-4
 returns-4 c =
@@ -107,11 +107,11 @@ returns-4 c =
     let f = fronts b in
     ap₂ outcome ((judged b).judge-film.ensures.accepts (accepted b).if1.false).3
     (ap₂ {C = ReadBuffers} (λ (t m : List ℕ). record { table = t; marks = m })
-    (c.before.before.before.before.before.before.before.copy-bytes.ensures ∙ f.tree-told)
-    (c.before.before.copy-bytes2.ensures ∙ f.plan-told))
+    (c.before.before.before.before.before.before.before.copy-bytes.ensures ∙ f.tree_told)
+    (c.before.before.copy-bytes2.ensures ∙ f.plan_told))
     ∙ sym
-    (read_done (edition d) (archive d) (table d) (marks d) f.film (e.before.if2.false ∙ f.bytes-are)
-    (e.if3.false ∙ f.count-is))
+    (read_done (edition d) (archive d) (table d) (marks d) f.film (e.before.if2.false ∙ f.bytes_are)
+    (e.if3.false ∙ f.count_is))
 
 pub read-edition-spec : {M : Type 1} → statement M
 read-edition-spec =
@@ -120,9 +120,9 @@ read-edition-spec =
     returns (λ c κs. search rules) (λ c. search rules) (λ c κs. search rules) (λ c. search rules)
     (λ c κs. search rules) (λ c. search rules) (λ c. search rules) (λ c. search rules) returns-2 (λ c. search rules)
     (λ c κs. search rules) (λ c. search rules) (λ c. search rules) (λ c. search rules) returns-3
-    (λ c. (fronts c.before.before).tree-fits)
-    (λ c. known-part _ _ (fronts c.before.before.before).tree-fits) copy-bytes-requires
-    (λ c. (fronts c.before.before.before.before.before.before.before).plan-fits)
-    (λ c. known-part _ _ (fronts c.before.before.before.before.before.before.before.before).plan-fits)
+    (λ c. (fronts c.before.before).tree_fits)
+    (λ c. known_part _ _ (fronts c.before.before.before).tree_fits) copy-bytes-requires
+    (λ c. (fronts c.before.before.before.before.before.before.before).plan_fits)
+    (λ c. known_part _ _ (fronts c.before.before.before.before.before.before.before.before).plan_fits)
     copy-bytes-requires-2 (λ c. search rules)
     (λ c. search rules) (λ c. search rules) (λ c. search rules) (λ c. search rules) returns-4)

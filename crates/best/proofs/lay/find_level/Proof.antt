@@ -5,15 +5,15 @@ use Rattle.best.proofs.lay.find_level.Tie as tie
 use Prim.Native.Nat.{◌+◌, ◌-◌, ◌*◌, ◌≤◌, ◌<◌}
 use mathlib.Core.Path.{◌≡◌, sym, ◌∙◌, ap}
 use native.Mathlib.Omega.{arith}
-use Rattle.columns.specs.CellsRun.{countsOf}
-use Rattle.best.specs.CellsLevel.{levelFrom}
-use Rattle.best.specs.LayChoices.{levelling, levelling-start, levelling-down}
-use Rattle.best.specs.LayChoices.{levelling-stop, levelling-take, levelling-none}
+use Rattle.columns.specs.CellsRun.{counts_of}
+use Rattle.best.specs.CellsLevel.{level_from}
+use Rattle.best.specs.LayChoices.{levelling, levelling_start, levelling_down}
+use Rattle.best.specs.LayChoices.{levelling_stop, levelling_take, levelling_none}
 
 abbrev invariant-loop : tie.invariant-loop
 invariant-loop counts top total limit gain₀ left₀ times₀ sum₀ gain left times sum =
     (gain ≤ top) × (times + left < 65536)
-    × (levelFrom top (countsOf counts) limit total ≡ levelling gain left times (countsOf counts) limit sum)
+    × (level_from top (counts_of counts) limit total ≡ levelling gain left times (counts_of counts) limit sum)
 
 abbrev decreases-loop : tie.decreases-loop
 decreases-loop counts top total limit gain₀ left₀ times₀ sum₀ gain left times sum = gain * 65536 + left
@@ -21,7 +21,7 @@ decreases-loop counts top total limit gain₀ left₀ times₀ sum₀ gain left 
 loop-holds : tie.Need-loop-init invariant-loop decreases-loop
 loop-holds c =
     let a = c.before.args in
-    let begin = levelling-start a.top (countsOf a.counts.now) a.limit a.total in
+    let begin = levelling_start a.top (counts_of a.counts.now) a.limit a.total in
     (omega arith, omega (arith, c.before.requires.2 a.top), begin)
 
 loop-less : tie.Need-loop-smaller invariant-loop decreases-loop
@@ -37,9 +37,9 @@ loop-again c =
       omega (arith, l.invariant.0),
       omega (arith, c.before.before.before.before.before.requires.2 (l.gain - 1)),
       l.invariant.2
-          ∙ ap (λ n. levelling l.gain n l.times (countsOf a.counts.now) a.limit l.sum)
+          ∙ ap (λ n. levelling l.gain n l.times (counts_of a.counts.now) a.limit l.sum)
           c.before.if1.true
-          ∙ levelling-down l.gain l.times (countsOf a.counts.now) a.limit l.sum low,
+          ∙ levelling_down l.gain l.times (counts_of a.counts.now) a.limit l.sum low,
     )
 
 returns : tie.Need-returns invariant-loop decreases-loop
@@ -47,7 +47,7 @@ returns c =
     let l = c.before.before.before.loop in
     let a = c.before.before.before.before.before.args in
     let stop =
-    levelling-stop l.gain l.left l.times (countsOf a.counts.now) a.limit l.sum (omega arith)
+    levelling_stop l.gain l.left l.times (counts_of a.counts.now) a.limit l.sum (omega arith)
     (omega arith) c.if2.true in
     let is = l.invariant.2 ∙ stop in
     (ap (λ x. x.gain) (sym is), ap (λ x. x.times) (sym is))
@@ -62,7 +62,7 @@ loop-again-2 c =
       l.invariant.0,
       omega (arith, l.invariant.1),
       l.invariant.2
-          ∙ levelling-take l.gain l.left l.times (countsOf a.counts.now) a.limit l.sum (omega arith)
+          ∙ levelling_take l.gain l.left l.times (counts_of a.counts.now) a.limit l.sum (omega arith)
           (omega arith) c.if2.false,
     )
 
@@ -71,8 +71,8 @@ returns-2 c =
     let l = c.before.loop in
     let a = c.before.before.before.args in
     let is = l.invariant.2
-    ∙ ap (λ g. levelling g l.left l.times (countsOf a.counts.now) a.limit l.sum) c.loop-test.false
-    ∙ levelling-none l.left l.times (countsOf a.counts.now) a.limit l.sum in
+    ∙ ap (λ g. levelling g l.left l.times (counts_of a.counts.now) a.limit l.sum) c.loop-test.false
+    ∙ levelling_none l.left l.times (counts_of a.counts.now) a.limit l.sum in
     (ap (λ x. x.gain) (sym is), ap (λ x. x.times) (sym is))
 
 pub find-level-spec : {M : Type 1} → statement M

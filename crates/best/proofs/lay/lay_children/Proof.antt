@@ -6,11 +6,11 @@ use Prim.Native.Nat.{◌+◌, ◌≤◌, ◌<◌}
 use mathlib.Core.Path.{ap}
 use lib.ListN.{get_or}
 use native.Mathlib.Omega.{arith}
-use Rattle.model.specs.Table.{maxNodes, maxLimit, slots}
-use Rattle.theory.specs.SiblingsBack.{child-high}
-use Rattle.columns.specs.CellsRun.{blockAt}
-use Rattle.best.proofs.LayNode.{Walking, Found, limit-small, nodes-small, walk_from, walk-high, walk-reads}
-use Rattle.best.proofs.LayNode.{block-small, prev-less, stay-fits, walk-stay, walk-ready, walk-less, walk-run}
+use Rattle.model.specs.Table.{max_nodes, max_limit, slots}
+use Rattle.theory.specs.SiblingsBack.{child_high}
+use Rattle.columns.specs.CellsRun.{block_at}
+use Rattle.best.proofs.LayNode.{Walking, Found, limit_small, nodes_small, walk_from, walk_high, walk_reads}
+use Rattle.best.proofs.LayNode.{block_small, prev_less, stay_fits, walk_stay, walk_ready, walk_less, walk_run}
 use Rattle.best.proofs.LayNode.{walk_end}
 
 abbrev invariant-loop : tie.invariant-loop
@@ -28,19 +28,19 @@ abbrev limited : tie.At-loop invariant-loop decreases-loop → tie.After-limit-o
 limited l = l.before.before.before.before
 
 -- the child is a node
-high : (l : tie.At-loop invariant-loop decreases-loop) → l.loop.child ≤ maxNodes
+high : (l : tie.At-loop invariant-loop decreases-loop) → l.loop.child ≤ max_nodes
 high l =
     let b = entry l in
-    omega (arith, walk-high b.pre l.loop.invariant, nodes-small b.pre)
+    omega (arith, walk_high b.pre l.loop.invariant, nodes_small b.pre)
 
 -- the place of the run's length does not wrap
 place : (d : tie.After-block-at invariant-loop decreases-loop) → let l = d.before.before in
-    d.block_at.result + ((limited l).limit-of.result + 1) + l.loop.start < blockAt maxLimit slots
+    d.block_at.result + ((limited l).limit-of.result + 1) + l.loop.start < block_at max_limit slots
 place d =
     let l = d.before.before in
     let lim = (limited l).limit-of in
     let k = d.block_at in
-    block-small (entry l).requires l.loop.invariant lim.result k.result lim.ensures k.ensures
+    block_small (entry l).requires l.loop.invariant lim.result k.result lim.ensures k.ensures
 
 -- the length of the run that won
 found : (d : tie.After-block-at invariant-loop decreases-loop) → let l = d.before.before in
@@ -61,27 +61,27 @@ found d =
 -- a child that stays has room
 fits : (c : tie.After-start invariant-loop decreases-loop) → let l = c.before.before.before.before.before in
     let a = (entry l).args in
-    l.loop.start + get_or a.rests.now l.loop.child 0 ≤ maxLimit
+    l.loop.start + get_or a.rests.now l.loop.child 0 ≤ max_limit
 fits c =
     let d = c.before.before.before in
     let l = d.before.before in
     let b = entry l in
-    omega (arith, stay-fits b.pre l.loop.invariant (found d) c.before.if1.true, limit-small b.pre)
+    omega (arith, stay_fits b.pre l.loop.invariant (found d) c.before.if1.true, limit_small b.pre)
 
 start-of-requires : tie.Need-start-of-requires invariant-loop decreases-loop
 start-of-requires c κs =
     let b = c.before.before.before.before.before in
     let lim = c.before.limit-of in (
-      omega (arith, lim.ensures, limit-small b.requires),
-      omega (arith, b.requires.high, nodes-small b.requires),
+      omega (arith, lim.ensures, limit_small b.requires),
+      omega (arith, b.requires.high, nodes_small b.requires),
       omega (arith, lim.ensures, (b.requires.ready.good b.args.v).light),
     )
 
 cast-child : tie.Need-overflow-cast-child invariant-loop decreases-loop
 cast-child c =
     let b = c.before.before.before.before.before.before.before in
-    let last = child-high _ _ _ b.requires.last-child in
-    let few = nodes-small b.requires in
+    let last = child_high _ _ _ b.requires.last_child_lem in
+    let few = nodes_small b.requires in
     search rules
 
 loop-holds : tie.Need-loop-init invariant-loop decreases-loop
@@ -95,7 +95,7 @@ block-at-requires : tie.Need-block-at-requires invariant-loop decreases-loop
 block-at-requires c κs =
     let l = c.before in
     let b = entry l in
-    (omega (arith, (limited l).limit-of.ensures, limit-small b.pre), high l)
+    (omega (arith, (limited l).limit-of.ensures, limit_small b.pre), high l)
 
 add-len-2 : tie.Need-overflow-add-len-2 invariant-loop decreases-loop
 add-len-2 c = let small = place c in search rules
@@ -112,7 +112,7 @@ shared-slice-read-len c =
     let l = d.before.before in
     let lim = (limited l).limit-of in
     let k = d.block_at in
-    walk-reads (entry l).requires l.loop.invariant lim.result k.result lim.ensures k.ensures
+    walk_reads (entry l).requires l.loop.invariant lim.result k.result lim.ensures k.ensures
 
 element-write-seconds : tie.Need-element-write-seconds invariant-loop decreases-loop
 element-write-seconds c = omega (arith, high c.before.before.before.before)
@@ -123,7 +123,7 @@ slice-write-marks c =
     let b = entry l in
     omega (
       arith,
-      walk-high b.pre l.loop.invariant,
+      walk_high b.pre l.loop.invariant,
       b.pre.long,
       l.loop.invariant.laid.long,
       c.before.before.before.loop-test.true,
@@ -145,7 +145,7 @@ cast-child-2 : tie.Need-overflow-cast-child-2 invariant-loop decreases-loop
 cast-child-2 c =
     let d = c.before.before.before.before in
     let l = d.before.before in
-    let less = prev-less (entry l).requires l.loop.invariant (found d) in
+    let less = prev_less (entry l).requires l.loop.invariant (found d) in
     let few = high l in
     search rules
 
@@ -153,33 +153,33 @@ loop-less : tie.Need-loop-smaller invariant-loop decreases-loop
 loop-less c =
     let d = c.before.before.before.before in
     let l = d.before.before in
-    prev-less (entry l).requires l.loop.invariant (found d)
+    prev_less (entry l).requires l.loop.invariant (found d)
 
 loop-again : tie.Need-loop-preserved invariant-loop decreases-loop
 loop-again c =
     let d = c.before.before.before.before in
     let l = d.before.before in
-    walk-stay (entry l).requires l.loop.invariant (found d) c.before.before.if1.true
+    walk_stay (entry l).requires l.loop.invariant (found d) c.before.before.if1.true
 
 lay-run-requires : tie.Need-lay-run-requires invariant-loop decreases-loop
 lay-run-requires c κs =
     let d = c.before.before.before.before in
     let l = d.before.before in
-    walk-ready (entry l).requires l.loop.invariant (found d) c.before.before.if1.false
+    walk_ready (entry l).requires l.loop.invariant (found d) c.before.before.if1.false
 
 loop-less-2 : tie.Need-loop-smaller-2 invariant-loop decreases-loop
 loop-less-2 c =
     let x = c.before.before in
     let d = x.before.before.before.before.before in
     let l = d.before.before in
-    walk-less (entry l).requires l.loop.invariant (found d) x.before.before.before.if1.false x.lay-run.ensures
+    walk_less (entry l).requires l.loop.invariant (found d) x.before.before.before.if1.false x.lay-run.ensures
 
 loop-again-2 : tie.Need-loop-preserved-2 invariant-loop decreases-loop
 loop-again-2 c =
     let x = c.before.before in
     let d = x.before.before.before.before.before in
     let l = d.before.before in
-    walk-run (entry l).requires l.loop.invariant (found d) x.before.before.before.if1.false x.lay-run.ensures
+    walk_run (entry l).requires l.loop.invariant (found d) x.before.before.before.if1.false x.lay-run.ensures
 
 same_length : tie.Need-same-length invariant-loop decreases-loop
 same_length c = c.before.loop.invariant.laid.long

@@ -5,7 +5,7 @@ use Rattle.best.proofs.lay.lay_nodes.Tie as tie
 use Prim.Native.Nat.{◌-◌}
 use mathlib.Core.Path.{sym, ◌∙◌}
 use native.Mathlib.Omega.{arith}
-use Rattle.best.proofs.LayAll.{Laying, laying-start, laying-ready, laying-turn, laying-end}
+use Rattle.best.proofs.LayAll.{Laying, laying_start, laying_ready, laying_turn, laying_end}
 
 abbrev invariant-loop : tie.invariant-loop
 invariant-loop table prevs rests gains lasts words marks₀ nodes seconds₀ v₀ marks seconds v =
@@ -22,13 +22,13 @@ slice-write-marks c =
 loop-holds : tie.Need-loop-init invariant-loop decreases-loop
 loop-holds c =
     let b = c.before.before.before.before in
-    laying-start _ _ _ _ _ b.args.marks.now b.requires.1 b.requires.0.1.ready.accepted.sound.count_low
+    laying_start _ _ _ _ _ b.args.marks.now b.requires.1 b.requires.0.1.ready.accepted.sound.count_low
 
 lay-children-requires : tie.Need-lay-children-requires invariant-loop decreases-loop
 lay-children-requires c κs =
     let i = c.before.before in
     let l = i.before in
-    laying-ready l.loop.invariant l.before.before.before.before.before.requires.0.1
+    laying_ready l.loop.invariant l.before.before.before.before.before.requires.0.1
     (omega (arith, i.loop-test.true, l.before.node-count.ensures))
 
 loop-again : tie.Need-loop-preserved invariant-loop decreases-loop
@@ -36,9 +36,9 @@ loop-again c =
     let i = c.before.before.before.before.before in
     let l = i.before in
     let p = l.before.before.before.before.before.requires.0.1 in
-    laying-turn l.loop.invariant
-    (laying-ready l.loop.invariant p (omega (arith, i.loop-test.true, l.before.node-count.ensures)))
-    (λ w low h. p.last-child w (omega arith) h)
+    laying_turn l.loop.invariant
+    (laying_ready l.loop.invariant p (omega (arith, i.loop-test.true, l.before.node-count.ensures)))
+    (λ w low h. p.last_child_lem w (omega arith) h)
     c.before.before.lay-children.ensures
 
 same_length : tie.Need-same-length invariant-loop decreases-loop
@@ -46,7 +46,7 @@ same_length c = c.before.loop.invariant.long ∙ sym c.before.before.before.befo
 
 returns : tie.Need-returns invariant-loop decreases-loop
 returns c = λ g p.
-    laying-end c.before.loop.invariant p (omega (arith, c.loop-test.false, c.before.before.node-count.ensures))
+    laying_end c.before.loop.invariant p (omega (arith, c.loop-test.false, c.before.before.node-count.ensures))
 
 pub lay-nodes-spec : {M : Type 1} → statement M
 lay-nodes-spec =

@@ -7,10 +7,10 @@ use mathlib.Core.Path.{refl}
 use mathlib.Core.Logic.{inl, inr, ⊎_elim}
 use lib.ListN.{length, get_or}
 use native.Mathlib.Omega.{arith}
-use Rattle.model.specs.Table.{maxNodes}
-use Rattle.best.proofs.LayMarking.{Marking, Levelled, count_less, sum-ready, counts-small, level-small}
-use Rattle.best.proofs.LayMarking.{marking-start, marking-high, marking-low, marking-takes, marking-turn}
-use Rattle.best.proofs.LayMarking.{marking-end}
+use Rattle.model.specs.Table.{max_nodes}
+use Rattle.best.proofs.LayMarking.{Marking, Levelled, count_less, sum_ready, counts_small, level_small}
+use Rattle.best.proofs.LayMarking.{marking_start, marking_high, marking_low, marking_takes, marking_turn}
+use Rattle.best.proofs.LayMarking.{marking_end}
 
 abbrev invariant-loop : tie.invariant-loop
 invariant-loop prevs rests gains marks₀ seconds₀ child len limit level before₀ left₀ next₀ marks seconds before left next =
@@ -35,38 +35,38 @@ levelled d =
       gained = x.result.gained;
       top = x.result.top;
       kept = x.ensures b.args.limit b.requires.good;
-      gain-is = d.find-level.ensures.0;
-      times-is = d.find-level.ensures.1;
+      gain_is = d.find-level.ensures.0;
+      times_is = d.find-level.ensures.1;
     }
 
 -- the member to be marked is a node
 high : (l : tie.At-loop invariant-loop decreases-loop) → let a = (entry l).args in
-    (l.loop.next ≤ length a.marks.now) × (length a.marks.now ≤ maxNodes)
+    (l.loop.next ≤ length a.marks.now) × (length a.marks.now ≤ max_nodes)
 high l =
     let b = entry l in
-    (marking-high b.pre l.loop.invariant, b.pre.short)
+    (marking_high b.pre l.loop.invariant, b.pre.short)
 
 low : (i : tie.In-loop invariant-loop decreases-loop) → 1 ≤ i.before.loop.next
-low i = marking-low (entry i.before).pre i.before.loop.invariant i.loop-test.true
+low i = marking_low (entry i.before).pre i.before.loop.invariant i.loop-test.true
 
 sum-run-requires : tie.Need-sum-run-requires invariant-loop decreases-loop
-sum-run-requires c κs = (sum-ready c.before.before.requires, refl)
+sum-run-requires c κs = (sum_ready c.before.before.requires, refl)
 
 find-level-requires : tie.Need-find-level-requires invariant-loop decreases-loop
 find-level-requires c κs =
     let b = c.before.before.before.before in
     let kept = c.before.sum-run.ensures b.args.limit b.requires.good in
-    (kept.top-high, b.requires.limit-high, counts-small b.requires kept)
+    (kept.top_high, b.requires.limit_high, counts_small b.requires kept)
 
 array-read-before : tie.Need-array-read-before invariant-loop decreases-loop
 array-read-before c =
     let d = c.before in
-    omega (arith, level-small d.before.before.before.before.before.requires (levelled d))
+    omega (arith, level_small d.before.before.before.before.before.requires (levelled d))
 
 loop-holds : tie.Need-loop-init invariant-loop decreases-loop
 loop-holds c =
     let d = c.before in
-    marking-start d.before.before.before.before.before.requires (levelled d)
+    marking_start d.before.before.before.before.before.requires (levelled d)
 
 mul-gain : tie.Need-overflow-mul-gain invariant-loop decreases-loop
 mul-gain c = let h = high c.before in search rules
@@ -77,7 +77,7 @@ element-copy-out-gain c = omega (arith, (high c.before).0, (high c.before).1)
 sub-before : tie.Need-overflow-sub-before invariant-loop decreases-loop
 sub-before c =
     let i = c.before.before.before in
-    marking-takes (entry i.before).pre i.before.loop.invariant i.loop-test.true c.if1.true
+    marking_takes (entry i.before).pre i.before.loop.invariant i.loop-test.true c.if1.true
 
 element-write-seconds : tie.Need-element-write-seconds invariant-loop decreases-loop
 element-write-seconds c =
@@ -115,7 +115,7 @@ loop-again c =
     let l = i.before in
     let d = l.before.before in
     let x = c.before.before.before.if1 in
-    marking-turn (entry l).requires (levelled d) l.loop.invariant i.loop-test.true
+    marking_turn (entry l).requires (levelled d) l.loop.invariant i.loop-test.true
     x.before c.before.mark_of.result c.before.before.second-of.result
     (count_less _ d.find-level.result.gain l.loop.before _
     (⊎_elim (λ w. inl (w.0.taken, w.1)) (λ w. inr (w.0.left, w.1)) x.branch))
@@ -128,7 +128,7 @@ same_length c = c.before.loop.invariant.laid.long
 returns : tie.Need-returns invariant-loop decreases-loop
 returns c =
     let d = c.before.before.before in
-    marking-end (entry c.before).pre (levelled d) c.before.loop.invariant c.loop-test.false
+    marking_end (entry c.before).pre (levelled d) c.before.loop.invariant c.loop-test.false
 
 pub lay-run-spec : {M : Type 1} → statement M
 lay-run-spec =

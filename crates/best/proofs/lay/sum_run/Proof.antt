@@ -6,9 +6,9 @@ use Prim.Native.Nat.{◌-◌, ◌≤◌, ◌<◌}
 use mathlib.Core.Path.{ap}
 use lib.ListN.{get_or}
 use native.Mathlib.Omega.{arith}
-use Rattle.model.specs.Table.{maxNodes}
-use Rattle.best.proofs.LaySums.{Summing, summing_start, summing-high, next_low, next-joins}
-use Rattle.best.proofs.LaySums.{summing-next, summing-end}
+use Rattle.model.specs.Table.{max_nodes}
+use Rattle.best.proofs.LaySums.{Summing, summing_start, summing_high, next_low, next_joins}
+use Rattle.best.proofs.LaySums.{summing_next, summing_end}
 
 abbrev invariant-loop : tie.invariant-loop
 invariant-loop prevs rests gains counts₀ child len sums₀ next₀ counts sums next =
@@ -18,8 +18,8 @@ abbrev decreases-loop : tie.decreases-loop
 decreases-loop prevs rests gains counts₀ child len sums₀ next₀ counts sums next = len - sums.len
 
 -- the next member is a node
-high : (l : tie.At-loop invariant-loop decreases-loop) → l.loop.next ≤ maxNodes
-high l = summing-high l.before.requires.0 l.loop.invariant
+high : (l : tie.At-loop invariant-loop decreases-loop) → l.loop.next ≤ max_nodes
+high l = summing_high l.before.requires.0 l.loop.invariant
 
 loop-holds : tie.Need-loop-init invariant-loop decreases-loop
 loop-holds c = summing_start c.requires.0 _ c.requires.1
@@ -39,7 +39,7 @@ element-copy-out-join-2 c = omega (arith, high c.before.before.before.before)
 join-requires : tie.Need-join-requires invariant-loop decreases-loop
 join-requires c κs =
     let l = c.before.before.before.before.before in
-    next-joins l.before.requires.0 l.loop.invariant
+    next_joins l.before.requires.0 l.loop.invariant
 
 mul_next : tie.Need-overflow-mul-next invariant-loop decreases-loop
 mul_next c = let h = high c.before.before.before.before.before.before in search rules
@@ -64,11 +64,11 @@ loop-again : tie.Need-loop-preserved invariant-loop decreases-loop
 loop-again c =
     let l = c.before.before.before.before.before.before.before in
     let j = c.before.join in
-    summing-next l.before.requires.0 l.loop.sums j.result l.loop.counts _ l.loop.next l.loop.invariant
+    summing_next l.before.requires.0 l.loop.sums j.result l.loop.counts _ l.loop.next l.loop.invariant
     c.before.before.before.before.before.if1.true j.ensures.0 j.ensures.1
 
 returns : tie.Need-returns invariant-loop decreases-loop
-returns c = summing-end c.before.before.before.requires.0 c.before.before.loop.invariant c.if1.false
+returns c = summing_end c.before.before.before.requires.0 c.before.before.loop.invariant c.if1.false
 
 pub sum-run-spec : {M : Type 1} → statement M
 sum-run-spec =

@@ -7,12 +7,12 @@ use native.Mathlib.Omega.{arith}
 use mathlib.Core.Path.{◌≡◌}
 use Prim.Native.Nat.{ℕ, ◌+◌, ◌-◌, ◌*◌, ◌≤◌}
 use lib.ListN.{get_or}
-use Rattle.model.specs.Table.{maxNodes, slots}
-use Rattle.columns.proofs.ColumnRuns.{Stretch, Joins, Tries, Taking, stretch-start, stretch-end, joins-fits}
-use Rattle.columns.proofs.ColumnRuns.{stretch-joins, counts-small, total-small, stay-ready, stay-fillable}
-use Rattle.columns.proofs.ColumnRuns.{stay_then, stops_end, taking-start, taking-some, taking-down, taking-more}
-use Rattle.columns.proofs.ColumnRuns.{taken-small, relax-ready, stretch-again as again}
-use Rattle.columns.specs.CellsRun.{blockAt, Fillable}
+use Rattle.model.specs.Table.{max_nodes, slots}
+use Rattle.columns.proofs.ColumnRuns.{Stretch, Joins, Tries, Taking, stretch_start, stretch_end, joins_fits}
+use Rattle.columns.proofs.ColumnRuns.{stretch_joins, counts_small, total_small, stay_ready, stay_fillable}
+use Rattle.columns.proofs.ColumnRuns.{stay_then, stops_end, taking_start, taking_some, taking_down, taking_more}
+use Rattle.columns.proofs.ColumnRuns.{taken_small, relax_ready, stretch_again as again}
+use Rattle.columns.specs.CellsRun.{block_at, Fillable}
 use mathlib.Core.List.{List}
 use Rattle.columns.specs.Cells.{Cell}
 use Rattle.columns.specs.CellsArrays.{Swept}
@@ -60,14 +60,14 @@ ready : (c : tie.After-slice-known2 invariant-loop decreases-loop invariant-stre
     Fillable a.limit a.start a.child a.rests.now a.gains.now a.prevs.now (stayed c)
 ready c =
     let b = blocks c in
-    stay-fillable (entry c).requires.1 b.before.before.block_at.ensures b.block-at2.ensures
+    stay_fillable (entry c).requires.1 b.before.before.block_at.ensures b.block-at2.ensures
     c.before.before.stay.ensures
 
 -- what is changed after the child stays is changed from the words at entry
 whole : (c : tie.After-slice-known2 invariant-loop decreases-loop invariant-stretch decreases-stretch) {zs : List ℕ} {cells : ℕ → Cell}
     → let a = (entry c).args in
-    Swept a.limit a.start (blockAt a.limit a.child) cells (stayed c) zs
-    → Swept a.limit a.start (blockAt a.limit a.child) cells a.words.now zs
+    Swept a.limit a.start (block_at a.limit a.child) cells (stayed c) zs
+    → Swept a.limit a.start (block_at a.limit a.child) cells a.words.now zs
 whole c =
     let b = blocks c in
     stay_then (entry c).requires.1 b.before.before.block_at.ensures b.block-at2.ensures
@@ -83,69 +83,69 @@ longer : (c : tie.After-next invariant-loop decreases-loop invariant-stretch dec
     × (1 ≤ r.len)
     × Fillable a.limit a.start a.child a.rests.now a.gains.now a.prevs.now (stayed l.before)
     × (a.start ≤ a.limit)
-    × ((blocks l.before).before.before.block_at.result ≡ blockAt a.limit a.child)
+    × ((blocks l.before).before.before.block_at.result ≡ block_at a.limit a.child)
 longer c =
     let l = turn c in
     let f = ready l.before in
     let j = c.before.join.ensures in
-    let s = stretch-joins f l.stretch.inv (omega arith) _ _ j.0 j.1 in
+    let s = stretch_joins f l.stretch.inv (omega arith) _ _ j.0 j.1 in
     (s.0, s.1, f, (entry l.before).pre.0, (blocks l.before).before.before.block_at.ensures)
 
 cast-block-at : tie.Need-overflow-cast-block-at invariant-loop decreases-loop invariant-stretch decreases-stretch
 cast-block-at c =
     let f = c.before.before.before.requires.1 in
-    omega (arith, f.earlier c.before.before.before.args.child f.node-low, f.node-high)
+    omega (arith, f.earlier c.before.before.before.args.child f.node_low, f.node_high)
 
 block-at-requires-2 : tie.Need-block-at-requires-2 invariant-loop decreases-loop invariant-stretch decreases-stretch
 block-at-requires-2 c κs =
     let f = c.before.before.before.requires.1 in
-    (f.limit-high, omega (arith, f.earlier c.before.before.before.args.child f.node-low, f.node-high))
+    (f.limit_high, omega (arith, f.earlier c.before.before.before.args.child f.node_low, f.node_high))
 
 cast-stay : tie.Need-overflow-cast-stay invariant-loop decreases-loop invariant-stretch decreases-stretch
 cast-stay c =
     let b = c.before.before.before.before.before.before in
-    omega (arith, (b.requires.1.good b.args.child).light, b.requires.1.limit-high)
+    omega (arith, (b.requires.1.good b.args.child).light, b.requires.1.limit_high)
 
 stay-requires : tie.Need-stay-requires invariant-loop decreases-loop invariant-stretch decreases-stretch
 stay-requires c κs =
     let b = c.before.before in
     let p = b.before.before.before.before.requires in
-    stay-ready p.1 _ _ b.before.before.block_at.ensures b.block-at2.ensures p.0
+    stay_ready p.1 _ _ b.before.before.block_at.ensures b.block-at2.ensures p.0
 
 stretch-holds : tie.Need-stretch-init invariant-loop decreases-loop invariant-stretch decreases-stretch
 stretch-holds c =
     let b = blocks c in
-    stretch-start (entry c).requires.1 b.before.before.block_at.ensures b.block-at2.ensures
+    stretch_start (entry c).requires.1 b.before.before.block_at.ensures b.block-at2.ensures
     c.before.before.stay.ensures
 
 join-requires : tie.Need-join-requires invariant-loop decreases-loop invariant-stretch decreases-stretch
 join-requires c κs =
     let l = c.before.before.before.before in
-    joins-fits (ready l.before) l.stretch.invariant (omega arith)
+    joins_fits (ready l.before) l.stretch.invariant (omega arith)
 
 cast-next : tie.Need-overflow-cast-next invariant-loop decreases-loop invariant-stretch decreases-stretch
 cast-next c =
     let l = c.before.before.before.before.before.before in
     let f = ready l.before in
-    omega (arith, f.earlier l.stretch.next (omega arith), l.stretch.invariant.short, f.node-high)
+    omega (arith, f.earlier l.stretch.next (omega arith), l.stretch.invariant.short, f.node_high)
 
 array-read-left : tie.Need-array-read-left invariant-loop decreases-loop invariant-stretch decreases-stretch
-array-read-left c = omega (arith, (longer c).0.kept.top-high, (longer c).2.limit-high)
+array-read-left c = omega (arith, (longer c).0.kept.top_high, (longer c).2.limit_high)
 
 loop-holds : tie.Need-loop-init invariant-loop decreases-loop invariant-stretch decreases-stretch
-loop-holds c = taking-start (longer c).2 (longer c).0
+loop-holds c = taking_start (longer c).2 (longer c).0
 
 sub-if1 : tie.Need-overflow-sub-if1 invariant-loop decreases-loop invariant-stretch decreases-stretch
 sub-if1 c =
     let n = longer c.before.before.before in
-    (total-small n.2 n.0).0
+    (total_small n.2 n.0).0
 
 -- the lightest total is within the limit, and the sum is not: a gain is left
 some_left : (c : tie.Else1 invariant-loop decreases-loop invariant-stretch decreases-stretch) → c.before.before.before.loop.gain ≡ 0 → ⊥
 some_left c =
     let l = c.before.before.before in
     let n = longer l.before in
-    taking-some n.2 n.0 l.loop.invariant c.if1.false c.before.before.loop-test.true
+    taking_some n.2 n.0 l.loop.invariant c.if1.false c.before.before.loop-test.true
 
 sub-gain : tie.Need-overflow-sub-gain invariant-loop decreases-loop invariant-stretch decreases-stretch
 sub-gain c = let some = some_left c.before in omega arith
@@ -154,45 +154,45 @@ loop-less : tie.Need-loop-smaller invariant-loop decreases-loop invariant-stretc
 loop-less c =
     let l = c.before.before.before.before in
     let some = some_left c.before in
-    omega (arith, counts-small (longer l.before).2 (longer l.before).0 (l.loop.gain - 1))
+    omega (arith, counts_small (longer l.before).2 (longer l.before).0 (l.loop.gain - 1))
 
 loop-again : tie.Need-loop-preserved invariant-loop decreases-loop invariant-stretch decreases-stretch
 loop-again c =
     let l = c.before.before.before.before in
     let n = longer l.before in
-    taking-down n.2 n.0 l.loop.invariant (some_left c.before) c.if2.true
+    taking_down n.2 n.0 l.loop.invariant (some_left c.before) c.if2.true
 
 loop-again-2 : tie.Need-loop-preserved-2 invariant-loop decreases-loop invariant-stretch decreases-stretch
 loop-again-2 c =
     let i = c.before.before.before in
     let l = i.before in
     let n = longer l.before in
-    taking-more n.2 n.0 l.loop.invariant (some_left c.before) c.if2.false i.loop-test.true
+    taking_more n.2 n.0 l.loop.invariant (some_left c.before) c.if2.false i.loop-test.true
 
 block-at-requires-3 : tie.Need-block-at-requires-3 invariant-loop decreases-loop invariant-stretch decreases-stretch
 block-at-requires-3 c κs =
     let n = longer c.before.before in
-    (n.2.limit-high, omega (arith, n.0.short, n.2.node-high))
+    (n.2.limit_high, omega (arith, n.0.short, n.2.node_high))
 
 -- as many second plans are taken as there are nodes, at most
-taken-high : (c : tie.After-block-at3 invariant-loop decreases-loop invariant-stretch decreases-stretch) → c.before.before.loop.taken ≤ maxNodes
-taken-high c =
+taken_high : (c : tie.After-block-at3 invariant-loop decreases-loop invariant-stretch decreases-stretch) → c.before.before.loop.taken ≤ max_nodes
+taken_high c =
     let l = c.before.before in
     let n = longer l.before in
-    taken-small n.2 n.0 l.loop.invariant c.before.loop-test.false n.1
+    taken_small n.2 n.0 l.loop.invariant c.before.loop-test.false n.1
 
 add-relax : tie.Need-overflow-add-relax invariant-loop decreases-loop invariant-stretch decreases-stretch
-add-relax c = omega (arith, taken-high c.before)
+add-relax c = omega (arith, taken_high c.before)
 
 mul-relax : tie.Need-overflow-mul-relax invariant-loop decreases-loop invariant-stretch decreases-stretch
-mul-relax c = omega (arith, taken-high c.before)
+mul-relax c = omega (arith, taken_high c.before)
 
 relax-requires : tie.Need-relax-requires invariant-loop decreases-loop invariant-stretch decreases-stretch
 relax-requires c κs =
     let b = c.before in
     let l = b.before.before in
     let n = longer l.before in
-    relax-ready n.2 n.0 l.loop.invariant b.before.loop-test.false n.1 _ _ n.4
+    relax_ready n.2 n.0 l.loop.invariant b.before.loop-test.false n.1 _ _ n.4
     b.block-at3.ensures n.3
 
 stretch-less : tie.Need-stretch-smaller invariant-loop decreases-loop invariant-stretch decreases-stretch
@@ -202,8 +202,8 @@ stretch-less c =
     let l = i.before in
     (ready l.before).earlier l.stretch.next (omega (arith, i.stretch-test.true))
 
-stretch-again : tie.Need-stretch-preserved invariant-loop decreases-loop invariant-stretch decreases-stretch
-stretch-again c =
+stretch_again : tie.Need-stretch-preserved invariant-loop decreases-loop invariant-stretch decreases-stretch
+stretch_again c =
     let x = c.before.before in
     let b = x.before.before in
     let l = b.before.before in
@@ -214,7 +214,7 @@ stretch-again c =
 returns : tie.Need-returns invariant-loop decreases-loop invariant-stretch decreases-stretch
 returns c =
     let b = c.before.before in
-    whole b (stretch-end (ready b) c.before.stretch.invariant c.stretch-test.false)
+    whole b (stretch_end (ready b) c.before.stretch.invariant c.stretch-test.false)
 
 returns-2 : tie.Need-returns-2 invariant-loop decreases-loop invariant-stretch decreases-stretch
 returns-2 c =
@@ -232,4 +232,4 @@ fill-column-spec =
     (λ c. search rules) (λ c. search rules) sub-if1 sub-gain (λ c. search rules) (λ c. search rules)
     (λ c. search rules) loop-less loop-again (λ c. search rules) (λ c. search rules) (λ c. search rules)
     (λ c. search rules) (λ c. search rules) loop-again-2 block-at-requires-3 add-relax mul-relax relax-requires
-    stretch-less stretch-again (λ c. search rules) returns (λ c. search rules) returns-2)
+    stretch-less stretch_again (λ c. search rules) returns (λ c. search rules) returns-2)

@@ -1,10 +1,10 @@
 -- `columns::node::fill_columns` meets its contract. Assumes nothing.
 use Prim.Native.Nat.{◌-◌, ◌≤◌}
 use native.Mathlib.Omega.{arith}
-use Rattle.model.specs.Table.{nodeCount}
+use Rattle.model.specs.Table.{node_count}
 use Rattle.columns.specs.CellsNode.{NextChild}
-use Rattle.columns.proofs.NodeColumns.{Filling, filling-start, filling-next, later, filling-column}
-use Rattle.columns.proofs.NodeColumns.{filling-turn, filling-end}
+use Rattle.columns.proofs.NodeColumns.{Filling, filling_start, filling_next, later, filling_column}
+use Rattle.columns.proofs.NodeColumns.{filling_turn, filling_end}
 use borrow.Author.Rules.{rules}
 use Rattle.columns.proofs.node.fill_columns.Statement.{statement}
 use Rattle.columns.proofs.node.fill_columns.Tie as tie
@@ -14,7 +14,7 @@ invariant-loop table prevs rests gains words₀ v limit start last₀ child₀ w
     Filling table rests gains prevs v last child words₀ words
 
 abbrev decreases-loop : tie.decreases-loop
-decreases-loop table prevs rests gains words₀ v limit start last₀ child₀ words last child = nodeCount table - last
+decreases-loop table prevs rests gains words₀ v limit start last₀ child₀ words last child = node_count table - last
 
 -- the state at entry
 abbrev entry : tie.At-loop invariant-loop decreases-loop → tie.Start invariant-loop decreases-loop
@@ -26,18 +26,18 @@ next : (i : tie.In-loop invariant-loop decreases-loop) → let l = i.before in
 next i =
     let l = i.before.loop in
     let b = entry i.before in
-    filling-next b.pre.0 b.args.v b.pre.1 b.pre.2 l.last l.child l.words l.invariant
+    filling_next b.pre.0 b.args.v b.pre.1 b.pre.2 l.last l.child l.words l.invariant
     i.loop-test.true
 
 loop-holds : tie.Need-loop-init invariant-loop decreases-loop
 loop-holds c =
     let b = c.before.before.before.before.before in
-    rw c.first-at.ensures (filling-start b.requires.0 b.args.v b.requires.1 b.requires.2)
+    rw c.first_at_lem.ensures (filling_start b.requires.0 b.args.v b.requires.1 b.requires.2)
 
 cast-fill-column : tie.Need-overflow-cast-fill-column invariant-loop decreases-loop
 cast-fill-column c =
     let i = c.before in
-    record { fits = omega (arith, (next i).high, (entry i.before).pre.0.accepted.sound.count-high) }
+    record { fits = omega (arith, (next i).high, (entry i.before).pre.0.accepted.sound.count_high) }
 
 fill-column-requires : tie.Need-fill-column-requires invariant-loop decreases-loop
 fill-column-requires c κs =
@@ -46,12 +46,12 @@ fill-column-requires c κs =
     let w = i.before.before.before in
     let b = w.before.before.before.before in
     let limit = w.before.limit-of.ensures in
-    let light : w.weight-at.result ≤ w.before.limit-of.result =
-    omega (arith, limit, w.weight-at.ensures, b.requires.0.accepted.light b.args.v b.requires.1 b.requires.2) in
+    let light : w.weight_at_lem.result ≤ w.before.limit-of.result =
+    omega (arith, limit, w.weight_at_lem.ensures, b.requires.0.accepted.light b.args.v b.requires.1 b.requires.2) in
     let column =
-    filling-column b.requires.0 b.args.v b.requires.1 b.requires.2 l.last l.child l.words l.invariant
+    filling_column b.requires.0 b.args.v b.requires.1 b.requires.2 l.last l.child l.words l.invariant
     i.loop-test.true in
-    (light, rw (limit, w.weight-at.ensures) column)
+    (light, rw (limit, w.weight_at_lem.ensures) column)
 
 loop-less : tie.Need-loop-smaller invariant-loop decreases-loop
 loop-less c =
@@ -71,13 +71,13 @@ loop-again c =
     let w = i.before.before.before in
     let b = w.before.before.before.before in
     rw c.next-at.ensures
-    (filling-turn b.requires.0 b.args.v b.requires.1 b.requires.2 l.last l.child l.words l.invariant
-    i.loop-test.true _ (rw (w.before.limit-of.ensures, w.weight-at.ensures) at x.ensures))
+    (filling_turn b.requires.0 b.args.v b.requires.1 b.requires.2 l.last l.child l.words l.invariant
+    i.loop-test.true _ (rw (w.before.limit-of.ensures, w.weight_at_lem.ensures) at x.ensures))
 
 returns : tie.Need-returns invariant-loop decreases-loop
 returns c =
     let l = c.before.loop in
-    filling-end _ l.last l.child l.invariant c.loop-test.false
+    filling_end _ l.last l.child l.invariant c.loop-test.false
 
 pub fill-columns-spec : {M : Type 1} → statement M
 fill-columns-spec =

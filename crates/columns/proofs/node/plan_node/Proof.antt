@@ -1,10 +1,10 @@
 -- `columns::node::plan_node` meets its contract. Assumes nothing.
-use Rattle.theory.specs.SiblingsBack.{child-high}
+use Rattle.theory.specs.SiblingsBack.{child_high}
 use Prim.Native.Nat.{◌+◌, ◌*◌, ◌≤◌}
 use mathlib.Core.Path.{refl}
 use native.Mathlib.Omega.{arith}
 use lib.ListN.{length, length-set}
-use Rattle.columns.proofs.NodeGains.{block-fits, rest-fits, gain-fits, node-planned}
+use Rattle.columns.proofs.NodeGains.{block_fits, rest_fits, gain_fits, node_planned}
 use borrow.Author.Rules.{rules}
 use Rattle.columns.proofs.node.plan_node.Statement.{statement}
 use Rattle.columns.proofs.node.plan_node.Tie as tie
@@ -21,22 +21,22 @@ room c =
     let x = c.before.before.before.fill-columns in
     let w = c.before.before.before.before.before.before.before in
     let b = w.before.before.before.before in
-    let fits = block-fits b.requires.1 b.requires.2 b.requires.0 x.ensures in
+    let fits = block_fits b.requires.1 b.requires.2 b.requires.0 x.ensures in
     omega (arith, c.block_at.ensures, rw (← w.before.limit-of.ensures) at fits)
 
-light : (c : tie.After-weight-at) → c.weight-at.result ≤ c.before.limit-of.result
+light : (c : tie.After-weight-at) → c.weight_at_lem.result ≤ c.before.limit-of.result
 light c =
     let b = c.before.before.before.before in
     let fits = b.requires.0.ready.accepted.light b.args.v b.requires.1 b.requires.2 in
-    omega (arith, c.before.limit-of.ensures, c.weight-at.ensures, fits)
+    omega (arith, c.before.limit-of.ensures, c.weight_at_lem.ensures, fits)
 
 block-at-requires : tie.Need-block-at-requires
 block-at-requires c κs =
     let x = c.before.before.fill-columns in
     let w = c.before.before.before.before.before.before in
     let sound = w.before.before.before.before.requires.0.ready.accepted.sound in (
-      omega (arith, w.before.limit-of.ensures, sound.limit-high),
-      omega (arith, child-high _ _ _ x.ensures.last-child, sound.count-high),
+      omega (arith, w.before.limit-of.ensures, sound.limit_high),
+      omega (arith, child_high _ _ _ x.ensures.last_child_lem, sound.count_high),
     )
 
 add-rest : tie.Need-overflow-add-rest
@@ -60,10 +60,10 @@ gain-in-requires c κs =
     let x = d.before.before.before.fill-columns in
     let w = d.before.before.before.before.before.before.before in
     let b = w.before.before.before.before in (
-      omega (arith, w.before.limit-of.ensures, b.requires.0.ready.accepted.sound.limit-high),
+      omega (arith, w.before.limit-of.ensures, b.requires.0.ready.accepted.sound.limit_high),
       light w,
-      rest-fits b.requires.1 b.requires.2 b.requires.0 x.ensures _ _ _ _ w.before.limit-of.ensures
-          w.weight-at.ensures d.block_at.ensures refl,
+      rest_fits b.requires.1 b.requires.2 b.requires.0 x.ensures _ _ _ _ w.before.limit-of.ensures
+          w.weight_at_lem.ensures d.block_at.ensures refl,
       room d,
     )
 
@@ -74,8 +74,8 @@ cast-gain c =
     let w = d.before.before.before.before.before.before.before in
     let b = w.before.before.before.before in
     let fits =
-    gain-fits b.requires.1 b.requires.2 b.requires.0 x.ensures _ _ _ _ w.before.limit-of.ensures
-    w.weight-at.ensures d.block_at.ensures refl c.gain-in.result c.gain-in.ensures in
+    gain_fits b.requires.1 b.requires.2 b.requires.0 x.ensures _ _ _ _ w.before.limit-of.ensures
+    w.weight_at_lem.ensures d.block_at.ensures refl c.gain-in.result c.gain-in.ensures in
     omega (arith, fits)
 
 returns : tie.Need-returns
@@ -84,8 +84,8 @@ returns c =
     let x = d.before.before.before.fill-columns in
     let w = d.before.before.before.before.before.before.before in
     let b = w.before.before.before.before in (
-      node-planned b.requires.1 b.requires.2 b.requires.0 x.ensures _ _ _ _ w.before.limit-of.ensures
-          w.weight-at.ensures d.block_at.ensures refl c.gain-in.result c.gain-in.ensures
+      node_planned b.requires.1 b.requires.2 b.requires.0 x.ensures _ _ _ _ w.before.limit-of.ensures
+          w.weight_at_lem.ensures d.block_at.ensures refl c.gain-in.result c.gain-in.ensures
           b.requires.3 b.requires.4 b.requires.5,
       simp length-set b.requires.3,
       simp length-set b.requires.4,

@@ -3,15 +3,15 @@ use Prim.Native.Nat.{◌≤◌}
 use mathlib.Core.Path.{◌≡◌, refl, ◌∙◌}
 use native.Mathlib.Omega.{arith}
 use lib.ListN.{length}
-use Rattle.model.specs.Table.{slots, nodeCount}
-use Rattle.columns.specs.CellsPlan.{NodesPlanned, planned-none}
+use Rattle.model.specs.Table.{slots, node_count}
+use Rattle.columns.specs.CellsPlan.{NodesPlanned, planned_none}
 use borrow.Author.Rules.{rules}
 use Rattle.columns.proofs.node.plan_nodes.Statement.{statement}
 use Rattle.columns.proofs.node.plan_nodes.Tie as tie
 
 abbrev invariant-loop : tie.invariant-loop
 invariant-loop table gainful prevs rests₀ gains₀ lasts₀ words₀ v₀ rests gains lasts words v =
-    (v ≤ nodeCount table) × (length words ≡ length words₀) × NodesPlanned table gainful v rests gains prevs lasts words
+    (v ≤ node_count table) × (length words ≡ length words₀) × NodesPlanned table gainful v rests gains prevs lasts words
     × (length rests ≡ slots) × (length gains ≡ slots) × (length lasts ≡ slots)
 
 abbrev decreases-loop : tie.decreases-loop
@@ -21,7 +21,7 @@ loop-holds : tie.Need-loop-init invariant-loop decreases-loop
 loop-holds c =
     let b = c.before.before.before in
     let n = c.node-count.ensures in
-    (omega (arith, n), refl, rw n (planned-none b.args.gainful _ b.requires.0), b.requires.1, b.requires.2, b.requires.3)
+    (omega (arith, n), refl, rw n (planned_none b.args.gainful _ b.requires.0), b.requires.1, b.requires.2, b.requires.3)
 
 loop-again : tie.Need-loop-preserved invariant-loop decreases-loop
 loop-again c =

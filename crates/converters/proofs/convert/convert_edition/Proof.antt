@@ -3,11 +3,11 @@ use mathlib.Core.List.{List}
 use mathlib.Core.Path.{sym, ap, ap₂, ◌∙◌}
 use Prim.Native.Nat.{ℕ}
 use lib.ListN.{length}
-use Rattle.model.specs.Refusals.{outcome, writeArchive}
+use Rattle.model.specs.Refusals.{outcome, write_archive}
 use Rattle.model.specs.declared.Answer.{Answer}
-use Rattle.theory.specs.PromiseConvert.{convert-none, convert-write}
-use Rattle.archive.specs.Parts.{known-part, Fronts, told-fronts}
-use Rattle.archive.specs.Room.{Room, room-kept}
+use Rattle.theory.specs.PromiseConvert.{convert_none, convert_write}
+use Rattle.archive.specs.Parts.{known_part, Fronts, told_fronts}
+use Rattle.archive.specs.Room.{Room, room_kept}
 use borrow.Author.Rules.{rules}
 use Rattle.converters.proofs.convert.convert_edition.Statement.{statement}
 use Rattle.converters.proofs.convert.convert_edition.Tie as tie
@@ -29,7 +29,7 @@ module _ (d : tie.After-decode) where
   plan = d.decode.last.1.1.1.0
 
   room : Room start.args.e (length tree) (length plan) (length start.args.copy.now)
-  room = room-kept start.pre.0 d.decode.kept.1.1.0 d.decode.kept.1.1.1.0
+  room = room_kept start.pre.0 d.decode.kept.1.1.0 d.decode.kept.1.1.1.0
 
 -- ---- Where the film is one
 
@@ -46,7 +46,7 @@ module _ (b : tie.After-table-bytes) where
   fronts : Fronts (start decoded).args.e (archive decoded) (tree decoded) (plan decoded) b.table-bytes.result
       b.before.nodes-in.result
   fronts =
-      told-fronts judged.judge-film.ensures accepted.if1.left b.table-bytes.ensures
+      told_fronts judged.judge-film.ensures accepted.if1.left b.table-bytes.ensures
       b.before.nodes-in.ensures (room decoded)
 
 -- ---- The needs
@@ -61,24 +61,24 @@ returns c =
     let d = j.before.before.before.before.before.before.before.before in
     let none = j.judge-film.ensures.refuses c.if1.true in
     ap (λ (r : Answer). outcome r (out d)) none.0
-    ∙ sym (convert-none (start d).args.e (start d).args.f (archive d) (out d) none.1)
+    ∙ sym (convert_none (start d).args.e (start d).args.f (archive d) (out d) none.1)
 
 returns-2 : tie.Need-returns-2
-unfolding writeArchive
+unfolding write_archive
 returns-2 c =
     let w = c.before.before in
     let b = w.before.before.before.before in
     let d = decoded b in
     let f = fronts b in
     w.write-edition.ensures
-    ∙ ap₂ (λ t m. writeArchive (start d).args.f t m (out d)) f.tree-told f.plan-told
-    ∙ sym (convert-write (start d).args.e (start d).args.f (archive d) (out d) f.film)
+    ∙ ap₂ (λ t m. write_archive (start d).args.f t m (out d)) f.tree_told f.plan_told
+    ∙ sym (convert_write (start d).args.e (start d).args.f (archive d) (out d) f.film)
 
 pub convert-edition-spec : {M : Type 1} → statement M
 convert-edition-spec =
     tie.close
     (tie.spec (λ c κs. search rules) judge-film-requires (λ c. search rules) (λ c. search rules) (λ c. search rules)
     returns (λ c κs. search rules) (λ c. search rules) (λ c κs. search rules) (λ c. search rules)
-    (λ c. (fronts c).tree-fits) (λ c. known-part _ _ (fronts c.before).tree-fits)
-    (λ c. (fronts c.before).plan-fits) (λ c. known-part _ _ (fronts c.before.before).plan-fits)
+    (λ c. (fronts c).tree_fits) (λ c. known_part _ _ (fronts c.before).tree_fits)
+    (λ c. (fronts c.before).plan_fits) (λ c. known_part _ _ (fronts c.before.before).plan_fits)
     (λ c κs. search rules) (λ c. search rules) (λ c. search rules) (λ c. search rules) (λ c. search rules) returns-2)

@@ -1,14 +1,14 @@
 -- `converters::convert::convert_to_2` meets its contract. Assumes nothing.
 use mathlib.Core.Path.{ap₂, ◌∙◌}
 use native.Mathlib.Omega.{arith}
-use Rattle.model.specs.Archive.{firstEdition, secondEdition}
-use Rattle.model.specs.Refusals.{convertArchive}
+use Rattle.model.specs.Archive.{first_edition, second_edition}
+use Rattle.model.specs.Refusals.{convert_archive}
 use Rattle.model.specs.Demand.{ConvertPromise}
 use Rattle.model.specs.declared.Edition.{Edition}
-use Rattle.theory.specs.ArchiveWords.{first-described, second-described}
+use Rattle.theory.specs.ArchiveWords.{first_described, second_described}
 use Rattle.theory.specs.Entries.{promised}
-use Rattle.theory.specs.PromiseConvert.{convert-promise}
-use Rattle.records.specs.Size.{first-room, second-room}
+use Rattle.theory.specs.PromiseConvert.{convert_promise}
+use Rattle.records.specs.Size.{first_room, second_room}
 use Rattle.archive.specs.Room.{room_of}
 use borrow.Author.Rules.{rules}
 use Rattle.converters.proofs.convert.convert_to_2.Statement.{statement}
@@ -17,7 +17,7 @@ use Rattle.converters.proofs.convert.convert_to_2.Tie as tie
 convert-edition-requires : tie.Need-convert-edition-requires
 convert-edition-requires c κs =
     let to = c.before.before.before.before in
-    (rw to.before.first-edition.ensures (room_of first-room), rw to.second-edition.ensures second-room)
+    (rw to.before.first-edition.ensures (room_of first_room), rw to.second-edition.ensures second_room)
 
 returns : tie.Need-returns
 returns c =
@@ -25,11 +25,11 @@ returns c =
     let to = r.before.before.before.before.before in
     let from = to.before in
     let a = from.before.before.before.args in
-    promised (ConvertPromise firstEdition secondEdition a.archive.now a.out.now)
-    (convert-promise first-described second-described a.archive.now a.out.now
+    promised (ConvertPromise first_edition second_edition a.archive.now a.out.now)
+    (convert_promise first_described second_described a.archive.now a.out.now
     (λ i. omega (arith, from.before.before.shared-slice-known.given i)))
     (r.convert-edition.ensures
-    ∙ ap₂ (λ (x y : Edition). convertArchive x y a.archive.now a.out.now) from.first-edition.ensures
+    ∙ ap₂ (λ (x y : Edition). convert_archive x y a.archive.now a.out.now) from.first-edition.ensures
     to.second-edition.ensures)
 
 pub convert-to-2-spec : {M : Type 1} → statement M

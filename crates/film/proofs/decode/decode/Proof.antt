@@ -5,10 +5,10 @@ use Prim.Native.Nat.{◌≤◌}
 use native.Mathlib.Omega.{arith}
 use lib.ListN.{get_or}
 use Rattle.model.specs.Archive.{parent_in}
-use Rattle.records.specs.Size.{archiveNodes}
-use Rattle.records.specs.Links.{nextWith-le}
+use Rattle.records.specs.Size.{archive_nodes}
+use Rattle.records.specs.Links.{next_with_le}
 use Rattle.film.specs.Decoded.{too_many}
-use Rattle.film.specs.DecodeTable.{fitted-small}
+use Rattle.film.specs.DecodeTable.{fitted_small}
 use Rattle.film.proofs.Passes.{decoded}
 use borrow.Author.Rules.{rules}
 use Rattle.film.proofs.decode.decode.Statement.{statement}
@@ -23,8 +23,8 @@ module _ (f : tie.Else1) where
   abbrev start : tie.Start
   start = counted.before.before.before.before
 
-  few : counted.nodes-in.result ≤ archiveNodes
-  few = omega (arith, f.if1.left, start.pre.0.most-high)
+  few : counted.nodes-in.result ≤ archive_nodes
+  few = omega (arith, f.if1.left, start.pre.0.most_high)
 
 returns : tie.Need-returns
 returns c = λ y.
@@ -43,7 +43,7 @@ link-next-requires c κs =
           omega (
             arith,
             c.before.load-parents.ensures v low high,
-            fitted-small (parent_in a.e a.archive.now v),
+            fitted_small (parent_in a.e a.archive.now v),
           ),
       omega (arith, few f),
     )
@@ -58,7 +58,7 @@ fill-marks-requires c κs =
           omega (
             arith,
             l.link-next.ensures v low high,
-            nextWith-le (λ u. get_or parents u 0) (counted f).nodes-in.result v (get_or parents v 0),
+            next_with_le (λ u. get_or parents u 0) (counted f).nodes-in.result v (get_or parents v 0),
             few f,
           ),
       omega (arith, f.if1.false, (start f).requires.2),

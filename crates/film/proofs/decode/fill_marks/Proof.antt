@@ -4,29 +4,29 @@ use Prim.Native.Nat.{◌+◌, ◌-◌, ◌≤◌, ◌<◌}
 use native.Mathlib.Omega.{arith}
 use lib.ListN.{length, get_or, length-set, replicate, get_or-replicate}
 use lib.Dec.{eqb}
-use Rattle.records.specs.Size.{filmSlots}
-use Rattle.film.specs.DecodeMarks.{MarksPass, marks-start, marks-turn}
-use Rattle.film.proofs.Passes.{sibling-small}
+use Rattle.records.specs.Size.{film_slots}
+use Rattle.film.specs.DecodeMarks.{MarksPass, marks_start, marks_turn}
+use Rattle.film.proofs.Passes.{sibling_small}
 use borrow.Author.Rules.{rules}
 use Rattle.film.proofs.decode.fill_marks.Statement.{statement}
 use Rattle.film.proofs.decode.fill_marks.Tie as tie
 
 abbrev invariant-loop : tie.invariant-loop
 invariant-loop nodes lasts links plan₀ due₀ v₀ plan due v =
-    (v ≤ nodes) × (length due ≡ filmSlots) × (length plan ≡ length plan₀) × MarksPass lasts links nodes v plan due
+    (v ≤ nodes) × (length due ≡ film_slots) × (length plan ≡ length plan₀) × MarksPass lasts links nodes v plan due
 
 abbrev decreases-loop : tie.decreases-loop
 decreases-loop nodes lasts links plan₀ due₀ v₀ plan due v = nodes - v
 
 -- the next sibling is a place of the array
-next-few : (n : tie.After-sibling-of invariant-loop decreases-loop) → n.sibling-of.result < filmSlots
+next-few : (n : tie.After-sibling-of invariant-loop decreases-loop) → n.sibling-of.result < film_slots
 next-few n =
     let v = n.before.before.before.before.before.loop.v + 1 in
     let link = n.before.before.before.before.before.before.before.requires.1 v (omega arith) (omega arith) in
     omega (
       arith,
       n.sibling-of.ensures,
-      sibling-small (eqb v 1)
+      sibling_small (eqb v 1)
           (get_or n.before.before.before.before.before.before.before.args.links.now v 0) link,
     )
 
@@ -36,8 +36,8 @@ loop-holds c =
       omega arith,
       refl,
       refl,
-      marks-start a.lasts.now a.links.now a.nodes a.plan.now (replicate filmSlots 0)
-          (λ k fits. get_or-replicate filmSlots k 0 0 fits),
+      marks_start a.lasts.now a.links.now a.nodes a.plan.now (replicate film_slots 0)
+          (λ k fits. get_or-replicate film_slots k 0 0 fits),
     )
 
 slice-write-plan : tie.Need-slice-write-plan invariant-loop decreases-loop
@@ -64,7 +64,7 @@ loop-again c =
       omega arith,
       simp length-set l.invariant.1,
       simp length-set l.invariant.2,
-      marks-turn a.lasts.now a.links.now a.nodes l.v l.plan l.due _ _ _ l.invariant.3 l.invariant.1 less
+      marks_turn a.lasts.now a.links.now a.nodes l.v l.plan l.due _ _ _ l.invariant.3 l.invariant.1 less
           (omega (arith, l.invariant.2, start.requires.2, start.requires.0)) c.before.before.before.run-end.ensures
           c.mark-for.ensures c.before.sibling-of.ensures,
     )

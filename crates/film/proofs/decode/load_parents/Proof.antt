@@ -3,14 +3,14 @@ use mathlib.Core.Path.{◌≡◌, refl, ap, ◌∙◌}
 use Prim.Native.Nat.{◌-◌, ◌≤◌}
 use native.Mathlib.Omega.{arith}
 use lib.ListN.{length, length-set}
-use Rattle.records.specs.Size.{filmSlots}
-use Rattle.film.specs.DecodeTable.{Loaded, fitted, loaded-turn}
+use Rattle.records.specs.Size.{film_slots}
+use Rattle.film.specs.DecodeTable.{Loaded, fitted, loaded_turn}
 use borrow.Author.Rules.{rules}
 use Rattle.film.proofs.decode.load_parents.Statement.{statement}
 use Rattle.film.proofs.decode.load_parents.Tie as tie
 
 abbrev invariant-loop : tie.invariant-loop
-invariant-loop e archive nodes parents₀ v₀ parents v = (length parents ≡ filmSlots) × (v ≤ nodes) × Loaded e archive v parents
+invariant-loop e archive nodes parents₀ v₀ parents v = (length parents ≡ film_slots) × (v ≤ nodes) × Loaded e archive v parents
 
 abbrev decreases-loop : tie.decreases-loop
 decreases-loop e archive nodes parents₀ v₀ parents v = nodes - v
@@ -25,7 +25,7 @@ loop-again c =
     let a = start.args in (
       simp length-set l.invariant.0,
       omega arith,
-      loaded-turn a.e a.archive.now l.parents l.v _ l.invariant.2 l.invariant.0
+      loaded_turn a.e a.archive.now l.parents l.v _ l.invariant.2 l.invariant.0
           (omega (arith, c.before.before.loop-test.true, start.requires.1))
           (c.fit.ensures ∙ ap fitted c.before.parent_in_lem.ensures),
     )

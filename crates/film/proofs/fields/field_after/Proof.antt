@@ -4,7 +4,7 @@ use mathlib.Core.Path.{ap, ◌∙◌}
 use Prim.Native.Nat.{◌+◌, ◌*◌, ◌≤◌}
 use native.Mathlib.Omega.{arith}
 use native.Mathlib.Nat.{mul-le-mul_left}
-use Rattle.model.specs.Table.{wordAt}
+use Rattle.model.specs.Table.{word_at}
 use borrow.Author.Rules.{rules}
 use Rattle.film.proofs.fields.field_after.Statement.{statement}
 use Rattle.film.proofs.fields.field_after.Tie as tie
@@ -27,7 +27,7 @@ returns : tie.Need-returns
 returns c =
     let a = c.before.before.before.before.args in
     c.word_at.ensures
-    ∙ ap (λ u. wordAt a.archive.now (a.words + a.width * u + a.f))
+    ∙ ap (λ u. word_at a.archive.now (a.words + a.width * u + a.f))
     (⊎_elim (λ w. omega arith) (λ w. omega arith) c.before.before.if1.branch)
 
 pub field-after-spec : {M : Type 1} → statement M

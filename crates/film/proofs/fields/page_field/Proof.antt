@@ -1,11 +1,11 @@
 -- `film::fields::page_field` meets its contract. Assumes nothing.
-use Rattle.model.specs.Archive.{pageFieldIn}
+use Rattle.model.specs.Archive.{page_field_in}
 use borrow.Author.Rules.{rules}
 use Rattle.film.proofs.fields.page_field.Statement.{statement}
 use Rattle.film.proofs.fields.page_field.Tie as tie
 
 returns : tie.Need-returns
-unfolding pageFieldIn
+unfolding page_field_in
 returns c = c.field-after.ensures
 
 pub page-field-spec : {M : Type 1} → statement M

@@ -1,11 +1,11 @@
 -- `film::fields::pages_in` meets its contract. Assumes nothing.
-use Rattle.model.specs.Archive.{pagesIn}
+use Rattle.model.specs.Archive.{pages_in}
 use borrow.Author.Rules.{rules}
 use Rattle.film.proofs.fields.pages_in.Statement.{statement}
 use Rattle.film.proofs.fields.pages_in.Tie as tie
 
 returns : tie.Need-returns
-unfolding pagesIn
+unfolding pages_in
 returns c = c.word_at.ensures
 
 pub pages-in-spec : {M : Type 1} → statement M

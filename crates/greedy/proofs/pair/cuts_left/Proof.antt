@@ -1,11 +1,11 @@
 -- `greedy::pair::cuts_left` meets its contract. Assumes nothing.
-use Rattle.greedy.specs.PairSides.{leftCut}
+use Rattle.greedy.specs.PairSides.{left_cut}
 use borrow.Author.Rules.{rules}
 use Rattle.greedy.proofs.pair.cuts_left.Statement.{statement}
 use Rattle.greedy.proofs.pair.cuts_left.Tie as tie
 
 returns : tie.Need-returns
-unfolding leftCut
+unfolding left_cut
 returns c = rw c.goes_first.ensures
 
 pub cuts-left-spec : {M : Type 1} → statement M

@@ -5,9 +5,9 @@ use mathlib.Core.Bool.{Bool}
 use Prim.Native.Nat.{ℕ}
 use native.Mathlib.Omega.{arith}
 use Rattle.model.specs.Basics.{pick}
-use Rattle.greedy.specs.Kept.{kept-some}
-use Rattle.greedy.specs.PairMarks.{put, uncutAfter}
-use Rattle.greedy.proofs.TwoWay.{first-node, next-node, first-is, next-is, below-is}
+use Rattle.greedy.specs.Kept.{kept_some}
+use Rattle.greedy.specs.PairMarks.{put, uncut_after}
+use Rattle.greedy.proofs.TwoWay.{first_node, next_node, first_is, next_is, below_is}
 use borrow.Author.Rules.{rules}
 use Rattle.greedy.proofs.pair.lay_below.Statement.{statement}
 use Rattle.greedy.proofs.pair.lay_below.Tie as tie
@@ -25,13 +25,13 @@ start s = s.before.before.before.before
 
 put-mark-requires : tie.Need-put-mark-requires
 put-mark-requires c κs =
-    let b = start (sided c) in omega (arith, first-node b.pre.0 _ c.first-at.ensures, b.pre.1)
+    let b = start (sided c) in omega (arith, first_node b.pre.0 _ c.first_at_lem.ensures, b.pre.1)
 
 put-mark-requires-2 : tie.Need-put-mark-requires-2
 put-mark-requires-2 c κs =
     let p1 = c.before.before.before.before in
     let b = start (sided p1.before) in
-    omega (arith, next-node b.pre.0 _ c.next-at.ensures, p1.put-mark.auto.0, b.pre.1)
+    omega (arith, next_node b.pre.0 _ c.next-at.ensures, p1.put-mark.auto.0, b.pre.1)
 
 returns : tie.Need-returns
 returns c =
@@ -49,12 +49,12 @@ returns c =
     let a = b.args.marks.now in
     p2.put-mark2.ensures
     ∙ ap (λ (l : List ℕ). put l n.next-at.result m2.mark-of2.result) p1.put-mark.ensures
-    ∙ below-is b.args.table.now a b.args.v _ _ _ _ f.first-at.ensures n.next-at.ensures
+    ∙ below_is b.args.table.now a b.args.v _ _ _ _ f.first_at_lem.ensures n.next-at.ensures
     (m1.mark_of.ensures
-    ∙ ap (λ (o : Bool). pick o 1 0) (x1.cuts-left.ensures ∙ first-is b.pre.0 s.sides-at.ensures))
+    ∙ ap (λ (o : Bool). pick o 1 0) (x1.cuts-left.ensures ∙ first_is b.pre.0 s.sides-at.ensures))
     (m2.mark-of2.ensures
-    ∙ ap₂ (λ (o : Bool) (k : ℕ). pick o 1 k) (x2.cuts-right.ensures ∙ next-is b.pre.0 s.sides-at.ensures)
-    (u.uncut-after.ensures ∙ ap uncutAfter (kept-some a b.args.v b.pre.0.low)))
+    ∙ ap₂ (λ (o : Bool) (k : ℕ). pick o 1 k) (x2.cuts-right.ensures ∙ next_is b.pre.0 s.sides-at.ensures)
+    (u.uncut-after.ensures ∙ ap uncut_after (kept_some a b.args.v b.pre.0.low)))
 
 pub lay-below-spec : {M : Type 1} → statement M
 lay-below-spec =

@@ -2,16 +2,16 @@
 use mathlib.Core.Path.{◌≡◌, sym, ◌∙◌}
 use Prim.Native.Nat.{◌+◌, ◌-◌, ◌≤◌}
 use native.Mathlib.Omega.{arith}
-use Rattle.model.specs.Table.{nodeCount}
-use Rattle.greedy.specs.PairMarks.{pair-plan}
-use Rattle.greedy.proofs.TwoWay.{LinksMarked, links-start, links-step, rests-after}
+use Rattle.model.specs.Table.{node_count}
+use Rattle.greedy.specs.PairMarks.{pair_plan}
+use Rattle.greedy.proofs.TwoWay.{LinksMarked, links_start, links_step, rests_after}
 use borrow.Author.Rules.{rules}
 use Rattle.greedy.proofs.pair.lay_marks.Statement.{statement}
 use Rattle.greedy.proofs.pair.lay_marks.Tie as tie
 
 abbrev invariant-loop : tie.invariant-loop
 invariant-loop table marks₀ scratch nodes v₀ marks v =
-    (v ≤ nodeCount table) × (nodes ≡ nodeCount table) × LinksMarked table marks v
+    (v ≤ node_count table) × (nodes ≡ node_count table) × LinksMarked table marks v
 
 abbrev decreases-loop : tie.decreases-loop
 decreases-loop table marks₀ scratch nodes v₀ marks v = nodes - v
@@ -26,14 +26,14 @@ loop-holds c =
     let b = c.before.before.before.before in (
       omega arith,
       c.node-count.ensures,
-      links-start b.args.table.now b.args.marks.now b.requires.1 b.requires.0.tree.sound.count_low,
+      links_start b.args.table.now b.args.marks.now b.requires.1 b.requires.0.tree.sound.count_low,
     )
 
 lay-below-requires : tie.Need-lay-below-requires invariant-loop decreases-loop
 lay-below-requires c κs =
     let l = c.before.before.loop in
     let b = c.before.before.before.before.before.before.before in (
-      rests-after (l.v + 1) b.requires.0 (omega arith) (omega (arith, c.before.loop-test.true, l.invariant.1)),
+      rests_after (l.v + 1) b.requires.0 (omega arith) (omega (arith, c.before.loop-test.true, l.invariant.1)),
       l.invariant.2.long,
     )
 
@@ -43,8 +43,8 @@ loop-again c =
     let t = c.before.before.before.before in
     let l = t.before.loop in
     let b = t.before.before.before.before.before.before in
-    let high : l.v + 1 ≤ nodeCount b.args.table.now = omega (arith, t.loop-test.true, l.invariant.1) in
-    (high, l.invariant.1, links-step _ b.requires.0.tree.sound l.invariant.2 high x.ensures)
+    let high : l.v + 1 ≤ node_count b.args.table.now = omega (arith, t.loop-test.true, l.invariant.1) in
+    (high, l.invariant.1, links_step _ b.requires.0.tree.sound l.invariant.2 high x.ensures)
 
 same_length : tie.Need-same-length invariant-loop decreases-loop
 same_length c = c.before.loop.invariant.2.long ∙ sym c.before.before.before.before.before.before.requires.1
@@ -53,8 +53,8 @@ returns : tie.Need-returns invariant-loop decreases-loop
 returns c =
     let l = c.before.loop in
     let b = c.before.before.before.before.before.before in
-    let all : nodeCount b.args.table.now ≤ l.v = omega (arith, c.loop-test.false, l.invariant.1) in
-    pair-plan l.marks b.requires.0.tree.sound l.invariant.2.long l.invariant.2.root
+    let all : node_count b.args.table.now ≤ l.v = omega (arith, c.loop-test.false, l.invariant.1) in
+    pair_plan l.marks b.requires.0.tree.sound l.invariant.2.long l.invariant.2.root
     (λ u low high. l.invariant.2.links u low (omega arith))
 
 pub lay-marks-spec : {M : Type 1} → statement M

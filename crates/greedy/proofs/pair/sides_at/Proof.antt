@@ -1,17 +1,17 @@
 -- `greedy::pair::sides_at` meets its contract. Assumes nothing.
 use native.Mathlib.Omega.{arith}
-use Rattle.greedy.proofs.TwoWay.{first-in-scratch, next-in-scratch, first_rest, next-rest, sides-fit}
+use Rattle.greedy.proofs.TwoWay.{first_in_scratch, next_in_scratch, first_rest, next_rest, sides_fit}
 use borrow.Author.Rules.{rules}
 use Rattle.greedy.proofs.pair.sides_at.Statement.{statement}
 use Rattle.greedy.proofs.pair.sides_at.Tie as tie
 
 kept-at-requires : tie.Need-kept-at-requires
 kept-at-requires c κs =
-    first-in-scratch c.before.before.before.before.before.requires _ c.first-at.ensures
+    first_in_scratch c.before.before.before.before.before.requires _ c.first_at_lem.ensures
 
 kept-at-requires-2 : tie.Need-kept-at-requires-2
 kept-at-requires-2 c κs =
-    next-in-scratch c.before.before.before.before.before.before.before.requires _ c.next-at.ensures
+    next_in_scratch c.before.before.before.before.before.before.before.requires _ c.next-at.ensures
 
 returns : tie.Need-returns
 returns c =
@@ -20,14 +20,14 @@ returns c =
     let f = k.before in
     let w = f.before in
     let b = w.before.before.before.before in
-    let l = first_rest b.requires _ _ f.first-at.ensures k.kept_at.ensures in
-    let r = next-rest b.requires _ _ n.next-at.ensures c.kept-at2.ensures in
+    let l = first_rest b.requires _ _ f.first_at_lem.ensures k.kept_at.ensures in
+    let r = next_rest b.requires _ _ n.next-at.ensures c.kept-at2.ensures in
     record {
       limit = w.before.limit-of.ensures;
-      weight = w.weight-at.ensures;
+      weight = w.weight_at_lem.ensures;
       left = l;
       right = r;
-      fits = omega (arith, l, r, w.weight-at.ensures, sides-fit b.requires);
+      fits = omega (arith, l, r, w.weight_at_lem.ensures, sides_fit b.requires);
     }
 
 pub sides-at-spec : {M : Type 1} → statement M

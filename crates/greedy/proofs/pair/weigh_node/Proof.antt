@@ -2,9 +2,9 @@
 use mathlib.Core.Path.{◌≡◌}
 use Prim.Native.Nat.{ℕ, ◌+◌, ◌*◌, ◌≤◌}
 use native.Mathlib.Omega.{arith}
-use Rattle.model.specs.Table.{maxLimit}
-use Rattle.greedy.specs.PairMarks.{remainderAt}
-use Rattle.greedy.proofs.TwoWay.{weighs, weighs-fit}
+use Rattle.model.specs.Table.{max_limit}
+use Rattle.greedy.specs.PairMarks.{remainder_at}
+use Rattle.greedy.proofs.TwoWay.{weighs, weighs_fit}
 use borrow.Author.Rules.{rules}
 use Rattle.greedy.proofs.pair.weigh_node.Statement.{statement}
 use Rattle.greedy.proofs.pair.weigh_node.Tie as tie
@@ -27,7 +27,7 @@ sum c =
 -- the results of the calls, and the law that weighs the node by them
 weighed : (c : tie.After-struct-known)
     → let b = start (sided c) in
-    (sum c ≡ remainderAt b.args.table.now b.args.v) × (sum c ≤ 3 * maxLimit)
+    (sum c ≡ remainder_at b.args.table.now b.args.v) × (sum c ≤ 3 * max_limit)
 weighed c =
     let u2 = c.before in
     let x2 = u2.before in
@@ -37,7 +37,7 @@ weighed c =
     let b = start s in (
       weighs b.pre s.sides-at.ensures _ _ _ _ x1.cuts-left.ensures x2.cuts-right.ensures
           u1.unless-cut.ensures u2.unless-cut2.ensures,
-      weighs-fit b.pre s.sides-at.ensures _ _ _ _ x1.cuts-left.ensures x2.cuts-right.ensures
+      weighs_fit b.pre s.sides-at.ensures _ _ _ _ x1.cuts-left.ensures x2.cuts-right.ensures
           u1.unless-cut.ensures u2.unless-cut2.ensures,
     )
 

@@ -3,16 +3,16 @@ use mathlib.Core.Path.{◌≡◌, refl}
 use Prim.Native.Nat.{◌≤◌}
 use native.Mathlib.Omega.{arith}
 use lib.ListN.{length, length-set}
-use Rattle.model.specs.Table.{nodeCount}
+use Rattle.model.specs.Table.{node_count}
 use Rattle.greedy.specs.PairMarks.{Rests}
-use Rattle.greedy.proofs.TwoWay.{rests-step}
+use Rattle.greedy.proofs.TwoWay.{rests_step}
 use borrow.Author.Rules.{rules}
 use Rattle.greedy.proofs.pair.weigh_nodes.Statement.{statement}
 use Rattle.greedy.proofs.pair.weigh_nodes.Tie as tie
 
 abbrev invariant-loop : tie.invariant-loop
 invariant-loop table scratch₀ v₀ scratch v =
-    (length scratch ≡ length scratch₀) × (v ≤ nodeCount table) × Rests table scratch v
+    (length scratch ≡ length scratch₀) × (v ≤ node_count table) × Rests table scratch v
 
 abbrev decreases-loop : tie.decreases-loop
 decreases-loop table scratch₀ v₀ scratch v = v
@@ -37,7 +37,7 @@ loop-again c =
     let l = c.before.before.before.loop in (
       simp length-set l.invariant.0,
       omega (arith, l.invariant.1),
-      rests-step (record { above = l.invariant.2; low = omega arith; high = l.invariant.1 }) _ c.weigh-node.ensures,
+      rests_step (record { above = l.invariant.2; low = omega arith; high = l.invariant.1 }) _ c.weigh-node.ensures,
     )
 
 returns : tie.Need-returns invariant-loop decreases-loop

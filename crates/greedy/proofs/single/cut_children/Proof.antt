@@ -1,7 +1,7 @@
 -- `greedy::single::cut_children` meets its contract. Assumes nothing.
 use Prim.Native.Nat.{◌≤◌, ◌<◌}
 use native.Mathlib.Omega.{arith}
-use Rattle.greedy.proofs.Cut.{CutSoFar, cut_sums, cut-start, cut-scans, cut-takes, cut-turn, cut-end}
+use Rattle.greedy.proofs.Cut.{CutSoFar, cut_sums, cut_start, cut_scans, cut_takes, cut_turn, cut_end}
 use borrow.Author.Rules.{rules}
 use Rattle.greedy.proofs.single.cut_children.Statement.{statement}
 use Rattle.greedy.proofs.single.cut_children.Tie as tie
@@ -31,20 +31,20 @@ sum-rests-requires : tie.Need-sum-rests-requires invariant-loop decreases-loop
 sum-rests-requires c κs =
     let p = c.before in
     let b = start p in
-    cut_sums b.pre b.args.room _ p.first-at.ensures
+    cut_sums b.pre b.args.room _ p.first_at_lem.ensures
 
 loop-holds : tie.Need-loop-init invariant-loop decreases-loop
 loop-holds c =
     let p = c.before.before in
     let b = start p in
-    cut-start b.pre b.args.room _ _ p.first-at.ensures c.sum-rests.ensures
+    cut_start b.pre b.args.room _ _ p.first_at_lem.ensures c.sum-rests.ensures
 
 find-heaviest-requires : tie.Need-find-heaviest-requires invariant-loop decreases-loop
 find-heaviest-requires c κs =
     let l = c.before.before in
     let p = firsted l in
     let b = start p in
-    cut-scans b.pre b.args.room l.loop.invariant _ p.first-at.ensures c.before.loop-test.true
+    cut_scans b.pre b.args.room l.loop.invariant _ p.first_at_lem.ensures c.before.loop-test.true
 
 kept-at-requires : tie.Need-kept-at-requires invariant-loop decreases-loop
 kept-at-requires c κs =
@@ -58,7 +58,7 @@ takes c =
     let d = head c in
     let p = firsted d.before in
     let b = start p in
-    cut-takes b.pre b.args.room d.before.loop.inv d.loop-test.taken _ _ _ p.first-at.ensures
+    cut_takes b.pre b.args.room d.before.loop.inv d.loop-test.taken _ _ _ p.first_at_lem.ensures
     c.before.before.find-heaviest.ensures c.kept_at.ensures
 
 sub-sum : tie.Need-overflow-sub-sum invariant-loop decreases-loop
@@ -74,7 +74,7 @@ slice-write-marks : tie.Need-slice-write-marks invariant-loop decreases-loop
 slice-write-marks c =
     let l = (head c).before in
     let h = c.before.before.find-heaviest.ensures in
-    omega (arith, h.low, h.high, l.loop.inv.marks-long, (start (firsted l)).pre.marks-long)
+    omega (arith, h.low, h.high, l.loop.inv.marks_long, (start (firsted l)).pre.marks_long)
 
 loop-less : tie.Need-loop-smaller invariant-loop decreases-loop
 loop-less c = omega (arith, (takes c).0, (takes c).1)
@@ -84,13 +84,13 @@ loop-again c =
     let d = head c in
     let p = firsted d.before in
     let b = start p in
-    cut-turn b.pre b.args.room d.before.loop.inv d.loop-test.taken _ _ _ p.first-at.ensures
+    cut_turn b.pre b.args.room d.before.loop.inv d.loop-test.taken _ _ _ p.first_at_lem.ensures
     c.before.before.find-heaviest.ensures c.kept_at.ensures
 
 returns : tie.Need-returns invariant-loop decreases-loop
 returns c =
     let b = start (firsted c.before) in
-    cut-end b.pre b.args.room c.before.loop.invariant c.loop-test.false
+    cut_end b.pre b.args.room c.before.loop.invariant c.loop-test.false
 
 pub cut-children-spec : {M : Type 1} → statement M
 cut-children-spec =

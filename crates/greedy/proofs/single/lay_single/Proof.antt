@@ -3,8 +3,8 @@ use mathlib.Core.Path.{◌≡◌, refl, ◌∙◌}
 use Prim.Native.Nat.{◌≤◌}
 use native.Mathlib.Omega.{arith}
 use lib.ListN.{length}
-use Rattle.model.specs.Table.{nodeCount}
-use Rattle.greedy.specs.SingleSettled.{SettledDown, start, down-kids, down_plan}
+use Rattle.model.specs.Table.{node_count}
+use Rattle.greedy.specs.SingleSettled.{SettledDown, start, down_kids, down_plan}
 use Rattle.greedy.proofs.Settle.{down_step}
 use borrow.Author.Rules.{rules}
 use Rattle.greedy.proofs.single.lay_single.Statement.{statement}
@@ -12,8 +12,8 @@ use Rattle.greedy.proofs.single.lay_single.Tie as tie
 
 abbrev invariant-loop : tie.invariant-loop
 invariant-loop table marks₀ scratch₀ v₀ marks scratch v =
-    (length marks ≡ length marks₀) × (length scratch ≡ length scratch₀) × (v ≤ nodeCount table)
-    × SettledDown table scratch₀ marks₀ (nodeCount table) v scratch marks
+    (length marks ≡ length marks₀) × (length scratch ≡ length scratch₀) × (v ≤ node_count table)
+    × SettledDown table scratch₀ marks₀ (node_count table) v scratch marks
 
 abbrev decreases-loop : tie.decreases-loop
 decreases-loop table marks₀ scratch₀ v₀ marks scratch v = v
@@ -30,9 +30,9 @@ settle-requires c κs =
       tree = b.requires.tree;
       low = low;
       high = l.invariant.2;
-      marks-long = l.invariant.0 ∙ b.requires.marks-long;
+      marks_long = l.invariant.0 ∙ b.requires.marks_long;
       long = omega (arith, l.invariant.1, b.requires.long);
-      rests-kept = down-kids b.requires.tree.sound low l.invariant.2 l.invariant.3;
+      rests_kept = down_kids b.requires.tree.sound low l.invariant.2 l.invariant.3;
     }
 
 loop-again : tie.Need-loop-preserved invariant-loop decreases-loop
@@ -49,13 +49,13 @@ loop-again c =
 slice-write-marks : tie.Need-slice-write-marks invariant-loop decreases-loop
 slice-write-marks c =
     let b = c.before.before.before.before.before.before in
-    omega (arith, c.before.loop.invariant.0, b.requires.marks-long, b.requires.tree.sound.count_low)
+    omega (arith, c.before.loop.invariant.0, b.requires.marks_long, b.requires.tree.sound.count_low)
 
 returns : tie.Need-returns invariant-loop decreases-loop
 returns c =
     let l = c.before.loop in
     let b = c.before.before.before.before.before.before in
-    down_plan b.requires.tree.sound (rw c.loop-test.false at l.invariant.3) (l.invariant.0 ∙ b.requires.marks-long)
+    down_plan b.requires.tree.sound (rw c.loop-test.false at l.invariant.3) (l.invariant.0 ∙ b.requires.marks_long)
 
 pub lay-single-spec : {M : Type 1} → statement M
 lay-single-spec =

@@ -7,10 +7,10 @@ use mathlib.Core.List.{List, []}
 use lib.ListN.{length, get_or, set}
 use lib.Dec.{eqb}
 use Rattle.model.specs.Basics.{pick}
-use Rattle.model.specs.Table.{slots, nodeCount}
+use Rattle.model.specs.Table.{slots, node_count}
 use Rattle.model.specs.Plan.{page_of}
-use Rattle.layout.proofs.Turns.{LayoutTo, layout-start, u-fits, next_fits, count_fits, home_fits, page-here}
-use Rattle.layout.proofs.Turns.{page-fits, weight-fits, rows_next, rows-turn, layout-turn, layout-end}
+use Rattle.layout.proofs.Turns.{LayoutTo, layout_start, u_fits, next_fits, count_fits, home_fits, page_here}
+use Rattle.layout.proofs.Turns.{page_fits, weight_fits, rows_next, rows_turn, layout_turn, layout_end}
 use Rattle.layout.specs.Rows.{layout_of}
 use borrow.Author.Rules.{rules}
 use Rattle.layout.proofs.pages.lay_pages.Statement.{statement}
@@ -43,12 +43,12 @@ head c = (marked c.before.before).before
 -- ---- The numbers of the turn
 
 -- there is a node for this turn
-less : (d : tie.In-loop invariant-loop decreases-loop) → d.before.loop.v < nodeCount (start d.before).args.table.now
+less : (d : tie.In-loop invariant-loop decreases-loop) → d.before.loop.v < node_count (start d.before).args.table.now
 less d = omega arith
 
 -- the sibling before the node of the turn is within the arrays
 prior : (d : tie.In-loop invariant-loop decreases-loop) → get_or d.before.loop.before (d.before.loop.v + 1) 0 < slots
-prior d = u-fits (start d.before).pre.0 d.before.loop.invariant.1 (less d)
+prior d = u_fits (start d.before).pre.0 d.before.loop.invariant.1 (less d)
 
 -- and so is the node one step back of it
 home : (c : tie.After-choose4 invariant-loop decreases-loop) → c.choose4.result < slots
@@ -77,20 +77,20 @@ here c =
     let d = head c in
     let mark = (marked k).mark-at.result in
     let next = k.before.choose3.result in
-    page-here (start d.before).pre.0 d.before.loop.inv.1 (less d) _ _ _ (marked k).mark-at.ensures
+    page_here (start d.before).pre.0 d.before.loop.inv.1 (less d) _ _ _ (marked k).mark-at.ensures
     k.before.before.choose2.ensures k.choose4.ensures _ _ k.before.choose3.ensures
     (c.choose5.ensures
     ∙ ap (λ (l : List ℕ). pick (eqb mark 1) next (get_or l k.choose4.result 0)) (next-rows c _ [] []).0)
 
 fits : (c : tie.After-choose5 invariant-loop decreases-loop) → c.choose5.result < slots
-fits c = let d = head c in page-fits (start d.before).pre.0 d.before.loop.inv.1 (less d) _ (here c)
+fits c = let d = head c in page_fits (start d.before).pre.0 d.before.loop.inv.1 (less d) _ (here c)
 
 -- ---- The needs
 
 loop-holds : tie.Need-loop-init invariant-loop decreases-loop
 loop-holds c =
     let clear = c.before.before.before.requires.1 in
-    (omega arith, rw (clear.0, clear.1) (layout-start _ _), ap length clear.0)
+    (omega arith, rw (clear.0, clear.1) (layout_start _ _), ap length clear.0)
 
 cast-choose : tie.Need-overflow-cast-choose invariant-loop decreases-loop
 cast-choose c = omega (arith, prior c.before.before.before.before)
@@ -130,8 +130,8 @@ add-weights c =
     let d = head k in
     omega (
       arith,
-      weight-fits (start d.before).pre.0 d.before.loop.inv.1 (less d) _ (here k),
-      c.weight-at.type-inv,
+      weight_fits (start d.before).pre.0 d.before.loop.inv.1 (less d) _ (here k),
+      c.weight_at_lem.type-inv,
     )
 
 element-write-weights : tie.Need-element-write-weights invariant-loop decreases-loop
@@ -163,21 +163,21 @@ loop-again c =
     let three : List ℕ = set (get_or (set (set l.rows 0 one) 1 two) 2 []) q firsts.choose6.result in
     let next = next-rows p one two three in
     let turn =
-    rows-turn l.rows l.inv.2 v q parent.choose2.result firsts.choose6.result lasts.choose7.result
-    (set l.weights q (get_or l.weights q 0 + w.weight-at.result)) k.before.choose3.result in (
+    rows_turn l.rows l.inv.2 v q parent.choose2.result firsts.choose6.result lasts.choose7.result
+    (set l.weights q (get_or l.weights q 0 + w.weight_at_lem.result)) k.before.choose3.result in (
       omega arith,
       rw turn.1
-          (layout-turn (start d.before).pre.0 l.inv.1 (less d) _ _ _ _ _ _ _ _ _ _ _
+          (layout_turn (start d.before).pre.0 l.inv.1 (less d) _ _ _ _ _ _ _ _ _ _ _
           g.mark-at.ensures bad.before.before.mark-at2.ensures bad.before.is-good.ensures
           bad.choose.ensures parent.choose2.ensures k.before.choose3.ensures (here p)
           (firsts.choose6.ensures ∙ ap (λ (l : List ℕ). pick (eqb mark 1) v (get_or l q 0)) next.1)
           (lasts.choose7.ensures ∙ ap (λ (l : List ℕ). pick (eqb mark 1 || eqb mark 2) v (get_or l q 0)) next.2)
-          w.weight-at.ensures c.next-at.ensures),
+          w.weight_at_lem.ensures c.next-at.ensures),
       turn.0,
     )
 
 returns : tie.Need-returns invariant-loop decreases-loop
-returns c = layout-end (start c.before).pre.0 c.before.loop.invariant.1 (omega arith) (omega arith)
+returns c = layout_end (start c.before).pre.0 c.before.loop.invariant.1 (omega arith) (omega arith)
 
 pub lay-pages-spec : {M : Type 1} → statement M
 lay-pages-spec =

@@ -3,18 +3,18 @@ use mathlib.Core.Path.{◌∙◌}
 use Prim.Native.Nat.{◌-◌, ◌≤◌}
 use native.Mathlib.Omega.{arith}
 use lib.ListN.{length}
-use Rattle.model.specs.Table.{maxNodes}
+use Rattle.model.specs.Table.{max_nodes}
 use Rattle.layout.specs.Rows.{layout_of}
-use Rattle.pages.specs.Text.{reportBytes}
+use Rattle.pages.specs.Text.{report_bytes}
 use Rattle.pages.specs.Listing.{line_of}
-use Rattle.pages.proofs.Listed.{Listed, listed_start, listed-turn, listed-end}
+use Rattle.pages.proofs.Listed.{Listed, listed_start, listed_turn, listed_end}
 use borrow.Author.Rules.{rules}
 use Rattle.pages.proofs.report.list_pages.Statement.{statement}
 use Rattle.pages.proofs.report.list_pages.Tie as tie
 
 abbrev invariant-loop : tie.invariant-loop
 invariant-loop rows weights pages limit out₀ root at₀ p₀ out at p =
-    (pages ≤ maxNodes) × (reportBytes ≤ length out₀) × Listed (layout_of rows weights pages) limit out₀ p at out
+    (pages ≤ max_nodes) × (report_bytes ≤ length out₀) × Listed (layout_of rows weights pages) limit out₀ p at out
 
 abbrev decreases-loop : tie.decreases-loop
 decreases-loop rows weights pages limit out₀ root at₀ p₀ out at p = pages - p
@@ -42,8 +42,8 @@ loop-again c =
     let g = d.before.loop in (
       g.invariant.0,
       g.invariant.1,
-      listed-turn _ _ g.invariant.2 d.loop-test.true w.page-line.ensures.0
-          w.page-line.ensures.1 w.page-line.auto.0,
+      listed_turn _ _ g.invariant.2 d.loop-test.true w.page_line_lem.ensures.0
+          w.page_line_lem.ensures.1 w.page_line_lem.auto.0,
     )
 
 same_length : tie.Need-same-length invariant-loop decreases-loop
@@ -55,7 +55,7 @@ same_length c =
 returns : tie.Need-returns invariant-loop decreases-loop
 returns c =
     let g = c.before.loop in (
-      listed-end _ _ g.invariant.2 c.loop-test.false,
+      listed_end _ _ g.invariant.2 c.loop-test.false,
       omega (arith, g.invariant.2.room, g.invariant.2.high, g.invariant.0),
     )
 

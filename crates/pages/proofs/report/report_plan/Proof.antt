@@ -3,9 +3,9 @@ use mathlib.Core.List.{List}
 use mathlib.Core.Path.{◌∙◌, ap}
 use Prim.Native.Nat.{ℕ}
 use native.Mathlib.Omega.{arith}
-use Rattle.theory.specs.Appended.{filled-first}
+use Rattle.theory.specs.Appended.{filled_first}
 use Rattle.layout.specs.Rows.{Layout, layout_of, FeasibleLayout}
-use Rattle.pages.specs.Listing.{layoutLines, layout-lines, lines-refused, lines-planned}
+use Rattle.pages.specs.Listing.{layout_lines, layout_lines_lem, lines_refused, lines_planned}
 use borrow.Author.Rules.{rules}
 use Rattle.pages.proofs.report.report_plan.Statement.{statement}
 use Rattle.pages.proofs.report.report_plan.Tie as tie
@@ -41,8 +41,8 @@ returns c =
     let n = f.before.before in
     let p = made n.before in
     let a = p.make-laid in (
-      rw (lines-refused (start p).args.table.now a.result.answer _ _ a.ensures.0 n.if1.true)
-          at (filled-first f.refusal-line.ensures.0),
+      rw (lines_refused (start p).args.table.now a.result.answer _ _ a.ensures.0 n.if1.true)
+          at (filled_first f.refusal-line.ensures.0),
       omega (arith, f.refusal-line.ensures.1),
     )
 
@@ -50,7 +50,7 @@ list-pages-requires : tie.Need-list-pages-requires
 list-pages-requires c κs =
     let e = c.before.before.before.before in
     let l = layout e in
-    (omega (arith, l.pages-are, l.pages-most), (start (p e)).requires)
+    (omega (arith, l.pages_are, l.pages_most), (start (p e)).requires)
 
 returns-2 : tie.Need-returns-2
 returns-2 c =
@@ -58,8 +58,8 @@ returns-2 c =
     let k = f.before.before in
     let e = k.before.before.before in
     let a = (p e).make-laid in
-    let lines = ap (layoutLines (found e)) k.limit-of.ensures ∙ layout-lines (layout e)
-    ∙ lines-planned (table e) a.result.answer _ _ a.ensures.0 e.if1.false in
+    let lines = ap (layout_lines (found e)) k.limit-of.ensures ∙ layout_lines_lem (layout e)
+    ∙ lines_planned (table e) a.result.answer _ _ a.ensures.0 e.if1.false in
     (rw lines at f.list-pages.ensures.0, f.list-pages.ensures.1)
 
 pub report-plan-spec : {M : Type 1} → statement M

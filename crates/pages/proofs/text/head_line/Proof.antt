@@ -1,13 +1,13 @@
 -- `pages::text::head_line` meets its contract. Assumes nothing.
 use native.Mathlib.Omega.{arith}
-use Rattle.pages.specs.Text.{headLine}
+use Rattle.pages.specs.Text.{head_line}
 use Rattle.theory.specs.Appended.{appended_then}
 use borrow.Author.Rules.{rules}
 use Rattle.pages.proofs.text.head_line.Statement.{statement}
 use Rattle.pages.proofs.text.head_line.Tie as tie
 
 returns : tie.Need-returns
-unfolding headLine
+unfolding head_line
 returns c =
     let t = c.before.before in
     let c = t.before.before.before.before.before in

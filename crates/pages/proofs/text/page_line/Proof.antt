@@ -1,13 +1,13 @@
 -- `pages::text::page_line` meets its contract. Assumes nothing.
 use native.Mathlib.Omega.{arith}
-use Rattle.pages.specs.Text.{pageLine}
+use Rattle.pages.specs.Text.{page_line}
 use Rattle.theory.specs.Appended.{appended_then}
 use borrow.Author.Rules.{rules}
 use Rattle.pages.proofs.text.page_line.Statement.{statement}
 use Rattle.pages.proofs.text.page_line.Tie as tie
 
 returns : tie.Need-returns
-unfolding pageLine
+unfolding page_line
 returns c =
     let t = c.before.before in
     let d = t.before.before.before.before.before in

@@ -1,7 +1,7 @@
 -- `pages::text::put_item` meets its contract. Assumes nothing.
 use Prim.Native.Nat.{◌≤◌}
 use native.Mathlib.Omega.{arith}
-use Rattle.pages.proofs.Digits.{number-long, item-end}
+use Rattle.pages.proofs.Digits.{number_long, item_end}
 use borrow.Author.Rules.{rules}
 use Rattle.pages.proofs.text.put_item.Statement.{statement}
 use Rattle.pages.proofs.text.put_item.Tie as tie
@@ -14,7 +14,7 @@ few : (d : tie.After-decimal) → d.decimal.result ≤ 10
 few d =
     let s = start d in
     let e = d.decimal.ensures in
-    number-long s.args.n _ d.decimal.new.1.0 s.fits.n.fits e.1.0 e.1.1 e.0.1
+    number_long s.args.n _ d.decimal.new.1.0 s.fits.n.fits e.1.0 e.1.1 e.0.1
 
 put-text-requires-2 : tie.Need-put-text-requires-2
 put-text-requires-2 c κs =
@@ -36,7 +36,7 @@ returns c =
     let d = t.before.before in
     let s = start d in
     let e = d.decimal.ensures in (
-      item-end s.args.n _ d.decimal.new.1.0 s.fits.n.fits e.1.0 e.1.1 t.put-text.ensures
+      item_end s.args.n _ d.decimal.new.1.0 s.fits.n.fits e.1.0 e.1.1 t.put-text.ensures
           u.put-text2.ensures,
       omega (arith, t.put-text.ensures.place, u.put-text2.ensures.place, e.0.1, few d),
     )

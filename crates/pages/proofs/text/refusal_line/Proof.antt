@@ -1,13 +1,13 @@
 -- `pages::text::refusal_line` meets its contract. Assumes nothing.
 use native.Mathlib.Omega.{arith}
-use Rattle.pages.specs.Text.{refusalLine}
+use Rattle.pages.specs.Text.{refusal_line}
 use Rattle.theory.specs.Appended.{appended_then}
 use borrow.Author.Rules.{rules}
 use Rattle.pages.proofs.text.refusal_line.Statement.{statement}
 use Rattle.pages.proofs.text.refusal_line.Tie as tie
 
 returns : tie.Need-returns
-unfolding refusalLine
+unfolding refusal_line
 returns c =
     let t = c.before.before in
     let b = t.before.before.before.before.before in

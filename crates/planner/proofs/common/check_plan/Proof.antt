@@ -6,12 +6,12 @@ use native.Mathlib.Omega.{arith}
 use lib.ListN.{length}
 use lib.Dec.{eqb, ltb}
 use Rattle.model.specs.Basics.{when}
-use Rattle.model.specs.Table.{maxNodes, maxLimit, nodeCount, limitOf}
-use Rattle.model.specs.Refusals.{badMarks, shortScratch, scratchWords, lentChecks, readTree}
+use Rattle.model.specs.Table.{max_nodes, max_limit, node_count, limit_of}
+use Rattle.model.specs.Refusals.{bad_marks, short_scratch, scratch_words, lent_checks, read_tree}
 use Rattle.model.specs.declared.Answer.{Answer}
-use Rattle.theory.specs.Checks.{firstOf-cons, firstOf-none}
-use Rattle.theory.specs.JudgeAnswers.{tree-facts}
-use Rattle.planner.proofs.Planning.{tree-refuses, tree-goes-on, words-fit}
+use Rattle.theory.specs.Checks.{first_of_cons, first_of_none}
+use Rattle.theory.specs.JudgeAnswers.{tree_facts}
+use Rattle.planner.proofs.Planning.{tree_refuses, tree_goes_on, words_fit}
 use borrow.Author.Rules.{rules}
 use Rattle.planner.proofs.common.check_plan.Statement.{statement}
 use Rattle.planner.proofs.common.check_plan.Tie as tie
@@ -27,18 +27,18 @@ read c = c.before.before
 -- ---- The needs
 
 -- the tree is accepted
-zero : (c : tie.Else1) → (readTree (start (read c)).args.table.now).number ≡ 0
+zero : (c : tie.Else1) → (read_tree (start (read c)).args.table.now).number ≡ 0
 zero c = sym (ap (λ (a : Answer). a.number) (read c).read-tree.ensures.0) ∙ c.if1.false
 
 -- the number of words, where the tree is accepted
 words_small : (c : tie.After-limit-of)
-    → scratchWords c.before.node-count.result c.limit-of.result ≤ scratchWords maxNodes maxLimit
+    → scratch_words c.before.node-count.result c.limit-of.result ≤ scratch_words max_nodes max_limit
 words_small c =
     let n = c.before in
-    let a = tree-facts _ (zero n.before) in
-    words-fit n.node-count.result c.limit-of.result
-    (omega (arith, n.node-count.ensures, a.sound.count-high))
-    (omega (arith, c.limit-of.ensures, a.sound.limit-high))
+    let a = tree_facts _ (zero n.before) in
+    words_fit n.node-count.result c.limit-of.result
+    (omega (arith, n.node-count.ensures, a.sound.count_high))
+    (omega (arith, c.limit-of.ensures, a.sound.limit_high))
 
 returns : tie.Need-returns
 returns c =
@@ -46,7 +46,7 @@ returns c =
     let a = (start r).args in
     let e = r.read-tree.ensures.0 in
     e
-    ∙ tree-refuses a.table.now a.marks.now a.scratch.now
+    ∙ tree_refuses a.table.now a.marks.now a.scratch.now
     (λ z. c.if1.true (ap (λ (a : Answer). a.number) e ∙ z))
 
 mul-words-2 : tie.Need-overflow-mul-words-2
@@ -56,7 +56,7 @@ cast-place-if : tie.Need-overflow-cast-place-if
 cast-place-if c = record { fits = omega (arith, words_small c) }
 
 returns-2 : tie.Need-returns-2
-unfolding lentChecks badMarks shortScratch
+unfolding lent_checks bad_marks short_scratch
 returns-2 c =
     let l = c.before.before.before.before.before in
     let n = l.before in
@@ -66,14 +66,14 @@ returns-2 c =
     let m = a.marks.now in
     let s = a.scratch.now in
     let q = n.node-count.ensures in
-    let w : 4 * n.node-count.result * (l.limit-of.result + 3) ≡ scratchWords (nodeCount t) (limitOf t) =
+    let w : 4 * n.node-count.result * (l.limit-of.result + 3) ≡ scratch_words (node_count t) (limit_of t) =
     ap₂ (λ (x y : ℕ). 4 * x * (y + 3)) q l.limit-of.ensures in
-    firstOf-cons _ _ _ _ _ _ c.earlier2.ensures
+    first_of_cons _ _ _ _ _ _ c.earlier2.ensures
     (c.before.before.before.place-if2.ensures ∙ ap (λ (k : ℕ). when (not (eqb (length m) k)) k) q)
-    (firstOf-cons _ _ _ _ _ _ c.before.earlier.ensures
+    (first_of_cons _ _ _ _ _ _ c.before.earlier.ensures
     (c.before.before.before.before.place-if.ensures ∙ ap (λ (k : ℕ). when (ltb (length s) k) k) w)
-    (firstOf-none _ _ c.before.before.accept.ensures))
-    ∙ tree-goes-on t m s (zero e)
+    (first_of_none _ _ c.before.before.accept.ensures))
+    ∙ tree_goes_on t m s (zero e)
 
 pub check-plan-spec : {M : Type 1} → statement M
 check-plan-spec =

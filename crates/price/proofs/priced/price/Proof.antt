@@ -2,14 +2,14 @@
 use mathlib.Core.List.{List}
 use mathlib.Core.Path.{◌≡◌, refl, sym, ap, ap₂, ◌∙◌, subst}
 use Prim.Native.Nat.{ℕ}
-use Rattle.model.specs.Refusals.{plainRules, judgeChecks, outcome, judgeBy, pricePlan}
+use Rattle.model.specs.Refusals.{plain_rules, judge_checks, outcome, judge_by, price_plan}
 use Rattle.model.specs.Demand.{PricePromise}
 use Rattle.model.specs.declared.Answer.{Answer}
-use Rattle.theory.specs.Entries.{promised, entry_done, entry-stands}
-use Rattle.theory.specs.JudgedEntries.{judge-passes, judge-given, given-zero}
-use Rattle.theory.specs.PromisePrice.{price-promise}
+use Rattle.theory.specs.Entries.{promised, entry_done, entry_stands}
+use Rattle.theory.specs.JudgedEntries.{judge_passes, judge_given, given_zero}
+use Rattle.theory.specs.PromisePrice.{price_promise}
 use Rattle.layout.specs.Rows.{Layout, layout_of, FeasibleLayout, LightPages}
-use Rattle.price.proofs.LayoutTotal.{layout-total}
+use Rattle.price.proofs.LayoutTotal.{layout_total}
 use borrow.Author.Rules.{rules}
 use Rattle.price.proofs.priced.price.Statement.{statement}
 use Rattle.price.proofs.priced.price.Tie as tie
@@ -26,7 +26,7 @@ module _ (j : tie.After-judge-pages) where
   abbrev marks : List ℕ
   marks = start.args.marks.now
 
-  answer-is : j.judge-pages.result.answer ≡ judgeBy plainRules table marks
+  answer-is : j.judge-pages.result.answer ≡ judge_by plain_rules table marks
   answer-is = j.judge-pages.ensures.0
 
   -- the layout that it left
@@ -34,9 +34,9 @@ module _ (j : tie.After-judge-pages) where
   found = let a = j.judge-pages.last.1.1.1 in layout_of a.0 a.1.0 j.judge-pages.result.pages
 
   -- with the equation, the promise
-  both : {r : Answer} {cents : ℕ} → outcome r cents ≡ pricePlan table marks
-      → (outcome r cents ≡ pricePlan table marks) × PricePromise table marks r cents
-  both is = promised (PricePromise table marks) (price-promise table marks) is
+  both : {r : Answer} {cents : ℕ} → outcome r cents ≡ price_plan table marks
+      → (outcome r cents ≡ price_plan table marks) × PricePromise table marks r cents
+  both is = promised (PricePromise table marks) (price_promise table marks) is
 
 -- where it accepts
 module _ (e : tie.Else1) where
@@ -49,11 +49,11 @@ module _ (e : tie.Else1) where
 -- ---- The needs
 
 returns : tie.Need-returns
-unfolding pricePlan
+unfolding price_plan
 returns c =
     let j = c.before.before.before in
     both j
-    (entry-stands _ _ 0 (judgeChecks plainRules (table j) (marks j)) (given-zero plainRules (table j) (marks j))
+    (entry_stands _ _ 0 (judge_checks plain_rules (table j) (marks j)) (given_zero plain_rules (table j) (marks j))
     (answer-is j) c.if1.true)
 
 total-requires : tie.Need-total-requires
@@ -64,17 +64,17 @@ total-requires c κs =
     (layout e).light
 
 returns-2 : tie.Need-returns-2
-unfolding pricePlan
+unfolding price_plan
 returns-2 c =
     let l = c.before.before in
     let e = l.before in
     let j = done e in
     let zero = sym (ap (λ (r : Answer). r.number) (answer-is j)) ∙ e.if1.false in
-    let f = judge-passes plainRules (table j) (marks j) zero in
+    let f = judge_passes plain_rules (table j) (marks j) zero in
     both j
-    (ap₂ outcome (answer-is j ∙ judge-given plainRules (table j) (marks j) f)
-    (c.total.ensures ∙ layout-total (layout e) l.limit-of.ensures)
-    ∙ sym (entry_done _ _ 0 (judgeChecks plainRules (table j) (marks j)) f))
+    (ap₂ outcome (answer-is j ∙ judge_given plain_rules (table j) (marks j) f)
+    (c.total.ensures ∙ layout_total (layout e) l.limit-of.ensures)
+    ∙ sym (entry_done _ _ 0 (judge_checks plain_rules (table j) (marks j)) f))
 
 pub price-spec : {M : Type 1} → statement M
 price-spec =

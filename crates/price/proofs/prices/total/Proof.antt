@@ -5,16 +5,16 @@ use mathlib.Core.List.{List}
 use mathlib.Core.Path.{◌≡◌, sym, ◌∙◌, ap, ap₂, subst}
 use lib.ListN.{get_or}
 use Rattle.model.specs.Basics.{sum_to}
-use Rattle.model.specs.Prices.{fullFill, priceAt, centsFor}
-use Rattle.theory.specs.Ranges.{sumTo-zero, sumTo-suc}
-use Rattle.theory.specs.PricePages.{fill-most, price-range, sum-most}
+use Rattle.model.specs.Prices.{full_fill, price_at, cents_for}
+use Rattle.theory.specs.Ranges.{sum_to_zero, sum_to_suc}
+use Rattle.theory.specs.PricePages.{fill_most, price_range, sum-most}
 use borrow.Author.Rules.{rules}
 use Rattle.price.proofs.prices.total.Statement.{statement}
 use Rattle.price.proofs.prices.total.Tie as tie
 
 -- the cents of page p
 abbrev costs : List ℕ → ℕ → ℕ → ℕ
-costs weights limit p = centsFor (get_or weights p 0) limit
+costs weights limit p = cents_for (get_or weights p 0) limit
 
 abbrev invariant-loop : tie.invariant-loop
 invariant-loop weights pages limit cents₀ p₀ cents p = (p ≤ pages) × (cents ≡ sum_to p (costs weights limit))
@@ -23,7 +23,7 @@ abbrev decreases-loop : tie.decreases-loop
 decreases-loop weights pages limit cents₀ p₀ cents p = pages - p
 
 loop-holds : tie.Need-loop-init invariant-loop decreases-loop
-loop-holds c = (omega arith, sym (sumTo-zero _))
+loop-holds c = (omega arith, sym (sum_to_zero _))
 
 -- the page of this turn is within the limit
 within : (c : tie.In-loop invariant-loop decreases-loop)
@@ -33,8 +33,8 @@ within c = c.before.before.requires.within (c.before.loop.p + 1) (omega arith) (
 fill-of-requires : tie.Need-fill-of-requires invariant-loop decreases-loop
 fill-of-requires c κs = (c.before.before.before.requires.low, within c.before)
 
-fill-small : (c : tie.After-fill-of invariant-loop decreases-loop) → c.fill-of.result ≤ fullFill
-fill-small c = omega (arith, c.fill-of.ensures, fill-most _ _ (within c.before.before))
+fill-small : (c : tie.After-fill-of invariant-loop decreases-loop) → c.fill-of.result ≤ full_fill
+fill-small c = omega (arith, c.fill-of.ensures, fill_most _ _ (within c.before.before))
 
 price-at-requires : tie.Need-price-at-requires invariant-loop decreases-loop
 price-at-requires c κs = fill-small c
@@ -47,19 +47,19 @@ add-cents c =
     let s = l.before in
     let weight : ℕ → ℕ = λ q. get_or s.args.weights.now q 0 in
     let most = sum-most l.loop.p s.args.limit weight (λ q low high. s.requires.within q low (omega arith)) in
-    let price = price-range f.fill-of.result (fill-small f) in
+    let price = price_range f.fill-of.result (fill-small f) in
     record { fits = omega (arith, l.loop.invariant.1, most, c.price-at.ensures, price.1, s.requires.few) }
 
 sum-next : (p : ℕ) (f : ℕ → ℕ) → sum_to p f + f (p + 1) ≡ sum_to (p + 1) f
 sum-next p f =
     let next : suc p ≡ p + 1 = omega arith in
-    subst (λ n. sum_to p f + f n ≡ sum_to n f) next (sym (sumTo-suc p f))
+    subst (λ n. sum_to p f + f n ≡ sum_to n f) next (sym (sum_to_suc p f))
 
 loop-again : tie.Need-loop-preserved invariant-loop decreases-loop
 loop-again c =
     let l = c.before.before.before.before in (
       omega (arith, c.before.before.before.loop-test.true),
-      ap₂ ◌+◌ l.loop.invariant.1 (c.price-at.ensures ∙ ap priceAt c.before.fill-of.ensures)
+      ap₂ ◌+◌ l.loop.invariant.1 (c.price-at.ensures ∙ ap price_at c.before.fill-of.ensures)
           ∙ sum-next l.loop.p (costs l.before.args.weights.now l.before.args.limit),
     )
 

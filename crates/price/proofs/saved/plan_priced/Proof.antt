@@ -3,7 +3,7 @@ use mathlib.Core.List.{List}
 use mathlib.Core.Path.{sym, ◌∙◌, subst}
 use Prim.Native.Nat.{ℕ}
 use Rattle.layout.specs.Rows.{Layout, layout_of, FeasibleLayout, LightPages}
-use Rattle.price.proofs.LayoutTotal.{layout-total}
+use Rattle.price.proofs.LayoutTotal.{layout_total}
 use borrow.Author.Rules.{rules}
 use Rattle.price.proofs.saved.plan_priced.Statement.{statement}
 use Rattle.price.proofs.saved.plan_priced.Tie as tie
@@ -37,7 +37,7 @@ returns-2 : tie.Need-returns-2
 returns-2 c =
     let l = c.before.before in
     let e = l.before in
-    ((made e).make-laid.ensures.0, λ z. c.total.ensures ∙ layout-total (layout e) l.limit-of.ensures)
+    ((made e).make-laid.ensures.0, λ z. c.total.ensures ∙ layout_total (layout e) l.limit-of.ensures)
 
 pub plan-priced-spec : {M : Type 1} → statement M
 plan-priced-spec =

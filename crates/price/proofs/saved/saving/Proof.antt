@@ -4,7 +4,7 @@ use mathlib.Core.Path.{◌∙◌}
 use Prim.Native.Nat.{ℕ}
 use mir.Syntax.{w32}
 use mir.ValLaws.{to_z-of_z}
-use Rattle.price.proofs.SavedPlans.{saved-both, single-refuses, single-fits, best-fits, saving-is}
+use Rattle.price.proofs.SavedPlans.{saved_both, single_refuses, single_fits, best_fits, saving_is}
 use borrow.Author.Rules.{rules}
 use Rattle.price.proofs.saved.saving.Statement.{statement}
 use Rattle.price.proofs.saved.saving.Tie as tie
@@ -36,8 +36,8 @@ single b = (passed b).before.before.before.before.before.before.before
 returns : tie.Need-returns
 returns c =
     let p = c.before.before.before.before.before.before.before in
-    saved-both (table p) (marks p) (scratch p)
-    (single-refuses (table p) (marks p) (scratch p) p.plan-priced.ensures.0 c.if1.true)
+    saved_both (table p) (marks p) (scratch p)
+    (single_refuses (table p) (marks p) (scratch p) p.plan-priced.ensures.0 c.if1.true)
 
 less-requires : tie.Need-less-requires
 less-requires c κs =
@@ -45,8 +45,8 @@ less-requires c κs =
     let p = single b in
     let one = p.plan-priced.ensures in
     let two = b.plan-priced2.ensures in (
-      single-fits (table p) (marks p) (scratch p) one.0 (passed b).if1.false one.1,
-      best-fits (table p) (marks p) (scratch p) one.0 (passed b).if1.false two.0 two.1,
+      single_fits (table p) (marks p) (scratch p) one.0 (passed b).if1.false one.1,
+      best_fits (table p) (marks p) (scratch p) one.0 (passed b).if1.false two.0 two.1,
     )
 
 returns-2 : tie.Need-returns-2
@@ -55,8 +55,8 @@ returns-2 c =
     let p = single b in
     let one = p.plan-priced.ensures in
     let two = b.plan-priced2.ensures in
-    saved-both (table p) (marks p) (scratch p)
-    (saving-is (table p) (marks p) (scratch p) one.0 (passed b).if1.false two.0 one.1 two.1
+    saved_both (table p) (marks p) (scratch p)
+    (saving_is (table p) (marks p) (scratch p) one.0 (passed b).if1.false two.0 one.1 two.1
     (to_z-of_z w32 c.less.result (record { sfits = c.less.type-inv }) ∙ c.less.ensures))
 
 pub saving-spec : {M : Type 1} → statement M

@@ -3,9 +3,9 @@ use mathlib.Core.Logic.{inl, inr, ⊎_elim}
 use Prim.Native.Nat.{◌+◌, ◌-◌, ◌*◌, ◌≤◌, ◌<◌}
 use native.Mathlib.Omega.{arith}
 use lib.ListN.{get_or}
-use Rattle.model.specs.Table.{maxLimit, slots, nodeCount}
-use Rattle.quick.proofs.DepthTurns.{DepthTo, depth-start, u-fits, next_fits, number_fits, sum_fits}
-use Rattle.quick.proofs.DepthTurns.{parent-fits, depth-turn, depth-end}
+use Rattle.model.specs.Table.{max_limit, slots, node_count}
+use Rattle.quick.proofs.DepthTurns.{DepthTo, depth_start, u_fits, next_fits, number_fits, sum_fits}
+use Rattle.quick.proofs.DepthTurns.{parent_fits, depth_turn, depth_end}
 use borrow.Author.Rules.{rules}
 use Rattle.quick.proofs.depth_first.lay_depth_first.Statement.{statement}
 use Rattle.quick.proofs.depth_first.lay_depth_first.Tie as tie
@@ -24,35 +24,35 @@ abbrev start : tie.At-loop invariant-loop decreases-loop → tie.Start invariant
 start l = l.before.before.before.before.before
 
 -- there is a node for this turn
-less : (d : tie.In-loop invariant-loop decreases-loop) → d.before.loop.v < nodeCount (start d.before).args.table.now
+less : (d : tie.In-loop invariant-loop decreases-loop) → d.before.loop.v < node_count (start d.before).args.table.now
 less d = omega arith
 
 -- the sibling before the node of the turn is within the arrays
 prior : (d : tie.In-loop invariant-loop decreases-loop) → get_or d.before.loop.before (d.before.loop.v + 1) 0 < slots
-prior d = u-fits (start d.before).pre.0 d.before.loop.invariant.1 (less d)
+prior d = u_fits (start d.before).pre.0 d.before.loop.invariant.1 (less d)
 
 -- and so is its parent
 parent : (c : tie.After-parent-of invariant-loop decreases-loop) → c.parent_of.result < slots
 parent c =
     let d = c.before in
-    parent-fits (start d.before).pre.0 d.before.loop.invariant.1 (less d) _ c.parent_of.ensures
+    parent_fits (start d.before).pre.0 d.before.loop.invariant.1 (less d) _ c.parent_of.ensures
 
 -- the current page has room for its sum with the node's weight
 room : (c : tie.After-weight-at invariant-loop decreases-loop)
-    → c.before.before.before.loop.sum + c.weight-at.result ≤ 2 * maxLimit
+    → c.before.before.before.loop.sum + c.weight_at_lem.result ≤ 2 * max_limit
 room c =
     let d = c.before.before in
     let a = (start d.before).pre.0 in
     omega (
       arith,
-      sum_fits a d.before.loop.invariant.1 (less d) _ c.weight-at.ensures,
-      a.sound.limit-high,
+      sum_fits a d.before.loop.invariant.1 (less d) _ c.weight_at_lem.ensures,
+      a.sound.limit_high,
     )
 
 -- ---- The needs
 
 loop-holds : tie.Need-loop-init invariant-loop decreases-loop
-loop-holds c = (omega arith, depth-start _ _ c.before.before.before.before.requires.1)
+loop-holds c = (omega arith, depth_start _ _ c.before.before.before.before.requires.1)
 
 cast-parent-of : tie.Need-overflow-cast-parent-of invariant-loop decreases-loop
 cast-parent-of c = omega (arith, prior c)
@@ -86,7 +86,7 @@ page-mark-requires c κs = room c
 
 slice-write-marks : tie.Need-slice-write-marks invariant-loop decreases-loop
 slice-write-marks c =
-    let d = c.before.before.before in omega (arith, less d, d.before.loop.invariant.1.marks-long)
+    let d = c.before.before.before in omega (arith, less d, d.before.loop.invariant.1.marks_long)
 
 add-number : tie.Need-overflow-add-number invariant-loop decreases-loop
 add-number c =
@@ -98,7 +98,7 @@ add-sum c = omega (arith, room c.before.before)
 
 array-write-pages : tie.Need-array-write-pages invariant-loop decreases-loop
 array-write-pages c =
-    let d = c.before.before.before.before in omega (arith, less d, (start d.before).pre.0.sound.count-high)
+    let d = c.before.before.before.before in omega (arith, less d, (start d.before).pre.0.sound.count_high)
 
 array-write-before : tie.Need-array-write-before invariant-loop decreases-loop
 array-write-before c =
@@ -115,18 +115,18 @@ loop-again c =
     let accepted = (start d.before).pre.0 in
     let turn = d.before.loop.invariant.1 in
     let limit = d.before.before.limit-of.ensures in
-    let weight = w.weight-at.ensures in (
+    let weight = w.weight_at_lem.ensures in (
       omega arith,
-      depth-turn accepted turn (less d) _ p.parent_of.ensures _ _ _ limit weight k.page-mark.ensures _ _ _
+      depth_turn accepted turn (less d) _ p.parent_of.ensures _ _ _ limit weight k.page-mark.ensures _ _ _
           c.next-at.ensures
           (⊎_elim (λ x. inl (x.0.taken, x.1, x.2)) (λ x. inr (x.0.left, x.1, x.2)) j.if1.branch),
     )
 
 same_length : tie.Need-same-length invariant-loop decreases-loop
-same_length c = omega (arith, c.before.loop.invariant.1.marks-long, (start c.before).pre.1)
+same_length c = omega (arith, c.before.loop.invariant.1.marks_long, (start c.before).pre.1)
 
 returns : tie.Need-returns invariant-loop decreases-loop
-returns c = depth-end (start c.before).pre.0 c.before.loop.invariant.1 (omega arith)
+returns c = depth_end (start c.before).pre.0 c.before.loop.invariant.1 (omega arith)
 
 pub lay-depth-first-spec : {M : Type 1} → statement M
 lay-depth-first-spec =

@@ -3,9 +3,9 @@ use mathlib.Core.Path.{refl, ap}
 use Prim.Native.Nat.{ℕ, ◌+◌, ◌≤◌, ◌<◌}
 use native.Mathlib.Omega.{arith}
 use lib.ListN.{get_or}
-use Rattle.model.specs.Table.{maxLimit, slots}
-use Rattle.quick.proofs.RightmostRuns.{Cutting, light, cutting-start, kept_high, kept-fits, child_fits}
-use Rattle.quick.proofs.RightmostRuns.{earlier, own-high, rest-left, cutting-turn, cutting-end}
+use Rattle.model.specs.Table.{max_limit, slots}
+use Rattle.quick.proofs.RightmostRuns.{Cutting, light, cutting_start, kept_high, kept_fits, child_fits}
+use Rattle.quick.proofs.RightmostRuns.{earlier, own_high, rest_left, cutting_turn, cutting_end}
 use borrow.Author.Rules.{rules}
 use Rattle.quick.proofs.rightmost.cut_runs.Statement.{statement}
 use Rattle.quick.proofs.rightmost.cut_runs.Tie as tie
@@ -26,7 +26,7 @@ entry l = l.before.before.before.before.before
 fits : (i : tie.In-loop invariant-loop decreases-loop) → i.before.loop.child < slots
 fits i =
     let p = (entry i.before).pre in
-    omega (arith, child_fits p i.before.loop.invariant, p.tree.sound.count-high)
+    omega (arith, child_fits p i.before.loop.invariant, p.tree.sound.count_high)
 
 -- and so has the one before it
 before-fits : (i : tie.In-loop invariant-loop decreases-loop)
@@ -37,12 +37,12 @@ before-fits i =
 add_left : tie.Need-overflow-add-left invariant-loop decreases-loop
 add_left c =
     let p = c.before.before.before.before.requires in
-    omega (arith, p.small, c.weight-at.ensures, light p, p.tree.sound.limit-high)
+    omega (arith, p.small, c.weight_at_lem.ensures, light p, p.tree.sound.limit_high)
 
 loop-holds : tie.Need-loop-init invariant-loop decreases-loop
 loop-holds c =
     let p = c.before.before.before.before.requires in
-    rw c.weight-at.ensures (cutting-start p _ refl)
+    rw c.weight_at_lem.ensures (cutting_start p _ refl)
 
 mul-before : tie.Need-overflow-mul-before invariant-loop decreases-loop
 mul-before c = omega (arith, fits c)
@@ -60,11 +60,11 @@ element-copy-out-rest : tie.Need-element-copy-out-rest invariant-loop decreases-
 element-copy-out-rest c = omega (arith, fits c.before)
 
 -- a remainder is a word
-rest-fits : (i : tie.In-loop invariant-loop decreases-loop) (u : ℕ) → get_or (entry i.before).args.rests.now u 0 ≤ maxLimit
-rest-fits i u = let p = (entry i.before).pre in omega (arith, p.light u, p.tree.sound.limit-high)
+rest_fits : (i : tie.In-loop invariant-loop decreases-loop) (u : ℕ) → get_or (entry i.before).args.rests.now u 0 ≤ max_limit
+rest_fits i u = let p = (entry i.before).pre in omega (arith, p.light u, p.tree.sound.limit_high)
 
 cast-rest : tie.Need-overflow-cast-rest invariant-loop decreases-loop
-cast-rest c = let i = c.before.before in record { fits = omega (arith, rest-fits i i.before.loop.child) }
+cast-rest c = let i = c.before.before in record { fits = omega (arith, rest_fits i i.before.loop.child) }
 
 mul-weighs : tie.Need-overflow-mul-weighs invariant-loop decreases-loop
 mul-weighs c = let i = c.before.before.before in omega (arith, fits i, before-fits i)
@@ -73,12 +73,12 @@ element-copy-out-weighs : tie.Need-element-copy-out-weighs invariant-loop decrea
 element-copy-out-weighs c = let i = c.before.before.before in omega (arith, fits i, before-fits i)
 
 -- the child before that of the turn
-abbrev beforeIn : tie.In-loop invariant-loop decreases-loop → ℕ
-beforeIn i = get_or (entry i.before).args.prevs.now i.before.loop.child 0
+abbrev before_in : tie.In-loop invariant-loop decreases-loop → ℕ
+before_in i = get_or (entry i.before).args.prevs.now i.before.loop.child 0
 
 cast-weighs : tie.Need-overflow-cast-weighs invariant-loop decreases-loop
 cast-weighs c =
-    let i = c.before.before.before.before in record { fits = omega (arith, rest-fits i (beforeIn i)) }
+    let i = c.before.before.before.before in record { fits = omega (arith, rest_fits i (before_in i)) }
 
 add-weighs : tie.Need-overflow-add-weighs invariant-loop decreases-loop
 add-weighs c =
@@ -86,9 +86,9 @@ add-weighs c =
     let p = (entry i.before).pre in
     omega (
       arith,
-      own-high p i.before.loop.invariant _ _ refl c.before.choose.ensures,
-      rest-fits i (beforeIn i),
-      p.tree.sound.limit-high,
+      own_high p i.before.loop.invariant _ _ refl c.before.choose.ensures,
+      rest_fits i (before_in i),
+      p.tree.sound.limit_high,
     )
 
 sub-marks : tie.Need-overflow-sub-marks invariant-loop decreases-loop
@@ -106,8 +106,8 @@ add_kept c =
     let p = (entry i.before).pre in
     omega (
       arith,
-      kept-fits p i.before.loop.invariant _ _ _ refl c.choose2.ensures,
-      p.tree.sound.limit-high,
+      kept_fits p i.before.loop.invariant _ _ _ refl c.choose2.ensures,
+      p.tree.sound.limit_high,
     )
 
 sub-left : tie.Need-overflow-sub-left invariant-loop decreases-loop
@@ -115,7 +115,7 @@ sub-left c =
     let i = c.before.before.before.before.before.before in
     omega (
       arith,
-      rest-left (entry i.before).pre i.before.loop.invariant i.loop-test.true _ _ refl refl,
+      rest_left (entry i.before).pre i.before.loop.invariant i.loop-test.true _ _ refl refl,
     )
 
 loop-less : tie.Need-loop-smaller invariant-loop decreases-loop
@@ -128,17 +128,17 @@ loop-again c =
     let i = h.before.before.before in
     let limit = i.before.before.before.limit-of.ensures in
     rw c.choose2.ensures
-    (cutting-turn (entry i.before).pre i.before.loop.invariant i.loop-test.true _ _ refl refl _ _ _ _ _ limit
-    refl (ap (λ k. k + get_or (entry i.before).args.rests.now (beforeIn i) 0) h.choose.ensures) refl
+    (cutting_turn (entry i.before).pre i.before.loop.invariant i.loop-test.true _ _ refl refl _ _ _ _ _ limit
+    refl (ap (λ k. k + get_or (entry i.before).args.rests.now (before_in i) 0) h.choose.ensures) refl
     m.mark_of.ensures)
 
 cast-result : tie.Need-overflow-cast-result invariant-loop decreases-loop
 cast-result c =
     let p = (entry c.before).pre in
-    omega (arith, kept_high p c.before.loop.invariant, p.tree.sound.limit-high)
+    omega (arith, kept_high p c.before.loop.invariant, p.tree.sound.limit_high)
 
 returns : tie.Need-returns invariant-loop decreases-loop
-returns c = cutting-end (entry c.before).pre c.before.loop.invariant c.loop-test.false
+returns c = cutting_end (entry c.before).pre c.before.loop.invariant c.loop-test.false
 
 pub cut-runs-spec : {M : Type 1} → statement M
 cut-runs-spec =

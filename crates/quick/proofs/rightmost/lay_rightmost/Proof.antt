@@ -3,16 +3,16 @@ use Prim.Native.Nat.{◌≤◌}
 use mathlib.Core.Path.{sym, ◌∙◌}
 use lib.ListN.{length-set}
 use native.Mathlib.Omega.{arith}
-use Rattle.model.specs.Table.{nodeCount}
+use Rattle.model.specs.Table.{node_count}
 use Rattle.quick.specs.Rightmost.{Settled}
-use Rattle.quick.proofs.RightmostNodes.{settled-start, settled-plan}
+use Rattle.quick.proofs.RightmostNodes.{settled_start, settled_plan}
 use borrow.Author.Rules.{rules}
 use Rattle.quick.proofs.rightmost.lay_rightmost.Statement.{statement}
 use Rattle.quick.proofs.rightmost.lay_rightmost.Tie as tie
 
 abbrev invariant-loop : tie.invariant-loop
 invariant-loop table marks₀ prevs rests₀ sums₀ lasts₀ v₀ marks rests sums lasts v =
-    (v ≤ nodeCount table) × Settled table prevs rests sums lasts marks v
+    (v ≤ node_count table) × Settled table prevs rests sums lasts marks v
 
 abbrev decreases-loop : tie.decreases-loop
 decreases-loop table marks₀ prevs rests₀ sums₀ lasts₀ v₀ marks rests sums lasts v = v
@@ -24,7 +24,7 @@ loop-holds : tie.Need-loop-init invariant-loop decreases-loop
 loop-holds c =
     let b = c.before.before.before.before in (
       omega (arith, c.node-count.ensures),
-      rw c.node-count.ensures (settled-start b.requires.0 c.before.link-before.ensures b.requires.1),
+      rw c.node-count.ensures (settled_start b.requires.0 c.before.link_before.ensures b.requires.1),
     )
 
 settle-node-requires : tie.Need-settle-node-requires invariant-loop decreases-loop
@@ -46,7 +46,7 @@ same_length c =
     simp length-set (c.before.loop.invariant.1.long ∙ sym b.requires.1)
 
 returns : tie.Need-returns invariant-loop decreases-loop
-returns c = settled-plan (rw c.loop-test.false at c.before.loop.invariant.1)
+returns c = settled_plan (rw c.loop-test.false at c.before.loop.invariant.1)
 
 pub lay-rightmost-spec : {M : Type 1} → statement M
 lay-rightmost-spec =

@@ -3,8 +3,8 @@ use mathlib.Core.Path.{refl}
 use Prim.Native.Nat.{◌<◌}
 use native.Mathlib.Omega.{arith}
 use Rattle.model.specs.Table.{slots}
-use Rattle.theory.specs.TableLinks.{first-le, next_le}
-use Rattle.quick.proofs.RightmostNodes.{settle-cuts, sum_fits, settled-node}
+use Rattle.theory.specs.TableLinks.{first_le, next_le}
+use Rattle.quick.proofs.RightmostNodes.{settle_cuts, sum_fits, settled_node}
 use borrow.Author.Rules.{rules}
 use Rattle.quick.proofs.rightmost.settle_node.Statement.{statement}
 use Rattle.quick.proofs.rightmost.settle_node.Tie as tie
@@ -14,14 +14,14 @@ abbrev entry : tie.After-next-at → tie.Start
 entry n = n.before.before.before.before
 
 -- the places in the arrays
-first_fits : (n : tie.After-next-at) → n.before.first-at.result < slots
+first_fits : (n : tie.After-next-at) → n.before.first_at_lem.result < slots
 first_fits n =
     let p = (entry n).requires in
     omega (
       arith,
-      n.before.first-at.ensures,
-      first-le p.0.tree.sound (entry n).args.v p.1 p.2,
-      p.0.tree.sound.count-high,
+      n.before.first_at_lem.ensures,
+      first_le p.0.tree.sound (entry n).args.v p.1 p.2,
+      p.0.tree.sound.count_high,
     )
 
 next_fits : (n : tie.After-next-at) → n.next-at.result < slots
@@ -31,11 +31,11 @@ next_fits n =
       arith,
       n.next-at.ensures,
       next_le p.0.tree.sound (entry n).args.v p.1 p.2,
-      p.0.tree.sound.count-high,
+      p.0.tree.sound.count_high,
     )
 
 node-fits : (n : tie.After-next-at) → (entry n).args.v < slots
-node-fits n = let p = (entry n).requires in omega (arith, p.2, p.0.tree.sound.count-high)
+node-fits n = let p = (entry n).requires in omega (arith, p.2, p.0.tree.sound.count_high)
 
 -- after the children are cut
 abbrev cut : tie.After-sums → tie.After-cut-runs
@@ -60,7 +60,7 @@ cut-runs-requires : tie.Need-cut-runs-requires
 cut-runs-requires c κs =
     let n = c.before.before.before.before in
     let p = (entry n).requires in
-    settle-cuts p.0 p.1 p.2 _ _ _ n.before.first-at.ensures refl refl
+    settle_cuts p.0 p.1 p.2 _ _ _ n.before.first_at_lem.ensures refl refl
 
 mul-rests : tie.Need-overflow-mul-rests
 mul-rests c = omega (arith, node-fits (links c.before.before))
@@ -81,7 +81,7 @@ add-sums c =
     let p = (entry n).pre in
     omega (
       arith,
-      sum_fits p.0 p.1 p.2 _ _ _ n.before.first-at.ensures refl d.cut-runs.ensures _
+      sum_fits p.0 p.1 p.2 _ _ _ n.before.first_at_lem.ensures refl d.cut-runs.ensures _
           n.next-at.ensures,
     )
 
@@ -108,8 +108,8 @@ returns c =
     let d = cut c.before.before in
     let n = links d in
     let p = (entry n).pre in
-    settled-node p.0 p.1 p.2 _ _ _ n.before.first-at.ensures refl d.cut-runs.ensures _ _
-    n.next-at.ensures c.last-of.ensures d.cut-runs.kept.1.1.1.0
+    settled_node p.0 p.1 p.2 _ _ _ n.before.first_at_lem.ensures refl d.cut-runs.ensures _ _
+    n.next-at.ensures c.last_of_lem.ensures d.cut-runs.kept.1.1.1.0
 
 pub settle-node-spec : {M : Type 1} → statement M
 settle-node-spec =

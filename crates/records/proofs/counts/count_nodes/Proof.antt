@@ -3,21 +3,21 @@ use mathlib.Core.Path.{◌≡◌, ◌∙◌, ap, subst}
 use Prim.Native.Nat.{◌+◌, ◌-◌, ◌≤◌, ◌<◌}
 use native.Mathlib.Omega.{arith}
 use lib.ListN.{length, get_or, length-set, get_or-replicate}
-use Rattle.records.specs.Size.{filmSlots}
-use Rattle.records.specs.Counts.{Counted, counted_start, counted-turn, counted-few}
+use Rattle.records.specs.Size.{film_slots}
+use Rattle.records.specs.Counts.{Counted, counted_start, counted_turn, counted_few}
 use borrow.Author.Rules.{rules}
 use Rattle.records.proofs.counts.count_nodes.Statement.{statement}
 use Rattle.records.proofs.counts.count_nodes.Tie as tie
 
 abbrev invariant-loop : tie.invariant-loop
-invariant-loop page nodes counts₀ v₀ counts v = (length counts ≡ filmSlots) × (v ≤ nodes) × Counted page v counts
+invariant-loop page nodes counts₀ v₀ counts v = (length counts ≡ film_slots) × (v ≤ nodes) × Counted page v counts
 
 abbrev decreases-loop : tie.decreases-loop
 decreases-loop page nodes counts₀ v₀ counts v = nodes - v
 
 -- a page is a place of the array
 page-few : (k : tie.After-shared-slice-known invariant-loop decreases-loop)
-    → get_or k.before.before.before.before.before.args.page.now (k.before.before.loop.v + 1) 0 < filmSlots
+    → get_or k.before.before.before.before.before.args.page.now (k.before.before.loop.v + 1) 0 < film_slots
 page-few k =
     k.before.before.before.before.before.requires.1 (k.before.before.loop.v + 1) (omega arith) (omega arith)
 
@@ -30,7 +30,7 @@ loop-holds c =
       ap length start.requires.3,
       omega arith,
       counted_start start.args.page.now start.args.counts.now
-          (λ k fits. ap (λ l. get_or l k 0) start.requires.3 ∙ get_or-replicate filmSlots k 0 0 fits),
+          (λ k fits. ap (λ l. get_or l k 0) start.requires.3 ∙ get_or-replicate film_slots k 0 0 fits),
     )
 
 cast-p-2 : tie.Need-overflow-cast-p-2 invariant-loop decreases-loop
@@ -46,7 +46,7 @@ add-counts : tie.Need-overflow-add-counts invariant-loop decreases-loop
 add-counts c =
     let l = c.before.before.before.loop in
     let counted =
-    counted-few c.before.before.before.before.before.before.args.page.now l.counts l.v _ l.invariant.2
+    counted_few c.before.before.before.before.before.before.args.page.now l.counts l.v _ l.invariant.2
     (page-few c.before) in search rules
 
 mul-counts-2 : tie.Need-overflow-mul-counts-2 invariant-loop decreases-loop
@@ -60,7 +60,7 @@ loop-again c =
     let l = c.before.before.before.loop in (
       simp length-set l.invariant.0,
       omega arith,
-      counted-turn c.before.before.before.before.before.before.args.page.now l.counts l.v l.invariant.2
+      counted_turn c.before.before.before.before.before.before.args.page.now l.counts l.v l.invariant.2
           l.invariant.0 (page-few c.before),
     )
 

@@ -6,15 +6,15 @@ use Prim.Native.Nat.{◌≤◌, ◌<◌}
 use native.Mathlib.Omega.{arith}
 use lib.ListN.{length, get_or}
 use lib.ListN.{length-set, replicate, get_or-replicate}
-use Rattle.records.specs.Size.{filmSlots}
-use Rattle.records.specs.Links.{Seen, LinkedFrom, seen_start, seen-turn, linked-start, linked-turn}
+use Rattle.records.specs.Size.{film_slots}
+use Rattle.records.specs.Links.{Seen, LinkedFrom, seen_start, seen_turn, linked_start, linked_turn}
 use borrow.Author.Rules.{rules}
 use Rattle.records.proofs.links.link_next.Statement.{statement}
 use Rattle.records.proofs.links.link_next.Tie as tie
 
 abbrev invariant-loop : tie.invariant-loop
 invariant-loop keys nodes seen₀ next₀ v₀ seen next v =
-    (length seen ≡ filmSlots) × (length next ≡ filmSlots) × (v ≤ nodes) × Seen (λ u. get_or keys u 0) nodes v seen
+    (length seen ≡ film_slots) × (length next ≡ film_slots) × (v ≤ nodes) × Seen (λ u. get_or keys u 0) nodes v seen
     × LinkedFrom (λ u. get_or keys u 0) nodes v next
 
 abbrev decreases-loop : tie.decreases-loop
@@ -22,7 +22,7 @@ decreases-loop keys nodes seen₀ next₀ v₀ seen next v = v
 
 -- a key is a place of the arrays
 key-few : (k : tie.After-shared-slice-known invariant-loop decreases-loop)
-    → get_or k.before.before.before.args.keys.now k.before.before.loop.v 0 < filmSlots
+    → get_or k.before.before.before.args.keys.now k.before.before.loop.v 0 < film_slots
 key-few k = k.before.before.before.requires.1 k.before.before.loop.v (omega arith) (omega arith)
 
 loop-holds : tie.Need-loop-init invariant-loop decreases-loop
@@ -30,8 +30,8 @@ loop-holds c = (
   refl,
   refl,
   omega arith,
-  seen_start _ _ (replicate filmSlots 0) (λ k fits. get_or-replicate filmSlots k 0 0 fits),
-  linked-start _ _ (replicate filmSlots 0),
+  seen_start _ _ (replicate film_slots 0) (λ k fits. get_or-replicate film_slots k 0 0 fits),
+  linked_start _ _ (replicate film_slots 0),
 )
 
 cast-key-2 : tie.Need-overflow-cast-key-2 invariant-loop decreases-loop
@@ -57,9 +57,9 @@ loop-again c =
       simp length-set l.invariant.0,
       simp length-set l.invariant.1,
       omega arith,
-      seen-turn (λ u. get_or keys u 0) start.args.nodes l.seen l.v l.invariant.3 l.invariant.0 (omega arith)
+      seen_turn (λ u. get_or keys u 0) start.args.nodes l.seen l.v l.invariant.3 l.invariant.0 (omega arith)
           l.invariant.2 (key-few c),
-      linked-turn (λ u. get_or keys u 0) start.args.nodes l.seen l.next l.v l.invariant.3 l.invariant.4
+      linked_turn (λ u. get_or keys u 0) start.args.nodes l.seen l.next l.v l.invariant.3 l.invariant.4
           (omega (arith, l.invariant.1, start.requires.0)) (key-few c) (omega arith),
     )
 

@@ -4,10 +4,10 @@ use mathlib.Core.Path.{◌≡◌, refl, ◌∙◌, subst}
 use Prim.Native.Nat.{◌+◌, ◌-◌, ◌*◌, ◌≤◌}
 use native.Mathlib.Omega.{arith}
 use lib.ListN.{length}
-use Rattle.model.specs.Table.{nodeCount, maxNodes}
-use Rattle.theory.specs.Put.{RecordsPut, records-none, records-four}
-use Rattle.records.specs.Size.{mostPage, page-words}
-use Rattle.records.specs.RecordsOf.{nodeRow, node_wide, node_row}
+use Rattle.model.specs.Table.{node_count, max_nodes}
+use Rattle.theory.specs.Put.{RecordsPut, records_none, records_four}
+use Rattle.records.specs.Size.{most_page, page_words}
+use Rattle.records.specs.RecordsOf.{node_row, node_wide, node_row_lem}
 use borrow.Author.Rules.{rules}
 use Rattle.records.proofs.records.put_nodes.Statement.{statement}
 use Rattle.records.proofs.records.put_nodes.Tie as tie
@@ -15,15 +15,15 @@ use Rattle.records.proofs.records.put_nodes.Tie as tie
 abbrev invariant-loop : tie.invariant-loop
 invariant-loop table parents nexts pages out₀ nodes at₀ v₀ out at v =
     (v ≤ nodes) × (length out ≡ length out₀) × (at ≡ at₀ + 4 * v)
-    × RecordsPut (nodeRow table parents nexts) at₀ v out₀ out
+    × RecordsPut (node_row table parents nexts) at₀ v out₀ out
 
 abbrev decreases-loop : tie.decreases-loop
 decreases-loop table parents nexts pages out₀ nodes at₀ v₀ out at v = nodes - v
 
 -- the words of the page records
 few : (n : tie.After-node-count invariant-loop decreases-loop)
-    → n.before.before.before.args.e.page * n.before.before.before.args.pages ≤ mostPage * maxNodes
-few n = page-words n.before.before.before.requires.0 _ maxNodes (omega (arith, n.before.before.before.requires.2))
+    → n.before.before.before.args.e.page * n.before.before.before.args.pages ≤ most_page * max_nodes
+few n = page_words n.before.before.before.requires.0 _ max_nodes (omega (arith, n.before.before.before.requires.2))
 
 mul_at : tie.Need-overflow-mul-at invariant-loop decreases-loop
 mul_at c = let h = few c.before.before in search rules
@@ -35,7 +35,7 @@ loop-holds : tie.Need-loop-init invariant-loop decreases-loop
 loop-holds c =
     let a = c.before.before.before.before.before.args in
     let wide = node_wide a.table.now a.parents.now a.nexts.now in
-    (omega arith, refl, omega arith, records-none _ 4 wide _ a.out.now)
+    (omega arith, refl, omega arith, records_none _ 4 wide _ a.out.now)
 
 put-record-requires : tie.Need-put-record-requires invariant-loop decreases-loop
 put-record-requires c κs =
@@ -61,14 +61,14 @@ loop-again c =
     let put = c.before.before.put_record in
     let wide = node_wide a.table.now a.parents.now a.nexts.now in
     let row =
-    node_row a.table.now a.parents.now a.nexts.now (l.v + 1) _ _
-    c.before.before.before.before.before.before.before.weight-at.ensures
+    node_row_lem a.table.now a.parents.now a.nexts.now (l.v + 1) _ _
+    c.before.before.before.before.before.before.before.weight_at_lem.ensures
     c.before.before.before.before.before.before.label_at.ensures in
     let less = c.before.before.before.before.before.before.before.before.loop-test.true in (
       omega arith,
       put.auto.0 ∙ l.invariant.1,
       omega (arith, l.invariant.2),
-      records-four _ 4 wide _ l.v a.out.now l.out _ l.at _ _ _ _ l.invariant.3 l.invariant.2
+      records_four _ 4 wide _ l.v a.out.now l.out _ l.at _ _ _ _ l.invariant.3 l.invariant.2
           (omega (arith, l.invariant.1, l.invariant.2, start.requires.3, n.node-count.ensures)) put.ensures row,
     )
 
@@ -80,10 +80,10 @@ returns c =
     let l = c.before.loop in
     let n = c.before.before.before.before in
     let a = n.before.before.before.args in
-    let same : l.v ≡ nodeCount a.table.now =
+    let same : l.v ≡ node_count a.table.now =
     omega (arith, n.node-count.ensures, c.loop-test.false, l.invariant.0) in
     let words = a.e.head + a.e.page * a.pages in
-    subst (λ k. RecordsPut (nodeRow a.table.now a.parents.now a.nexts.now) words k a.out.now l.out)
+    subst (λ k. RecordsPut (node_row a.table.now a.parents.now a.nexts.now) words k a.out.now l.out)
     same
     l.invariant.3
 

@@ -4,10 +4,10 @@ use mathlib.Core.Path.{◌≡◌, refl, ◌∙◌, subst}
 use Prim.Native.Nat.{◌+◌, ◌-◌, ◌*◌, ◌≤◌}
 use native.Mathlib.Omega.{arith}
 use lib.ListN.{length}
-use Rattle.model.specs.Table.{maxNodes}
-use Rattle.theory.specs.Put.{RecordsPut, records-none}
-use Rattle.records.specs.Size.{mostPage, page-words}
-use Rattle.records.specs.RecordsOf.{pageRow, page-wide, page-put}
+use Rattle.model.specs.Table.{max_nodes}
+use Rattle.theory.specs.Put.{RecordsPut, records_none}
+use Rattle.records.specs.Size.{most_page, page_words}
+use Rattle.records.specs.RecordsOf.{page_row, page_wide, page_put}
 use borrow.Author.Rules.{rules}
 use Rattle.records.proofs.records.put_pages.Statement.{statement}
 use Rattle.records.proofs.records.put_pages.Tie as tie
@@ -15,25 +15,25 @@ use Rattle.records.proofs.records.put_pages.Tie as tie
 abbrev invariant-loop : tie.invariant-loop
 invariant-loop e firsts lasts weights counts pages out₀ at₀ p₀ out at p =
     (p ≤ pages) × (length out ≡ length out₀) × (at ≡ e.head + e.page * p)
-    × RecordsPut (pageRow e firsts lasts weights counts pages) e.head p out₀ out
+    × RecordsPut (page_row e firsts lasts weights counts pages) e.head p out₀ out
 
 abbrev decreases-loop : tie.decreases-loop
 decreases-loop e firsts lasts weights counts pages out₀ at₀ p₀ out at p = pages - p
 
 -- the words of the page records passed
 few : (l : tie.At-loop invariant-loop decreases-loop)
-    → l.before.before.before.args.e.page * l.loop.p ≤ mostPage * maxNodes
+    → l.before.before.before.args.e.page * l.loop.p ≤ most_page * max_nodes
 few l =
     let start = l.before.before.before in
-    page-words start.requires.0 l.loop.p maxNodes (omega (arith, start.requires.1, l.loop.invariant.0))
+    page_words start.requires.0 l.loop.p max_nodes (omega (arith, start.requires.1, l.loop.invariant.0))
 
 loop-holds : tie.Need-loop-init invariant-loop decreases-loop
 loop-holds c =
     let start = c.before.before in
     let a = start.args in
     let wide =
-    page-wide start.requires.0 a.firsts.now a.lasts.now a.weights.now a.counts.now a.pages in
-    (omega arith, refl, omega arith, records-none _ a.e.page wide a.e.head a.out.now)
+    page_wide start.requires.0 a.firsts.now a.lasts.now a.weights.now a.counts.now a.pages in
+    (omega arith, refl, omega arith, records_none _ a.e.page wide a.e.head a.out.now)
 
 cast-weight-2 : tie.Need-overflow-cast-weight-2 invariant-loop decreases-loop
 cast-weight-2 c =
@@ -69,7 +69,7 @@ loop-again c =
       omega (arith, i.loop-test.true),
       fifth.put-fifth.auto.1.0 ∙ put.put_record.auto.0 ∙ l.invariant.1,
       omega (arith, l.invariant.2),
-      page-put start.requires.0 a.firsts.now a.lasts.now a.weights.now a.counts.now a.pages l.p
+      page_put start.requires.0 a.firsts.now a.lasts.now a.weights.now a.counts.now a.pages l.p
           l.at _ a.out.now l.out _ _ l.invariant.3 l.invariant.2 i.loop-test.true
           (omega (arith, l.invariant.1, start.requires.3)) after.page-after.ensures put.put_record.ensures
           fifth.put-fifth.ensures,
@@ -84,7 +84,7 @@ returns c =
     let a = c.before.before.before.before.args in
     let same : l.p ≡ a.pages = omega (arith, c.loop-test.false, l.invariant.0) in
     subst
-    (λ k. RecordsPut (pageRow a.e a.firsts.now a.lasts.now a.weights.now a.counts.now a.pages)
+    (λ k. RecordsPut (page_row a.e a.firsts.now a.lasts.now a.weights.now a.counts.now a.pages)
     a.e.head k a.out.now l.out)
     same l.invariant.3
 

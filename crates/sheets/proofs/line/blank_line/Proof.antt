@@ -1,12 +1,12 @@
 -- `sheets::line::blank_line` meets its contract. Assumes nothing.
 use mathlib.Core.Path.{refl}
-use Rattle.model.specs.Sheets.{lineWith}
+use Rattle.model.specs.Sheets.{line_with}
 use borrow.Author.Rules.{rules}
 use Rattle.sheets.proofs.line.blank_line.Statement.{statement}
 use Rattle.sheets.proofs.line.blank_line.Tie as tie
 
 returns : tie.Need-returns
-unfolding lineWith
+unfolding line_with
 returns c = refl
 
 pub blank-line-spec : {M : Type 1} → statement M

@@ -3,9 +3,9 @@ use mathlib.Core.Path.{refl, ◌∙◌, ap}
 use mathlib.Core.List.{List, [], ◌++◌}
 use Prim.Native.Nat.{ℕ}
 use native.Mathlib.Omega.{arith}
-use Rattle.model.specs.Sheets.{field, lineWith, lineForPage}
+use Rattle.model.specs.Sheets.{field, line_with, line_for_page}
 use Rattle.theory.specs.SheetLines.{length-field, length_more}
-use Rattle.theory.specs.PromiseSheets.{share-most}
+use Rattle.theory.specs.PromiseSheets.{share_most}
 use borrow.Author.Rules.{rules}
 use Rattle.sheets.proofs.line.page_line.Statement.{statement}
 use Rattle.sheets.proofs.line.page_line.Tie as tie
@@ -13,10 +13,10 @@ use Rattle.sheets.proofs.line.page_line.Tie as tie
 put-field-requires-5 : tie.Need-put-field-requires-5
 put-field-requires-5 c κs =
     let s = c.before.before.before.before.before.before in
-    (omega arith, omega arith, omega (arith, c.per-cent.ensures, share-most _ _ s.requires.1))
+    (omega arith, omega arith, omega (arith, c.per-cent.ensures, share_most _ _ s.requires.1))
 
 returns : tie.Need-returns
-unfolding lineForPage
+unfolding line_for_page
 returns c =
     let share = c.before in
     let four = share.before in
@@ -29,12 +29,12 @@ returns c =
     let weighed : List ℕ = ended ++ field 6 a.weight in
     let long-two = length_more (field 6 a.p) 6 a.first 6 (length-field 6 a.p) in
     let long-three = length_more begun 6 a.last 12 long-two in
-    let is_one = one.put-field.ensures [] refl one.before.blank-line.ensures in
-    let is-two = two.put-field2.ensures (field 6 a.p) (length-field 6 a.p) is_one in
-    let is-three = three.put-field3.ensures begun long-two is-two in
+    let is_one = one.put-field.ensures [] refl one.before.blank_line.ensures in
+    let is_two = two.put-field2.ensures (field 6 a.p) (length-field 6 a.p) is_one in
+    let is-three = three.put-field3.ensures begun long-two is_two in
     let is-four = four.put-field4.ensures ended long-three is-three in
     c.put-field5.ensures weighed (length_more ended 6 a.weight 18 long-three) is-four
-    ∙ ap (λ n. lineWith (weighed ++ field 4 n)) share.per-cent.ensures
+    ∙ ap (λ n. line_with (weighed ++ field 4 n)) share.per-cent.ensures
 
 pub page-line-spec : {M : Type 1} → statement M
 page-line-spec =

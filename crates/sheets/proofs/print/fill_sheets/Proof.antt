@@ -2,9 +2,9 @@
 use mathlib.Core.List.{[]}
 use mathlib.Core.Path.{◌∙◌, ap}
 use lib.ListN.{get_or}
-use Rattle.model.specs.Sheets.{sheetsBy}
-use Rattle.sheets.specs.Lines.{pageIn}
-use Rattle.sheets.specs.LayoutSheets.{layout-sheets}
+use Rattle.model.specs.Sheets.{sheets_by}
+use Rattle.sheets.specs.Lines.{page_in}
+use Rattle.sheets.specs.LayoutSheets.{layout_sheets}
 use borrow.Author.Rules.{rules}
 use Rattle.sheets.proofs.print.fill_sheets.Statement.{statement}
 use Rattle.sheets.proofs.print.fill_sheets.Tie as tie
@@ -22,9 +22,9 @@ returns c =
     let s = l.before.before.before.before in
     let a = s.args in
     p.put-sheets.ensures
-    ∙ ap (λ k. sheetsBy a.pages k (pageIn (get_or a.rows.now 2 []) (get_or a.rows.now 3 []) a.weights.now))
+    ∙ ap (λ k. sheets_by a.pages k (page_in (get_or a.rows.now 2 []) (get_or a.rows.now 3 []) a.weights.now))
     l.limit-of.ensures
-    ∙ layout-sheets s.requires.0
+    ∙ layout_sheets s.requires.0
 
 pub fill-sheets-spec : {M : Type 1} → statement M
 fill-sheets-spec =

@@ -4,14 +4,14 @@ use mathlib.Core.List.{List}
 use mathlib.Core.Path.{◌≡◌, refl, sym, ap, ap₂, ◌∙◌}
 use Prim.Native.Nat.{ℕ, ◌*◌}
 use native.Mathlib.Omega.{arith}
-use Rattle.model.specs.Plan.{pageCount}
-use Rattle.model.specs.Sheets.{sheetBytes, sheetCount}
-use Rattle.model.specs.Refusals.{refused, plainRules, feasibleBy, printChecks, outcome, printSheets}
+use Rattle.model.specs.Plan.{page_count}
+use Rattle.model.specs.Sheets.{sheet_bytes, sheet_count}
+use Rattle.model.specs.Refusals.{refused, plain_rules, feasible_by, print_checks, outcome, print_sheets}
 use Rattle.model.specs.Demand.{PrintPromise}
 use Rattle.model.specs.declared.Answer.{Answer}
 use Rattle.theory.specs.Entries.{promised}
-use Rattle.theory.specs.JudgedEntries.{judge-passes, judge-given, judge-stands, after-stands, after-done}
-use Rattle.theory.specs.PromiseSheets.{sheet-short, sheet-long, print-promise}
+use Rattle.theory.specs.JudgedEntries.{judge_passes, judge_given, judge_stands, after_stands, after_done}
+use Rattle.theory.specs.PromiseSheets.{sheet_short, sheet_long, print_promise}
 use Rattle.layout.specs.Rows.{layout_of, FeasibleLayout}
 use borrow.Author.Rules.{rules}
 use Rattle.sheets.proofs.print.print_sheets.Statement.{statement}
@@ -31,9 +31,9 @@ module _ (j : tie.After-judge-pages) where
   out = start.args.out.now
 
   -- with the promise
-  both : {r : Answer} {x : List ℕ} → outcome r x ≡ printSheets table marks out
-      → (outcome r x ≡ printSheets table marks out) × PrintPromise table marks out r x
-  both = promised (PrintPromise table marks out) (print-promise table marks out)
+  both : {r : Answer} {x : List ℕ} → outcome r x ≡ print_sheets table marks out
+      → (outcome r x ≡ print_sheets table marks out) × PrintPromise table marks out r x
+  both = promised (PrintPromise table marks out) (print_promise table marks out)
 
 -- ---- Where the judge accepts
 
@@ -41,9 +41,9 @@ module _ (p : tie.Else1) where
   abbrev judge : tie.After-judge-pages
   judge = p.before.before.before
 
-  feasible : feasibleBy plainRules (table judge) (marks judge) ≡ true
+  feasible : feasible_by plain_rules (table judge) (marks judge) ≡ true
   feasible =
-      judge-passes plainRules (table judge) (marks judge)
+      judge_passes plain_rules (table judge) (marks judge)
       (sym (ap (λ (x : Answer). x.number) judge.judge-pages.ensures.0) ∙ p.if1.left)
 
   layout : FeasibleLayout (table judge) (marks judge)
@@ -51,27 +51,27 @@ module _ (p : tie.Else1) where
   layout = judge.judge-pages.ensures.1.feasible p.if1.left
 
 size_is : (b : tie.After-sheet-bytes)
-    → (let j = judge b.before in b.sheet-bytes.result ≡ sheetBytes * sheetCount (pageCount (table j) (marks j)))
-size_is b = b.sheet-bytes.ensures ∙ ap (λ n. sheetBytes * sheetCount n) (layout b.before).pages-are
+    → (let j = judge b.before in b.sheet-bytes.result ≡ sheet_bytes * sheet_count (page_count (table j) (marks j)))
+size_is b = b.sheet-bytes.ensures ∙ ap (λ n. sheet_bytes * sheet_count n) (layout b.before).pages_are
 
 -- ---- The needs
 
 returns : tie.Need-returns
-unfolding printSheets printChecks
+unfolding print_sheets print_checks
 returns c =
     let j = c.before.before.before in
-    both j (judge-stands plainRules (table j) (marks j) _ _ _ j.judge-pages.ensures.0 c.if1.true)
+    both j (judge_stands plain_rules (table j) (marks j) _ _ _ j.judge-pages.ensures.0 c.if1.true)
 
 returns-2 : tie.Need-returns-2
-unfolding printSheets printChecks
+unfolding print_sheets print_checks
 returns-2 c =
     let b = c.before.before in
     let p = b.before in
     let j = judge p in
     both j
-    (after-stands plainRules (table j) (marks j) _ _ _ (feasible p)
+    (after_stands plain_rules (table j) (marks j) _ _ _ (feasible p)
     (c.refuse.ensures ∙ ap (refused 12) (size_is b)
-    ∙ sheet-short (table j) (marks j) (out j) (λ fits. omega (arith, c.before.if2.true, size_is b)))
+    ∙ sheet_short (table j) (marks j) (out j) (λ fits. omega (arith, c.before.if2.true, size_is b)))
     (λ z. omega (arith, ap (λ (x : Answer). x.number) c.refuse.ensures)))
 
 fill-sheets-requires : tie.Need-fill-sheets-requires
@@ -80,7 +80,7 @@ fill-sheets-requires c κs =
     let b = e.before in (layout b.before, e.if2.false ∙ b.sheet-bytes.ensures)
 
 returns-3 : tie.Need-returns-3
-unfolding printSheets printChecks
+unfolding print_sheets print_checks
 returns-3 c =
     let f = c.before.before in
     let e = f.before.before.before.before in
@@ -88,11 +88,11 @@ returns-3 c =
     let p = b.before in
     let j = judge p in
     both j
-    (ap₂ outcome (j.judge-pages.ensures.0 ∙ judge-given plainRules (table j) (marks j) (feasible p))
+    (ap₂ outcome (j.judge-pages.ensures.0 ∙ judge_given plain_rules (table j) (marks j) (feasible p))
     f.fill-sheets.ensures
     ∙ sym
-    (after-done plainRules (table j) (marks j) _ _ _ (feasible p)
-    (sheet-long (table j) (marks j) (out j) (e.if2.false ∙ size_is b))))
+    (after_done plain_rules (table j) (marks j) _ _ _ (feasible p)
+    (sheet_long (table j) (marks j) (out j) (e.if2.false ∙ size_is b))))
 
 pub print-sheets-spec : {M : Type 1} → statement M
 print-sheets-spec =

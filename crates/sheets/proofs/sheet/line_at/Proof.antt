@@ -3,34 +3,34 @@ use mathlib.Core.Path.{refl, sym, ◌∙◌, ap}
 use Prim.Native.Nat.{ℕ}
 use native.Mathlib.Omega.{arith}
 use Rattle.model.specs.Sheets.{PageFigures, line_at}
-use Rattle.theory.specs.SheetLines.{first-line, last_line, page-line, blank-line}
-use Rattle.sheets.specs.Lines.{pageIn}
+use Rattle.theory.specs.SheetLines.{first_line_lem, last_line_lem, page_line_lem, blank_line}
+use Rattle.sheets.specs.Lines.{page_in}
 use borrow.Author.Rules.{rules}
 use Rattle.sheets.proofs.sheet.line_at.Statement.{statement}
 use Rattle.sheets.proofs.sheet.line_at.Tie as tie
 
 abbrev page : tie.Start → ℕ → PageFigures
-page s = pageIn s.args.firsts.now s.args.lasts.now s.args.weights.now
+page s = page_in s.args.firsts.now s.args.lasts.now s.args.weights.now
 
 returns : tie.Need-returns
 returns c =
     let s = c.before.before in
-    c.first-line.ensures
-    ∙ sym (ap (line_at _ _ (page s) s.args.sheet) c.before.if1.true ∙ first-line _ _ (page s) s.args.sheet)
+    c.first_line_lem.ensures
+    ∙ sym (ap (line_at _ _ (page s) s.args.sheet) c.before.if1.true ∙ first_line_lem _ _ (page s) s.args.sheet)
 
 returns-2 : tie.Need-returns-2
 returns-2 c =
     let s = c.before.before.before in
     c.last_line.ensures
-    ∙ sym (ap (line_at _ _ (page s) s.args.sheet) c.before.if2.true ∙ last_line _ _ (page s) s.args.sheet)
+    ∙ sym (ap (line_at _ _ (page s) s.args.sheet) c.before.if2.true ∙ last_line_lem _ _ (page s) s.args.sheet)
 
 returns-3 : tie.Need-returns-3
 returns-3 c =
     let e = c.before.before in
     let s = e.before.before in
-    c.blank-line.ensures
+    c.blank_line.ensures
     ∙ sym
-    (blank-line _ _ (page s) s.args.sheet s.args.l _ (e.before.if1.false, e.if2.false) refl
+    (blank_line _ _ (page s) s.args.sheet s.args.l _ (e.before.if1.false, e.if2.false) refl
     c.before.if3.true)
 
 page-line-requires : tie.Need-page-line-requires
@@ -45,9 +45,9 @@ returns-4 : tie.Need-returns-4
 returns-4 c =
     let e = c.before.before.before.before in
     let s = e.before.before.before in
-    c.page-line.ensures
+    c.page_line_lem.ensures
     ∙ sym
-    (page-line _ _ (page s) s.args.sheet s.args.l _ (e.before.before.if1.false, e.before.if2.false) refl
+    (page_line_lem _ _ (page s) s.args.sheet s.args.l _ (e.before.before.if1.false, e.before.if2.false) refl
     (omega (arith, e.if3.false)))
 
 pub line-at-spec : {M : Type 1} → statement M

@@ -3,23 +3,23 @@ use mathlib.Core.Path.{ap}
 use Prim.Native.Nat.{◌+◌, ◌-◌, ◌≤◌}
 use native.Mathlib.Omega.{arith}
 use lib.ListN.{length}
-use Rattle.model.specs.Sheets.{lineLength, sheetLines, line_at, sheetAt}
-use Rattle.theory.specs.SheetLines.{length-lineAt}
-use Rattle.sheets.specs.Lines.{pageIn}
-use Rattle.sheets.proofs.Placed.{Placed, placed-start, placed-turn, placed_at, placed_end}
+use Rattle.model.specs.Sheets.{line_length, sheet_lines, line_at, sheet_at}
+use Rattle.theory.specs.SheetLines.{length_line_at}
+use Rattle.sheets.specs.Lines.{page_in}
+use Rattle.sheets.proofs.Placed.{Placed, placed_start, placed_turn, placed_at, placed_end}
 use borrow.Author.Rules.{rules}
 use Rattle.sheets.proofs.sheet.put_sheet.Statement.{statement}
 use Rattle.sheets.proofs.sheet.put_sheet.Tie as tie
 
 abbrev invariant-loop : tie.invariant-loop
 invariant-loop firsts lasts weights pages limit sheet out₀ at end₀ l₀ out end l =
-    (l ≤ sheetLines) × Placed (line_at pages limit (pageIn firsts lasts weights) sheet) out₀ at l out end
+    (l ≤ sheet_lines) × Placed (line_at pages limit (page_in firsts lasts weights) sheet) out₀ at l out end
 
 abbrev decreases-loop : tie.decreases-loop
-decreases-loop firsts lasts weights pages limit sheet out₀ at end₀ l₀ out end l = sheetLines - l
+decreases-loop firsts lasts weights pages limit sheet out₀ at end₀ l₀ out end l = sheet_lines - l
 
 loop-holds : tie.Need-loop-init invariant-loop decreases-loop
-loop-holds c = (omega arith, placed-start _ _ _)
+loop-holds c = (omega arith, placed_start _ _ _)
 
 line-at-requires : tie.Need-line-at-requires invariant-loop decreases-loop
 line-at-requires c κs =
@@ -32,12 +32,12 @@ put-text-requires c κs =
     let l = t.before.before.loop in
     let s = t.before.before.before.before in
     let a = s.args in
-    let wide = length-lineAt a.pages a.limit (pageIn a.firsts.now a.lasts.now a.weights.now) in
+    let wide = length_line_at a.pages a.limit (page_in a.firsts.now a.lasts.now a.weights.now) in
     omega (
       arith,
       ap length t.line_at_lem.ensures,
       wide a.sheet (l.l + 1),
-      placed_at lineLength (wide a.sheet) l.invariant.1,
+      placed_at line_length (wide a.sheet) l.invariant.1,
       l.invariant.1.long,
       s.requires.3,
       t.before.loop-test.true,
@@ -48,7 +48,7 @@ loop-again c =
     let p = c.before.before.put-text in
     let t = c.before.before.before.before.before in (
       omega (arith, t.before.loop-test.true),
-      placed-turn t.before.before.loop.invariant.1 p.ensures
+      placed_turn t.before.before.loop.invariant.1 p.ensures
           t.line_at_lem.ensures p.auto.0,
     )
 
@@ -56,10 +56,10 @@ same_length : tie.Need-same-length invariant-loop decreases-loop
 same_length c = c.before.loop.invariant.1.long
 
 returns : tie.Need-returns invariant-loop decreases-loop
-unfolding sheetAt
+unfolding sheet_at
 returns c =
     let l = c.before.loop in
-    placed_end sheetLines l.invariant.1 (omega (arith, l.invariant.0, c.loop-test.false))
+    placed_end sheet_lines l.invariant.1 (omega (arith, l.invariant.0, c.loop-test.false))
 
 pub put-sheet-spec : {M : Type 1} → statement M
 put-sheet-spec =

@@ -2,18 +2,18 @@
 use mathlib.Core.Path.{refl}
 use Prim.Native.Nat.{◌-◌, ◌≤◌}
 use native.Mathlib.Omega.{arith}
-use Rattle.model.specs.Sheets.{sheetBytes, sheetCount, sheetAt, sheetsBy}
-use Rattle.theory.specs.Appended.{filled-all}
-use Rattle.theory.specs.SheetLines.{length-sheetAt}
-use Rattle.sheets.specs.Lines.{pageIn}
-use Rattle.sheets.proofs.Placed.{Placed, placed-start, placed-turn, placed_at, placed_end}
+use Rattle.model.specs.Sheets.{sheet_bytes, sheet_count, sheet_at, sheets_by}
+use Rattle.theory.specs.Appended.{filled_all}
+use Rattle.theory.specs.SheetLines.{length-sheet_at}
+use Rattle.sheets.specs.Lines.{page_in}
+use Rattle.sheets.proofs.Placed.{Placed, placed_start, placed_turn, placed_at, placed_end}
 use borrow.Author.Rules.{rules}
 use Rattle.sheets.proofs.sheet.put_sheets.Statement.{statement}
 use Rattle.sheets.proofs.sheet.put_sheets.Tie as tie
 
 abbrev invariant-loop : tie.invariant-loop
 invariant-loop firsts lasts weights pages limit out₀ sheets at₀ s₀ out at s =
-    (s ≤ sheets) × Placed (sheetAt pages limit (pageIn firsts lasts weights)) out₀ 0 s out at
+    (s ≤ sheets) × Placed (sheet_at pages limit (page_in firsts lasts weights)) out₀ 0 s out at
 
 abbrev decreases-loop : tie.decreases-loop
 decreases-loop firsts lasts weights pages limit out₀ sheets at₀ s₀ out at s = sheets - s
@@ -22,7 +22,7 @@ sheet-count-requires : tie.Need-sheet-count-requires invariant-loop decreases-lo
 sheet-count-requires c κs = c.before.requires.0.few
 
 loop-holds : tie.Need-loop-init invariant-loop decreases-loop
-loop-holds c = (omega arith, placed-start _ _ 0)
+loop-holds c = (omega arith, placed_start _ _ 0)
 
 put-sheet-requires : tie.Need-put-sheet-requires invariant-loop decreases-loop
 put-sheet-requires c κs =
@@ -30,13 +30,13 @@ put-sheet-requires c κs =
     let n = c.before.before.before in
     let s = n.before.before in
     let a = s.args in
-    let wide = length-sheetAt a.pages a.limit (pageIn a.firsts.now a.lasts.now a.weights.now) in (
+    let wide = length-sheet_at a.pages a.limit (page_in a.firsts.now a.lasts.now a.weights.now) in (
       s.requires.0,
       omega arith,
       omega (arith, n.sheet-count.ensures, c.before.loop-test.true),
       omega (
         arith,
-        placed_at sheetBytes wide l.invariant.1,
+        placed_at sheet_bytes wide l.invariant.1,
         l.invariant.1.long,
         s.requires.1,
         n.sheet-count.ensures,
@@ -49,7 +49,7 @@ loop-again c =
     let p = c.before.before.put-sheet in
     let i = c.before.before.before.before in (
       omega (arith, i.loop-test.true),
-      placed-turn i.before.loop.invariant.1 p.ensures refl
+      placed_turn i.before.loop.invariant.1 p.ensures refl
           p.auto.1.1.1.1.1.1.0,
     )
 
@@ -57,19 +57,19 @@ same_length : tie.Need-same-length invariant-loop decreases-loop
 same_length c = c.before.loop.invariant.1.long
 
 returns : tie.Need-returns invariant-loop decreases-loop
-unfolding sheetsBy
+unfolding sheets_by
 returns c =
     let l = c.before.loop in
     let n = c.before.before in
     let s = n.before.before in
     let a = s.args in
-    let wide = length-sheetAt a.pages a.limit (pageIn a.firsts.now a.lasts.now a.weights.now) in
-    filled-all
-    (placed_end (sheetCount a.pages) l.invariant.1
+    let wide = length-sheet_at a.pages a.limit (page_in a.firsts.now a.lasts.now a.weights.now) in
+    filled_all
+    (placed_end (sheet_count a.pages) l.invariant.1
     (omega (arith, l.invariant.0, c.loop-test.false, n.sheet-count.ensures)))
     (omega (
       arith,
-      placed_at sheetBytes wide l.invariant.1,
+      placed_at sheet_bytes wide l.invariant.1,
       l.invariant.1.long,
       s.requires.1,
       l.invariant.0,

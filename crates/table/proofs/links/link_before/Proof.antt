@@ -1,7 +1,7 @@
 -- `table::links::link_before` meets its contract. Assumes nothing.
 use Prim.Native.Nat.{◌+◌, ◌-◌, ◌≤◌}
 use native.Mathlib.Omega.{arith}
-use Rattle.table.proofs.Linking.{Linking, linking-start, link_fits, linking-turn, linking-end}
+use Rattle.table.proofs.Linking.{Linking, linking_start, link_fits, linking_turn, linking_end}
 use borrow.Author.Rules.{rules}
 use Rattle.table.proofs.links.link_before.Statement.{statement}
 use Rattle.table.proofs.links.link_before.Tie as tie
@@ -13,7 +13,7 @@ abbrev decreases-loop : tie.decreases-loop
 decreases-loop table nodes prevs₀ v₀ prevs v = nodes - v
 
 loop-holds : tie.Need-loop-init invariant-loop decreases-loop
-loop-holds c = (omega arith, linking-start _)
+loop-holds c = (omega arith, linking_start _)
 
 array-write-prevs : tie.Need-array-write-prevs invariant-loop decreases-loop
 array-write-prevs c =
@@ -26,13 +26,13 @@ loop-again c =
     let l = c.before.before.loop in
     let p = c.before.before.before.before.before.requires in
     let x = c.next-at in
-    (omega arith, linking-turn p l.v x.result l.prevs (omega arith) x.ensures l.invariant.1)
+    (omega arith, linking_turn p l.v x.result l.prevs (omega arith) x.ensures l.invariant.1)
 
 returns : tie.Need-returns invariant-loop decreases-loop
 returns c =
     let l = c.before.loop in
     let n = c.before.before.node-count.ensures in
-    linking-end l.v l.prevs (omega arith) l.invariant.1
+    linking_end l.v l.prevs (omega arith) l.invariant.1
 
 pub link-before-spec : {M : Type 1} → statement M
 link-before-spec =

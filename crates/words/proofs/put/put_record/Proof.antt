@@ -1,11 +1,11 @@
 -- `words::put::put_record` meets its contract. Assumes nothing.
-use Rattle.theory.specs.Put.{putRecord}
+use Rattle.theory.specs.Put.{put_record}
 use borrow.Author.Rules.{rules}
 use Rattle.words.proofs.put.put_record.Statement.{statement}
 use Rattle.words.proofs.put.put_record.Tie as tie
 
 returns : tie.Need-returns
-unfolding putRecord
+unfolding put_record
 returns c = cc
 
 pub put-record-spec : {M : Type 1} → statement M

@@ -4,7 +4,7 @@ use Prim.Native.Nat.{◌+◌, ◌-◌, ◌≤◌}
 use native.Mathlib.Omega.{arith}
 use lib.Seq.{paste, paste-zero}
 use lib.ListN.{length, get_or, set, length-set}
-use Rattle.theory.specs.Appended.{text-turn, text-end}
+use Rattle.theory.specs.Appended.{text_turn, text_end}
 use borrow.Author.Rules.{rules}
 use Rattle.words.proofs.put.put_text.Statement.{statement}
 use Rattle.words.proofs.put.put_text.Tie as tie
@@ -33,7 +33,7 @@ loop-again c =
       omega arith,
       simp length-set l.invariant.1,
       ap (λ o. set o (s.args.at + l.i) (get_or text l.i 0)) l.invariant.2
-          ∙ text-turn s.args.out.now text s.args.at s.requires l.i less,
+          ∙ text_turn s.args.out.now text s.args.at s.requires l.i less,
     )
 
 same_length : tie.Need-same-length invariant-loop decreases-loop
@@ -44,7 +44,7 @@ returns c =
     let s = c.before.before in
     let l = c.before.loop in
     rw l.invariant.2
-    (text-end s.args.out.now s.args.text.now s.args.at s.requires l.i l.invariant.0 c.loop-test.false)
+    (text_end s.args.out.now s.args.text.now s.args.at s.requires l.i l.invariant.0 c.loop-test.false)
 
 pub put-text-spec : {M : Type 1} → statement M
 put-text-spec =

@@ -1,11 +1,11 @@
 -- `words::put::put_word` meets its contract. Assumes nothing.
-use Rattle.theory.specs.Put.{putWord}
+use Rattle.theory.specs.Put.{put_word}
 use borrow.Author.Rules.{rules}
 use Rattle.words.proofs.put.put_word.Statement.{statement}
 use Rattle.words.proofs.put.put_word.Tie as tie
 
 returns : tie.Need-returns
-unfolding putWord
+unfolding put_word
 returns c = cc
 
 pub put-word-spec : {M : Type 1} → statement M

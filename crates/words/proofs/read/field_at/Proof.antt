@@ -3,7 +3,7 @@ use mathlib.Core.Logic.{⊎_elim}
 use native.Mathlib.Omega.{arith}
 use Prim.Native.Nat.{ℕ, ◌+◌, ◌*◌}
 use mathlib.Core.Path.{ap, ◌∙◌}
-use Rattle.model.specs.Table.{wordAt, field_at}
+use Rattle.model.specs.Table.{word_at, field_at}
 use borrow.Author.Rules.{rules}
 use Rattle.words.proofs.read.field_at.Statement.{statement}
 use Rattle.words.proofs.read.field_at.Tie as tie
@@ -12,7 +12,7 @@ returns : tie.Need-returns
 unfolding field_at
 returns c =
     let a = c.before.before.before.before.args in
-    c.word_at.ensures ∙ ap (λ (u : ℕ). wordAt a.table.now (2 + 4 * u + a.f))
+    c.word_at.ensures ∙ ap (λ (u : ℕ). word_at a.table.now (2 + 4 * u + a.f))
     (⊎_elim (λ w. omega arith) (λ w. omega arith) c.before.before.if1.branch)
 
 pub field-at-spec : {M : Type 1} → statement M

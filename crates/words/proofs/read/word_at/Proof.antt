@@ -1,11 +1,11 @@
 -- `words::read::word_at` meets its contract. Assumes nothing.
-use Rattle.model.specs.Table.{wordAt}
+use Rattle.model.specs.Table.{word_at}
 use borrow.Author.Rules.{rules}
 use Rattle.words.proofs.read.word_at.Statement.{statement}
 use Rattle.words.proofs.read.word_at.Tie as tie
 
 returns : tie.Need-returns
-unfolding wordAt
+unfolding word_at
 returns c = search rules
 
 pub word-at-spec : {M : Type 1} → statement M

@@ -2,13 +2,13 @@
 use mathlib.Core.Path.{refl, ◌∙◌}
 use Prim.Native.Nat.{◌<◌}
 use native.Mathlib.Omega.{arith}
-use Rattle.model.specs.Table.{nodeCount}
-use Rattle.theory.specs.JudgeAnswers.{pageCount-le}
+use Rattle.model.specs.Table.{node_count}
+use Rattle.theory.specs.JudgeAnswers.{page_count_le}
 use Rattle.layout.specs.Rows.{Layout, layout_of}
-use Rattle.records.specs.Size.{filmSlots}
+use Rattle.records.specs.Size.{film_slots}
 use Rattle.records.specs.Links.{Fit}
-use Rattle.records.specs.Counts.{counted-pages}
-use Rattle.records.specs.RecordsOf.{head-put, all-put, next-of-page, page-fits}
+use Rattle.records.specs.Counts.{counted_pages}
+use Rattle.records.specs.RecordsOf.{head_put, all_put, next_of_page, page_fits}
 use borrow.Author.Rules.{rules}
 use Rattle.writer.proofs.write.fill_archive.Statement.{statement}
 use Rattle.writer.proofs.write.fill_archive.Tie as tie
@@ -24,12 +24,12 @@ module _ (c : tie.After-limit-of) where
       let a = start.args in layout_of a.rows.now a.weights.now a.pages
 
   -- the nodes are places of the arrays, and so are their pages
-  few : nodeCount start.args.table.now < filmSlots
-  few = omega (arith, start.pre.2, start.pre.0.most-high)
+  few : node_count start.args.table.now < film_slots
+  few = omega (arith, start.pre.2, start.pre.0.most_high)
 
   fit : Fit c.before.node-count.result layout.page
   fit v low high =
-      page-fits start.args.table.now start.args.marks.now layout.page few start.pre.1.page-is v low
+      page_fits start.args.table.now start.args.marks.now layout.page few start.pre.1.page_is v low
       (omega (arith, c.before.node-count.ensures))
 
 count-nodes-requires : tie.Need-count-nodes-requires
@@ -38,7 +38,7 @@ count-nodes-requires c κs =
     let count = l.before.node-count.ensures in (
       omega (arith, few l),
       fit l,
-      omega (arith, (start l).requires.1.judged.tree.sound.count-high),
+      omega (arith, (start l).requires.1.judged.tree.sound.count_high),
       refl,
     )
 
@@ -48,7 +48,7 @@ link-next-requires c κs =
     let count = l.before.node-count.ensures in (
       omega (arith, few l),
       fit l,
-      omega (arith, (start l).requires.1.judged.tree.sound.count-high),
+      omega (arith, (start l).requires.1.judged.tree.sound.count_high),
     )
 
 put-pages-requires : tie.Need-put-pages-requires
@@ -90,15 +90,15 @@ returns c =
     let m = a.marks.now in
     let plan = lent.pre.1 in
     let count = limited.before.node-count.ensures in
-    all-put lent.pre.0 t m l.firsts l.lasts l.weights counts l.parents nexts.result
-    a.pages plan.pages-are plan.firsts-are plan.lasts_are plan.weights-are
+    all_put lent.pre.0 t m l.firsts l.lasts l.weights counts l.parents nexts.result
+    a.pages plan.pages_are plan.firsts_are plan.lasts_are plan.weights_are
     (λ five.
-    counted-pages t m l.page counts _ count plan.page-is
-    (omega (arith, pageCount-le t m, few limited)) (counted.count-nodes.ensures five))
-    plan.parents-are (next-of-page t m l.page nexts.result _ count plan.page-is nexts.ensures)
+    counted_pages t m l.page counts _ count plan.page_is
+    (omega (arith, page_count_le t m, few limited)) (counted.count-nodes.ensures five))
+    plan.parents_are (next_of_page t m l.page nexts.result _ count plan.page_is nexts.ensures)
     _ _ _
-    (head-put lent.pre.0 t m a.out.now _ _ _ _ h.put-head.ensures count limited.limit-of.ensures
-    plan.pages-are
+    (head_put lent.pre.0 t m a.out.now _ _ _ _ h.put-head.ensures count limited.limit-of.ensures
+    plan.pages_are
     (omega (arith, lent.pre.3)))
     pages.ensures nodes.ensures
     (nodes.auto.1.1.1.1.1.0 ∙ pages.auto.1.1.1.1.1.1.0 ∙ h.put-head.auto.1.1.1.1.0

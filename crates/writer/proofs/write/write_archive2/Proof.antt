@@ -1,31 +1,31 @@
 -- `writer::write::write_archive2` meets its contract. Assumes nothing.
 use mathlib.Core.Path.{ap, ◌∙◌}
-use Rattle.model.specs.Archive.{secondEdition}
-use Rattle.model.specs.Refusals.{writeArchive}
+use Rattle.model.specs.Archive.{second_edition}
+use Rattle.model.specs.Refusals.{write_archive}
 use Rattle.model.specs.Demand.{WritePromise}
 use Rattle.model.specs.declared.Edition.{Edition}
-use Rattle.theory.specs.ArchiveWords.{second-described}
+use Rattle.theory.specs.ArchiveWords.{second_described}
 use Rattle.theory.specs.Entries.{promised}
-use Rattle.theory.specs.PromiseArchive.{write-promise}
-use Rattle.records.specs.Size.{second-room}
+use Rattle.theory.specs.PromiseArchive.{write_promise}
+use Rattle.records.specs.Size.{second_room}
 use borrow.Author.Rules.{rules}
 use Rattle.writer.proofs.write.write_archive2.Statement.{statement}
 use Rattle.writer.proofs.write.write_archive2.Tie as tie
 
 returns : tie.Need-returns
-unfolding writeArchive
+unfolding write_archive
 returns c =
     let w = c.before.before in
     let f = w.before.before in
     let a = f.before.before.before.before.args in
-    promised (WritePromise secondEdition a.table.now a.marks.now a.out.now)
-    (write-promise second-described a.table.now a.marks.now a.out.now)
+    promised (WritePromise second_edition a.table.now a.marks.now a.out.now)
+    (write_promise second_described a.table.now a.marks.now a.out.now)
     (w.write-edition.ensures
-    ∙ ap (λ (x : Edition). writeArchive x a.table.now a.marks.now a.out.now)
+    ∙ ap (λ (x : Edition). write_archive x a.table.now a.marks.now a.out.now)
     f.second-edition.ensures)
 
 pub write-archive2-spec : {M : Type 1} → statement M
 write-archive2-spec =
     tie.close
-    (tie.spec (λ c κs. search rules) (λ c κs. rw c.before.second-edition.ensures second-room) (λ c. search rules)
+    (tie.spec (λ c κs. search rules) (λ c κs. rw c.before.second-edition.ensures second_room) (λ c. search rules)
     returns)

@@ -3,15 +3,15 @@ use mathlib.Core.Bool.{true}
 use mathlib.Core.List.{List}
 use mathlib.Core.Path.{◌≡◌, refl, sym, ap, ap₂, ◌∙◌}
 use Prim.Native.Nat.{ℕ}
-use Rattle.model.specs.Table.{nodeCount}
-use Rattle.model.specs.Plan.{verdictOf}
-use Rattle.model.specs.Archive.{archiveBytes}
-use Rattle.model.specs.Refusals.{Rules, Check, feasibleBy, answer_of, first_of, passes, filmChecks, writeChecks, outcome}
+use Rattle.model.specs.Table.{node_count}
+use Rattle.model.specs.Plan.{verdict_of}
+use Rattle.model.specs.Archive.{archive_bytes}
+use Rattle.model.specs.Refusals.{Rules, Check, feasible_by, answer_of, first_of, passes, film_checks, write_checks, outcome}
 use Rattle.model.specs.declared.Answer.{Answer}
 use Rattle.model.specs.declared.Edition.{Edition}
-use Rattle.theory.specs.Checks.{firstOf-all, accepted-pass, film-plain}
-use Rattle.theory.specs.JudgedEntries.{judge-passes, judge-given, judge-stands, after-stands, after-done}
-use Rattle.theory.specs.ArchiveAnswers.{film-answer, film-few}
+use Rattle.theory.specs.Checks.{first_of_all, accepted_pass, film_plain}
+use Rattle.theory.specs.JudgedEntries.{judge_passes, judge_given, judge_stands, after_stands, after_done}
+use Rattle.theory.specs.ArchiveAnswers.{film_answer, film_few}
 use Rattle.layout.specs.Rows.{layout_of, FeasibleLayout}
 use borrow.Author.Rules.{rules}
 use Rattle.writer.proofs.write.write_edition.Statement.{statement}
@@ -44,9 +44,9 @@ module _ (f : tie.After-check-film) where
   abbrev out : List ℕ
   out = start.args.out.now
 
-  feasible : feasibleBy rules table marks ≡ true
+  feasible : feasible_by rules table marks ≡ true
   feasible =
-      judge-passes rules table marks
+      judge_passes rules table marks
       (sym (ap (λ (x : Answer). x.number) judge.judge-pages.ensures.0) ∙ accepted.if1.left)
 
   layout : FeasibleLayout table marks
@@ -54,54 +54,54 @@ module _ (f : tie.After-check-film) where
   layout = judge.judge-pages.ensures.1.feasible accepted.if1.left
 
   abbrev film : List Check
-  film = filmChecks edition table marks out
+  film = film_checks edition table marks out
 
-  given : f.check-film.result ≡ first_of film (answer_of (verdictOf table marks))
+  given : f.check-film.result ≡ first_of film (answer_of (verdict_of table marks))
   given =
-      film-answer edition table marks out _ f.check-film.ensures f.before.before.node-count.ensures
+      film_answer edition table marks out _ f.check-film.ensures f.before.before.node-count.ensures
       (f.before.archive-bytes.ensures
-      ∙ ap₂ (archiveBytes edition) layout.pages-are f.before.before.node-count.ensures)
-      ∙ ap (first_of film) (judge.judge-pages.ensures.0 ∙ judge-given rules table marks feasible)
+      ∙ ap₂ (archive_bytes edition) layout.pages_are f.before.before.node-count.ensures)
+      ∙ ap (first_of film) (judge.judge-pages.ensures.0 ∙ judge_given rules table marks feasible)
 
   passed : f.check-film.result.number ≡ 0 → passes film ≡ true
   passed z =
-      accepted-pass film _ (film-plain edition table marks out).0 (sym (ap (λ (x : Answer). x.number) given) ∙ z)
+      accepted_pass film _ (film_plain edition table marks out).0 (sym (ap (λ (x : Answer). x.number) given) ∙ z)
 
 -- ---- The needs
 
 returns : tie.Need-returns
-unfolding writeChecks
+unfolding write_checks
 returns c =
     let j = c.before.before.before in
     let a = j.before.before.before.before.before.before.args in
-    judge-stands (record { filed = a.filed }) a.table.now a.marks.now _ _ _ j.judge-pages.ensures.0
+    judge_stands (record { filed = a.filed }) a.table.now a.marks.now _ _ _ j.judge-pages.ensures.0
     c.if1.true
 
 returns-2 : tie.Need-returns-2
-unfolding writeChecks
+unfolding write_checks
 returns-2 c =
     let f = c.before.before in
-    after-stands (rules f) (table f) (marks f) _ _ _ (feasible f) (given f) c.if2.true
+    after_stands (rules f) (table f) (marks f) _ _ _ (feasible f) (given f) c.if2.true
 
 fill-archive-requires : tie.Need-fill-archive-requires
 fill-archive-requires c κs =
     let e = c.before.before.before in
     let f = e.before.before in
-    let fits = film-few (edition f) (table f) (marks f) (out f) (passed f e.if2.false) in (
+    let fits = film_few (edition f) (table f) (marks f) (out f) (passed f e.if2.false) in (
       (start f).requires,
       layout f,
       fits.0,
-      fits.1 ∙ ap (λ k. archiveBytes (edition f) k (nodeCount (table f))) (sym (layout f).pages-are),
+      fits.1 ∙ ap (λ k. archive_bytes (edition f) k (node_count (table f))) (sym (layout f).pages_are),
     )
 
 returns-3 : tie.Need-returns-3
-unfolding writeChecks
+unfolding write_checks
 returns-3 c =
     let e = c.before.before.before.before.before.before in
     let f = e.before.before in
     let all = passed f e.if2.false in
-    ap₂ outcome (given f ∙ firstOf-all _ _ all) c.before.before.fill-archive.ensures
-    ∙ sym (after-done (rules f) (table f) (marks f) _ _ _ (feasible f) all)
+    ap₂ outcome (given f ∙ first_of_all _ _ all) c.before.before.fill-archive.ensures
+    ∙ sym (after_done (rules f) (table f) (marks f) _ _ _ (feasible f) all)
 
 pub write-edition-spec : {M : Type 1} → statement M
 write-edition-spec =
