@@ -22,11 +22,11 @@ record Extended (K : ℕ) (ks : List Child) (cs : List Choice) (n x : ℕ) : Typ
   run : RunSoFar
   level : Level K ks cs n x run
 
-run_goes : {K n n' x y : ℕ} {ks run : List Child} {cs : List Choice} {ms : List Member}
+run_goes : {K n' x : ℕ} {run : List Child} {ms : List Member} {ks : List Child} {cs : List Choice} {n y : ℕ}
     → RunReduced run ms → Level K ks cs n x (a_run y) → y + rest_sum ms ≤ K → n' ≡ n + taken_count ms
     → Extended K (reverse_aux run ks) (reverse_aux (run_choices continues ms) cs) n' x
 unfolding rest_sum taken_count run_choices
-run_goes {n = n} {n' = n'} reduced_none p h e = let q : n' ≡ n = omega arith in rw q (record { run = _; level = p })
+run_goes {n' = n'} {n = n} reduced_none p h e = let q : n' ≡ n = omega arith in rw q (record { run = _; level = p })
 run_goes (reduced_one o r) p h e =
     run_goes r (go (reduced_offers o) refl (omega arith) refl p) (omega arith) (omega arith)
 

@@ -54,7 +54,7 @@ drop_one (leave c) q w = fewer_leave (drop_one c q (omega arith))
 drop_one (choose e f c) q w = record { count = _; one = e; sum = _; fewer = leave c; loses = omega arith }
 
 -- leaving the member whose gain is taken, or else another
-exchange : {ms ns : List Member} {g m t : ℕ} → Earliest g ms ns → GainsChosen ms m t → 1 ≤ m → largest_gain ms ≤ g
+exchange : {g m t : ℕ} {ms ns : List Member} → Earliest g ms ns → GainsChosen ms m t → 1 ≤ m → largest_gain ms ≤ g
     → Fewer ns g m t
 unfolding largest_gain
 exchange (here e) (leave c) q w = fewer_leave (drop_one c q (omega arith))
@@ -79,7 +79,7 @@ pub record Spared (room m : ℕ) (ms : List Member) : Type 0 where
   pub within : rest_sum ms ≤ room
   pub fewest : taken_count ms ≤ m
 
-reduction_spared : {room t : ℕ} {ms ns : List Member} → Reduction room ms ns → (m : ℕ) → EachMember Sound ms
+reduction_spared : {room : ℕ} {ms ns : List Member} {t : ℕ} → Reduction room ms ns → (m : ℕ) → EachMember Sound ms
     → GainsChosen ms m t → rest_sum ms ≤ room + t → Spared room (taken_count ms + m) ns
 reduction_spared (ended (inl e)) m s c h = record { within = e; fewest = omega arith }
 reduction_spared (ended (inr e)) m s c h = record { within = omega (arith, chosen_no_gain c e); fewest = omega arith }

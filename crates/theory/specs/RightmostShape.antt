@@ -192,7 +192,7 @@ cut_kids_lem : (K w : ℕ) (kids : Chain) → w ≤ K → EachWithin K kids
     → CutWithin K w (right_rests K kids) (cut_runs K w (right_rests K kids))
 cut_kids_lem K w kids h e = cut_within K w (right_rests K kids) h (kids_within K kids e)
 
-lay_chain : {K x : ℕ} (c : Chain) (before : List ℕ) {ds : List ℕ} {o : Place} → EachWithin K c
+lay_chain : {K : ℕ} (c : Chain) (before : List ℕ) {ds : List ℕ} {o : Place} {x : ℕ} → EachWithin K c
     → RunsWithin K (siblings_by (right_rest K) c before) ds x o → ChainLaid K c before ds x
 unfolding siblings_by EachWithin lay_down right_rests
 lay_chain {K} end before {o = o} e v = chain_laid [] refl v (laid_end K (in_run o)) (room_zero v) (omega arith)

@@ -39,19 +39,17 @@ word_small t i h = omega (arith, h (2 * i), h (2 * i + 1))
 
 pub words_bytes : (ws : List ℕ) → Words ws → Bytes (bytes_of ws)
 unfolding bytes_of
-words_bytes [] h = λ i. omega arith
-words_bytes (w ∷ ws) h =
-    λ i. elim i [
-      | zero ↦ omega
-          (arith, h 0)
-      | suc j ↦ elim j [ zero ↦ omega arith | suc k ↦ words_bytes ws (λ n. h (suc n)) k ]
-    ]
+words_bytes [] h i = omega arith
+words_bytes (w ∷ ws) h zero = omega (arith, h 0)
+words_bytes (w ∷ ws) h (suc zero) = omega arith
+words_bytes (w ∷ ws) h (suc (suc k)) = words_bytes ws (λ n. h (suc n)) k
 
 pub words_nil : Words []
 words_nil i = omega arith
 
 pub words_cons : (w : ℕ) (ws : List ℕ) → w < 65536 → Words ws → Words (w ∷ ws)
-words_cons w ws h k = λ i. elim i [ zero ↦ h | suc j ↦ k j ]
+words_cons w ws h k zero = h
+words_cons w ws h k (suc j) = k j
 
 pub words_append : (xs ys : List ℕ) → Words xs → Words ys → Words (xs ++ ys)
 words_append [] ys h k = k
