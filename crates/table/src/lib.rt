@@ -1,5 +1,7 @@
 // The tree reader: the walk of the chains, and the refusals 1 to 7 and 14, of which 5 is retired. Siblings are also
 // linked back, for whoever goes through them from the last.
+#![tactic(auto)]
+
 pub mod links;
 mod walk;
 
