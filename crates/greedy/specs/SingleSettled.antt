@@ -125,9 +125,9 @@ remainders_end : (t s a : List ℕ) (v : ℕ) → RemaindersKept t s a v end
 unfolding members_at remainders LaidAt
 remainders_end t s a v = record { rests = refl; laid = tt }
 
-down_chain : {t s a s' a' : List ℕ} {m v e : ℕ} {c : Chain} → Numbered t m v c e → e ≤ node_count t
+down_chain : {t : List ℕ} {m v e : ℕ} {c : Chain} {s a s' a' : List ℕ} → Numbered t m v c e → e ≤ node_count t
     → SettledDown t s a e m s' a' → ChainSettled t s a m v c e s' a'
-down_chain {t} {s} {a} {s'} {a'} (none {m = m}) h d =
+down_chain {t} {s = s} {a = a} {s' = s'} {a' = a'} (none {m = m}) h d =
     let same = down_none d refl in
     rw (same.0, same.1)
     (record {
@@ -135,7 +135,7 @@ down_chain {t} {s} {a} {s'} {a'} (none {m = m}) h d =
       rests_outside = outside_none m m s;
       marks_outside = outside_none m m a;
     })
-down_chain {t} {s} {a} {s'} {a'} (some {m = m} {e₁ = e₁} {e₂ = e₂} {kids = kids} {next = next} k n) h d =
+down_chain {t} {s = s} {a = a} {s' = s'} {a' = a'} (some {m = m} {e₁ = e₁} {e₂ = e₂} {kids = kids} {next = next} k n) h d =
     let low : e₁ ≤ e₂ = numbered_le n in
     let mid : suc m ≤ e₁ = numbered_le k in
     let l = down_last d (omega arith) in
