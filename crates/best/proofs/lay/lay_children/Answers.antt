@@ -1,4 +1,4 @@
-use Rattle.std.proofs.Common.{◌≡◌, ℕ, ◌+◌, List, get_or, ap, rules, arith}
+use Rattle.std.proofs.Common.{◌≡◌, ℕ, ◌+◌, List, get_or, ap, rules}
 use Rattle.model.specs.Table.{limit_of}
 use Rattle.columns.specs.CellsRun.{block_at}
 use Rattle.best.proofs.LayNode.{Found, walk_from, walk_high, walk_reads, block_small}

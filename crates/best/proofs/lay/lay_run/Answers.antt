@@ -40,9 +40,9 @@ bounds-counts-level c =
 
 pub loop-left-init : goal.loop-left-init
 loop-left-init c = (
-      c.requires.high,
-      marking_start c.requires (levelled c.requires c.sum_run-sums.ensures c.find_level-level.ensures),
-    )
+  c.requires.high,
+  marking_start c.requires (levelled c.requires c.sum_run-sums.ensures c.find_level-level.ensures),
+)
 
 pub overflow_sub-before : goal.overflow_sub-before
 overflow_sub-before c =
@@ -62,7 +62,7 @@ loop-left-preserved c =
     c.loop-left-test.true c.if-gain-level.before c.mark_of.result c.second_of.result
     (count_less _ level.result.gain l.before _
     (elim c.if-gain-level.branch [
-      then-gain-level w ↦ inl (w.if-gain-level.true, w.before-is)
+      | then-gain-level w ↦ inl (w.if-gain-level.true, w.before-is)
       | else-gain-level w ↦ inr (w.if-gain-level.false, w.before-is)
     ]))
     c.mark_of.ensures c.second_of.ensures in
