@@ -1,4 +1,6 @@
 // The page program: reads a table on standard input, and writes its best plan or why it is refused.
+#![tactic(auto)]
+
 mod report;
 mod text;
 
