@@ -54,7 +54,7 @@ pub struct Saving {
 
 // How an edition of the archive is laid out: how many words its head and each page record have, how many nodes it takes
 // at most, and whether its film is filed, with no label 0.
-#[derive(Drop)]
+#[derive(Clone, Copy)]
 pub struct Edition {
     pub head: u16,
     pub page: u16,
