@@ -8,7 +8,7 @@ use Rattle.model.specs.Demand.{JudgePromise}
 use Rattle.model.specs.declared.Answer.{Answer}
 use Rattle.theory.specs.TableFacts.{passed_facts}
 use Rattle.theory.specs.JudgeAnswers.{judge_verdict}
-use Rattle.judge.specs.PromiseJudge.{judge_promise}
+use Rattle.judge.proofs.PromiseJudge.{judge_promise}
 use borrow.Author.Rules.{rules}
 use Rattle.judge.proofs.judge_plan.Statement.{statement}
 use Rattle.judge.proofs.judge_plan.Tie as tie

@@ -7,7 +7,7 @@ use Rattle.model.specs.Demand.{ConvertPromise}
 use Rattle.model.specs.declared.Edition.{Edition}
 use Rattle.theory.specs.ArchiveWords.{first_described, second_described}
 use Rattle.theory.specs.Entries.{promised}
-use Rattle.theory.specs.PromiseConvert.{convert_promise}
+use Rattle.theory.proofs.PromiseConvert.{convert_promise}
 use Rattle.records.specs.Size.{first_room, second_room}
 use Rattle.archive.specs.Room.{room_of}
 use borrow.Author.Rules.{rules}

@@ -7,7 +7,7 @@ use Rattle.model.specs.Demand.{PricePromise}
 use Rattle.model.specs.declared.Answer.{Answer}
 use Rattle.theory.specs.Entries.{promised, entry_done, entry_stands}
 use Rattle.theory.specs.JudgedEntries.{judge_passes, judge_given, given_zero}
-use Rattle.theory.specs.PromisePrice.{price_promise}
+use Rattle.theory.proofs.PromisePrice.{price_promise}
 use Rattle.layout.specs.Rows.{Layout, layout_of, FeasibleLayout, LightPages}
 use Rattle.price.proofs.LayoutTotal.{layout_total}
 use borrow.Author.Rules.{rules}

@@ -7,7 +7,8 @@ use lib.ListN.{get_or}
 use Rattle.model.specs.Basics.{sum_to}
 use Rattle.model.specs.Prices.{full_fill, price_at, cents_for}
 use Rattle.theory.specs.Ranges.{sum_to_zero, sum_to_suc}
-use Rattle.theory.specs.PricePages.{fill_most, price_range, sum-most}
+use Rattle.theory.specs.PricePages.{fill_most}
+use Rattle.theory.proofs.PricePages.{price_range, sum-most}
 use borrow.Author.Rules.{rules}
 use Rattle.price.proofs.prices.total.Statement.{statement}
 use Rattle.price.proofs.prices.total.Tie as tie
