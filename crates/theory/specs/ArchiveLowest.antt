@@ -1,7 +1,7 @@
 -- Demand 3 read off the archive's bytes, in an edition: page count, the weight in page record 1 and the runs in the
 -- page records are the plan's.
 -- Proves archive_runs, root_back. Assumes nothing.
-use Prim.Native.Nat.{ℕ, suc, ◌-◌, ◌≤◌, ◌<◌}
+use Prim.Native.Nat.{ℕ, suc, ◌≤◌, ◌<◌}
 use Rattle.std.proofs.Common.{arith, ◌∙◌}
 use Rattle.std.specs.Prelude.{◌≡◌, List, [], ◌∷◌}
 use Rattle.std.proofs.Math.Path.{sym, ap, ap₂}
