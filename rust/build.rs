@@ -1,5 +1,5 @@
 //! Links the proved library: libembed.a in the folder that BALDUQEN_LIB names or, without it, where
-//! `rt staticlib embed` writes it.
+//! `tools/build-library.sh` writes it.
 
 use std::{env, fs};
 
@@ -11,12 +11,12 @@ fn main() {
 
     let folder = env::var("BALDUQEN_LIB").unwrap_or(FOLDER.to_string());
     let folder = fs::canonicalize(&folder)
-        .unwrap_or_else(|error| panic!("{folder}: {error}; 'rt staticlib embed' makes it"));
+        .unwrap_or_else(|error| panic!("{folder}: {error}; 'tools/build-library.sh' makes it"));
     let library = folder.join("libembed.a");
     let name = library.display();
     assert!(
         library.is_file(),
-        "{name} is not there; 'rt staticlib embed' makes it"
+        "{name} is not there; 'tools/build-library.sh' makes it"
     );
     println!("cargo:rerun-if-changed={}", library.display());
     println!("cargo:rustc-link-search=native={}", folder.display());

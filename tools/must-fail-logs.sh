@@ -1,25 +1,28 @@
 #!/usr/bin/env bash
-# Looks through the logs of refused must-fail edits: tools/must-fail-logs.sh FOLDER, with rt's logs as FOLDER/CRATE/LABEL/.log
-# An edit shows something where a fact no longer holds. Where the first error is that the proof names a need which is not there, the edit
-# only made the proof file unfit for the code, as a change that breaks nothing can do, and it shows nothing.
-# Each edit of that kind is a line, and so is a log without an error. The exit status is 0 only where there are logs and no such line.
+# Looks through what 'rt ci' says of the must-fail edits: tools/must-fail-logs.sh LOG, with all that it wrote
+# An edit shows something where a fact no longer holds. Where it is refused because a name is not there, above all one that a proof file
+# names, it only made that file unfit for the code, as a change that breaks nothing can do, and it shows nothing. Nor does it where the
+# prover came to no verdict, and where rt could not try it, tells no reason or did not refuse it.
+# Each edit of that kind is a line. The exit status is 0 only where edits are told of and there is no such line.
 set -u -o pipefail
-shopt -s nullglob
+shopt -s extglob
 
-# The line of the first error, as rt finds it: an error or, where there is none, a note with a place.
-first_error() { grep -a -m 1 '^[^ ]*: error' "$1" || grep -a -m 1 '^note: [^ ]*:[0-9]*:[0-9]*:' "$1"; }
-
-logs=("$1"/*/*/.log)
+all=0
 fine=0
-for log in "${logs[@]}"; do
-  edit=${log#"$1"/}
-  edit=${edit%/.log}
-  first=$(first_error "$log")
-  case $first in
-  '') echo "$edit: the log has no error" ;;
-  *'that can be named from here'*) echo "$edit: shows nothing, the proof file does not fit the code: ${first:0:400}" ;;
-  *) fine=$((fine + 1)) ;;
+while IFS= read -r line; do
+  if [[ ! $line =~ ^rt:\ must-fail\ ([^\ ]+)\.edit:\ (.*)$ ]]; then continue; fi
+  all=$((all + 1))
+  edit=${BASH_REMATCH[1]}
+  said=${BASH_REMATCH[2]}
+  case $said in
+  'refused, as it must be (only because '* | \
+    'refused, as it must be: '*': error: '*@('has no '|'is not in scope'|'was not admitted'|'that can be named from here')*)
+    echo "$edit: shows nothing, a name is not there: $said" ;;
+  'refused, as it must be (only by a limit '*) echo "$edit: shows nothing, the prover came to no verdict: $said" ;;
+  'refused, as it must be: '*) fine=$((fine + 1)) ;;
+  'refused, '*) echo "$edit: no reason is told: $said" ;;
+  *) echo "$edit: not refused: $said" ;;
   esac
-done
-if [ "${#logs[@]}" -eq 0 ]; then echo "$1: no log of a must-fail edit"; fi
-[ "$fine" -gt 0 ] && [ "$fine" -eq "${#logs[@]}" ]
+done < "$1"
+if [ "$all" -eq 0 ]; then echo "$1: no must-fail edit is told of"; fi
+[ "$fine" -gt 0 ] && [ "$fine" -eq "$all" ]

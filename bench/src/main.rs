@@ -2,7 +2,7 @@
 //! DHW, and its leader sheets, archives and prices beside plain Rust: on the same trees, in one
 //! run, as ratios. Nothing passes or fails by its time.
 //!
-//! `rt staticlib embed` writes the library; `cargo run --release` in this folder then prints the table.
+//! `tools/build-library.sh` writes the library; `cargo run --release` in this folder then prints the table.
 
 mod archive;
 mod clock;

@@ -23,7 +23,7 @@ const MOST_INPUT: usize = 16389;
 const SCRATCH: usize = 10240;
 
 fn start(input: impl Into<Stdio>) -> Child {
-    let program = env::var("BALDUQEN_PAGES").unwrap_or("../target/bin/pages".to_string());
+    let program = env::var("BALDUQEN_PAGES").unwrap_or("../crates/pages/out/pages".to_string());
     Command::new(&program)
         .stdin(input)
         .stdout(Stdio::piped())

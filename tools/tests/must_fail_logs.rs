@@ -1,30 +1,37 @@
-//! The script that looks through the logs of refused must-fail edits, on logs that are made up here.
+//! The script that looks through what is said of must-fail edits, on logs that are made up here.
 
 use std::fs;
 use std::path::Path;
 use std::process::Command;
 
-const FACT: &str =
-    "/t/proofs/read/Proof.antt:20:63: error: `read-spec`: expected `5`, but this is `6`";
+const FACT: &str = "refused, as it must be: ./proofs/read/Answers.antt:20:63: error: `returns`: expected `5`, but this is `6`";
+const NOTE: &str =
+    "refused, as it must be: note: src/lib.rt:4:9: it is not proved that the loop ends (`loop-i`)";
+const GONE: &str = "refused, as it must be (only because a proof file names what the edit took away, so this says little of the contract: change a value and keep the names): ./proofs/read/Answers.antt:9:5: error: `add-i`: `goal.add-i`: module `Rattle.table.proofs.read.Goals` has no `add-i`";
 const NAME: &str =
-    "/t/proofs/read/Proof.antt:9:5: error: `tie` has no `Need-add-i` that can be named from here";
-const NOTE: &str = "note: src/lib.rt:4:9: this is not proved";
-const NAME_IN_NOTE: &str =
-    "note: src/lib.rt:4:9: `tie` has no `Need-add-i` that can be named from here";
-const END: &str = "logic=not-proved functions=3";
+    "refused, as it must be: specs/Tree.antt:9:5: error: `depth`: module `Rattle.model.specs.Table` has no `level` that can be named from here";
+const LIMIT: &str = "refused, as it must be (only by a limit of the prover, which gave no verdict, so this says less of the contract: choose a change that it refuses sooner): specs/Cases.antt:4:3: error: antt ran out of stack";
+const NO_REASON: &str = "refused, as it must be";
+const BAD: &str = "BAD EDIT: an 'old:' text is in src/lib.rt 0 times, and not once";
+const UNTRIED: &str =
+    "NOT TRIED: its check was killed, most likely for memory, so nothing is known of it";
+const PROVED: &str = "NOT REFUSED: the crate is still proved with this edit";
 
-/// Whether the script ends well on these logs, and what it writes. Each log is an edit and its lines.
-fn look_through(folder: &str, logs: &[(&str, &[&str])]) -> (bool, String) {
-    let folder = Path::new(env!("CARGO_TARGET_TMPDIR")).join(folder);
-    let _ = fs::remove_dir_all(&folder);
-    fs::create_dir_all(&folder).expect("a folder");
-    for (edit, lines) in logs {
-        fs::create_dir_all(folder.join(edit)).expect("a folder");
-        fs::write(folder.join(edit).join(".log"), lines.join("\n")).expect("a log");
+/// Whether the script ends well on these edits, each with what is said of it, and what it writes.
+fn look_through(name: &str, edits: &[(&str, &str)]) -> (bool, String) {
+    let log = Path::new(env!("CARGO_TARGET_TMPDIR")).join(name);
+    let mut text = "fn table::read: proved\nrt: table proved\n".to_string();
+    text += "rt: table: trying its must-fail edits (3)\n";
+    for (edit, said) in edits {
+        text += &format!("rt: must-fail {edit}.edit: {said}\n");
     }
+    text += "the first lines of what it said has no `x` that can be named from here\n";
+    text += "rt: ok; handles allowed: none; must-fail edits: 3 refused, 1 bad\n";
+    text += "4 passed, 0 failed\n";
+    fs::write(&log, text).expect("a log");
     let output = Command::new("bash")
         .arg(concat!(env!("CARGO_MANIFEST_DIR"), "/must-fail-logs.sh"))
-        .arg(&folder)
+        .arg(&log)
         .output()
         .expect("the script runs");
     assert!(output.stderr.is_empty(), "{output:?}");
@@ -34,43 +41,46 @@ fn look_through(folder: &str, logs: &[(&str, &[&str])]) -> (bool, String) {
 
 #[test]
 fn edits_that_show_something() {
-    let logs: [(&str, &[&str]); 5] = [
-        ("judge/fact", &["library judge", FACT, END]),
-        ("judge/note", &["library judge", NOTE, NAME_IN_NOTE, END]),
-        // What comes after the first error is of no matter.
-        ("table/fact_and_name", &[FACT, NAME, END]),
-        // Nor is a note, where there is an error.
-        ("table/note_with_name", &[NAME_IN_NOTE, FACT, END]),
-        (
-            "table/name_in_a_text",
-            &["that can be named from here", FACT],
-        ),
+    let edits = [
+        ("judge/fact", FACT),
+        ("judge/note", NOTE),
+        ("table/two_2.more", FACT),
     ];
-    assert_eq!(look_through("fine", &logs), (true, String::new()));
+    assert_eq!(look_through("fine", &edits), (true, String::new()));
 }
 
 #[test]
 fn edits_that_show_nothing() {
-    let logs: [(&str, &[&str]); 6] = [
-        ("judge/fact", &[FACT, END]),
-        ("judge/name", &["library judge", NAME, FACT, END]),
-        ("judge/name_after_note", &[NOTE, NAME, END]),
-        ("table/name_in_note", &["library table", NAME_IN_NOTE, NOTE]),
-        ("table/no_error", &["library table", END]),
-        ("table/nothing", &[]),
+    let edits = [
+        ("judge/fact", FACT),
+        ("judge/gone", GONE),
+        ("judge/name", NAME),
+        ("judge/note", NOTE),
+        ("table/limit", LIMIT),
+        ("table/no_reason", NO_REASON),
+        ("table/bad", BAD),
+        ("table/untried", UNTRIED),
+        ("table/proved", PROVED),
     ];
-    let (is_well, text) = look_through("bad", &logs);
+    let (is_well, text) = look_through("bad", &edits);
     assert!(!is_well);
     let named: Vec<&str> = text
         .lines()
         .map(|line| line.split_once(':').expect("an edit").0)
         .collect();
-    let bad: Vec<&str> = logs[1..].iter().map(|log| log.0).collect();
+    let shows = [FACT, NOTE];
+    let nothing = edits.iter().filter(|edit| !shows.contains(&edit.1));
+    let bad: Vec<&str> = nothing.map(|edit| edit.0).collect();
     assert_eq!(named, bad, "{text}");
+    // One is enough.
+    for edit in &edits {
+        let is_well = look_through("one", &[("judge/fact", FACT), *edit]).0;
+        assert_eq!(is_well, shows.contains(&edit.1), "{}", edit.0);
+    }
 }
 
 #[test]
-fn no_logs() {
+fn no_edits() {
     let (is_well, text) = look_through("none", &[]);
     assert!(!is_well);
     assert_eq!(text.lines().count(), 1, "{text}");

@@ -1,23 +1,31 @@
 //! The script at the root, in a folder of its own with stand-ins for what proves and builds: it builds
 //! what is not there or older than its sources, shows each crate as it is proved, and then runs.
 
+mod room;
+
+use room::Room;
 use std::fs;
 use std::os::unix::fs::PermissionsExt;
-use std::path::{Path, PathBuf};
 use std::process::{Command, Output};
 use std::thread::sleep;
 use std::time::Duration;
 
 const SCRIPT: &str = include_str!("../../balduqen");
+const BUILD: &str = include_str!("../build-library.sh");
 
 /// Proves, as the kit's command writes it.
-const RT: &str = r#"echo "rt $*" >> calls
-echo 'note: no function'
-echo 'rt: model proved (2 s)'
+const RT: &str = r#"echo "rt $*" >> ../../calls
+echo 'rt: chose --jobs 2 for embed'
 echo 'struct model::Answer: proved'
-echo 'rt: theory proved (6 s)'
-mkdir -p target/staticlib && echo library > target/staticlib/libembed.a
-echo 'rt: target/staticlib/libembed.a has the functions of embed'
+echo 'crate model: modules loaded=25 checked=0'
+echo 'logic=proved functions=0 sum=0'
+echo 'library model: modules loaded=25 checked=0'
+echo 'crate theory: modules loaded=0 checked=25'
+echo 'logic=proved functions=2 sum=0'
+echo 'crate embed: modules loaded=0 checked=25'
+echo 'axioms std: none reached of the 2 declared'
+mkdir -p out && echo library > out/libembed.a
+echo 'logic=proved functions=19 sum=0'
 "#;
 
 /// Builds a program that tells its words.
@@ -27,18 +35,24 @@ printf '#!/bin/sh\nfor word; do echo "word: $word"; done\nexit 1\n' > target/too
 chmod +x target/tools/release/balduqen
 "#;
 
-struct Root(PathBuf);
+struct Root(Room);
 
 impl Root {
     fn new(name: &str, rt: &str, cargo: &str) -> Root {
-        let root = Path::new(env!("CARGO_TARGET_TMPDIR")).join(name);
-        let _ = fs::remove_dir_all(&root);
-        for folder in ["bin", "crates", "rust", "tools/src", "elsewhere"] {
+        let root = Room::new(name);
+        for folder in [
+            "bin",
+            "crates/embed/src",
+            "crates/model/specs",
+            "rust",
+            "tools/src",
+            "elsewhere",
+        ] {
             fs::create_dir_all(root.join(folder)).expect("a folder");
         }
         for file in [
             "crates.txt",
-            "crates/lib.rt",
+            "crates/embed/src/lib.rt",
             "tools/Cargo.toml",
             "tools/src/main.rs",
         ] {
@@ -46,6 +60,7 @@ impl Root {
         }
         let root = Root(root);
         root.put("balduqen", SCRIPT);
+        root.put("tools/build-library.sh", BUILD);
         root.put("bin/rt", &format!("#!/usr/bin/env bash\n{rt}"));
         root.put("bin/cargo", &format!("#!/usr/bin/env bash\n{cargo}"));
         root
@@ -93,9 +108,10 @@ impl Root {
 
 const PROVED: &str = "\
 The library is proved and built first; from nothing this takes a few minutes.
-  model proved (2 s)
-  theory proved (6 s)
-  embed proved, and target/staticlib/libembed.a is written
+  model proved
+  theory proved
+  embed proved
+  target/staticlib/libembed.a is written
 The commands are built.
 ";
 
@@ -107,10 +123,7 @@ fn builds_once_and_runs() {
     assert_eq!(root.run(), (Some(1), called.clone(), PROVED.to_string()));
     let calls = root.calls();
     assert_eq!(calls.lines().count(), 2, "{calls}");
-    assert!(
-        calls.starts_with("rt staticlib embed\ncargo build "),
-        "{calls}"
-    );
+    assert!(calls.starts_with("rt lib\ncargo build "), "{calls}");
     assert_eq!(root.run(), (Some(1), called.clone(), String::new()));
     assert_eq!(root.calls(), calls);
 
@@ -118,8 +131,17 @@ fn builds_once_and_runs() {
     let built = "The commands are built.\n".to_string();
     assert_eq!(root.run(), (Some(1), called.clone(), built));
     assert_eq!(root.run(), (Some(1), called.clone(), String::new()));
-    root.change("crates/lib.rt");
-    assert_eq!(root.run(), (Some(1), called.clone(), PROVED.to_string()));
+    for source in [
+        "crates/embed/src/lib.rt",
+        "crates/model/specs/Lib.antt",
+        "crates.txt",
+    ] {
+        root.change(source);
+        assert_eq!(root.run(), (Some(1), called.clone(), PROVED.to_string()));
+        assert_eq!(root.run(), (Some(1), called.clone(), String::new()));
+    }
+    // What the kit keeps beside the sources is none.
+    root.change("crates/embed/out/kept");
     assert_eq!(root.run(), (Some(1), called, String::new()));
 }
 
@@ -127,12 +149,12 @@ fn builds_once_and_runs() {
 fn says_what_fails() {
     let root = Root::new(
         "not_proved",
-        "echo 'rt: model proved (2 s)'; echo fault; exit 1",
+        "echo fault; echo 'crate model: modules loaded=1 checked=2'; echo logic=not-proved; exit 1",
         CARGO,
     );
     let (status, out, err) = root.run();
     assert_eq!((status, out.as_str()), (Some(2), ""));
-    let wanted = "fault\nbalduqen: the library is not proved\n";
+    let wanted = "fault\nlogic=not-proved\nbalduqen: the library is not proved\n";
     assert!(err.ends_with(wanted), "{err}");
     assert_eq!(root.calls(), "");
 

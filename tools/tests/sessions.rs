@@ -2,6 +2,9 @@
 //! command stands all that it writes, on standard output and standard error, and then, where it is
 //! not 0, its exit status in brackets. A session has a folder of its own, with the samples in it.
 
+mod room;
+
+use room::Room;
 use std::fs;
 use std::os::unix::fs::symlink;
 use std::path::{Path, PathBuf};
@@ -30,9 +33,8 @@ fn commands() -> [(&'static str, PathBuf); 3] {
     ]
 }
 
-fn make_folder(name: &str) -> PathBuf {
-    let folder = Path::new(env!("CARGO_TARGET_TMPDIR")).join(name);
-    let _ = fs::remove_dir_all(&folder);
+fn make_folder(name: &str) -> Room {
+    let folder = Room::new(name);
     fs::create_dir_all(folder.join("bin")).expect("a folder");
     for file in FILES {
         let (from, to) = (Path::new(ROOT).join(file), folder.join(file));

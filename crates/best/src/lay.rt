@@ -18,7 +18,7 @@ use table::SLOTS;
 use words::read::{limit_of, node_count, weight_at};
 
 // Of a run's gains those above `gain` are taken, and of those at `gain` the earliest `times`.
-#[derive(Drop)]
+#[derive(Clone, Copy)]
 struct GainLevel {
     gain: u16,
     times: u16,

@@ -1,4 +1,6 @@
 // The plan of the best planner, and of the level planner: the marks, from the columns and the figures of all nodes.
+#![tactic(auto)]
+
 mod lay;
 
 ghost use Rattle.std.specs.Prelude.{◌≡◌, ◌≤◌, length};

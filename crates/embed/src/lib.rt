@@ -1,5 +1,7 @@
 // Doors for C and Rust: each entry of the library under a plain name, with its answer as four numbers, and an amount as
 // a fifth.
+#![tactic(auto)]
+
 ghost use Rattle.std.specs.Prelude.{◌≡◌};
 ghost use Rattle.model.specs.Archive.{first_edition, second_edition};
 ghost use Rattle.model.specs.Refusals.{outcome, read_tree, judge_plan, plan_left, plan_best, plan_level, plan_single};

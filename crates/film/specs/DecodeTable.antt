@@ -1,7 +1,7 @@
 -- What the reader decodes: parents, links and the rows of the tree's table. What it decodes of an archive is the tree
 -- that the archive tells.
 -- Defines WrittenBy, Loaded, fitted, tree_row, tree_upto. Assumes nothing.
-use Rattle.std.specs.Prelude.{ℕ, ◌+◌, ◌-◌, ◌*◌, ◌≤◌, ◌<◌, Bool, true, false, ◌≡◌, refl, List, [], ◌∷◌, length, set, eqb, ltb}
+use Rattle.std.specs.Prelude.{ℕ, ◌+◌, ◌*◌, ◌≤◌, ◌<◌, Bool, true, false, ◌≡◌, refl, List, [], ◌∷◌, length, set, eqb, ltb}
 use Rattle.std.proofs.Common.{arith, sym, ◌∙◌, ltb-true, lt-ltb}
 use Rattle.std.proofs.Math.Path.{ap}
 use Rattle.std.proofs.Math.ListN.{get_or}

@@ -1,4 +1,6 @@
 // The plans of single and pair: of what is too heavy for a node, the heaviest is cut first.
+#![tactic(auto)]
+
 mod kept;
 pub mod pair;
 pub mod single;

@@ -1,4 +1,6 @@
 // The judge of plans: its verdict, with the layout that it comes from. The tree's refusals, 8, 10 and 11.
+#![tactic(auto)]
+
 mod heavy;
 
 ghost use Rattle.std.specs.Prelude.{◌≡◌};

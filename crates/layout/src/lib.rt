@@ -1,4 +1,6 @@
 // The pages of a plan by number, in one pass: for every plan of an accepted tree, whatever the judge says of it.
+#![tactic(auto)]
+
 mod marks;
 mod pages;
 

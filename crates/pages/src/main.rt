@@ -1,9 +1,14 @@
 // The page program: reads a table on standard input, and writes its best plan or why it is refused.
+#![tactic(auto)]
+
 mod report;
 mod text;
 
-use libc::{STDIN_FILENO, STDOUT_FILENO};
+ghost use Rattle.std.specs.Io.{ReadsAtMost};
+
 use report::report;
+use std::io;
+use std::io::{Read, Write};
 use table::MAX_NODES;
 
 // One byte more than the longest table, so that a longer one shows.
@@ -12,10 +17,25 @@ const INPUT_BYTES: usize = 4 + 8 * (MAX_NODES as usize) + 1;
 // The longest report: a head line, and a line for each page, none over 80 bytes.
 const REPORT_BYTES: usize = 80 * (MAX_NODES as usize + 1);
 
-fn main() {
+// Reads until the buffer is full or the input ends, and gives back how many bytes stand at its start.
+fn read_full(input: &mut impl Read, buf: &mut [u8]) -> io::Result<usize>
+    ensures { ReadsAtMost result buf.new }
+{
+    let mut done = 0;
+    while done < buf.len() {
+        let n = input.read(&mut buf[done..])?;
+        if n == 0 {
+            break;
+        }
+        done += n;
+    }
+    Ok(done)
+}
+
+fn main(rt: HostRuntime) -> io::Result<()> {
     let mut table = [0u8; INPUT_BYTES];
-    let got = io::read_full(STDIN_FILENO, &mut table);
+    let got = read_full(&mut rt.stdin(), &mut table)?;
     let mut out = [0u8; REPORT_BYTES];
     let length = report(&table[..got], &mut out);
-    io::write_all(STDOUT_FILENO, &out[..length]);
+    rt.stdout().write_all(&out[..length])
 }

@@ -1,4 +1,6 @@
 // The planners: each refuses, or lays its plan, clears the scratch and answers with the judge.
+#![tactic(auto)]
+
 mod common;
 
 ghost use Rattle.std.specs.Prelude.{◌≡◌};

@@ -1,0 +1,13 @@
+use Rattle.std.proofs.Common.{◌≤◌, length}
+use Rattle.best.proofs.LayMarking.{Marking}
+use Rattle.best.proofs.lay.lay_run.Given as goal
+
+-- the member to be marked is a node
+abbrev pub invariant-loop-left : goal.invariant-loop-left
+invariant-loop-left l =
+    (l.next ≤ length l.fn.marks)
+    × Marking l.rests l.gains l.prevs l.fn.child l.fn.len l.level.gain l.level.times l.fn.marks l.fn.seconds l.marks
+    l.seconds l.before l.left l.next
+
+abbrev pub decreases-loop-left : goal.decreases-loop-left
+decreases-loop-left l = l.left

@@ -1,0 +1,62 @@
+use Rattle.std.proofs.Common.{ℕ, List, length, sym, ap, ◌∙◌}
+use Rattle.std.proofs.Math.Path.{ap₂}
+use Rattle.model.specs.Refusals.{outcome, write_archive}
+use Rattle.model.specs.declared.Answer.{Answer}
+use Rattle.model.specs.declared.Edition.{Edition}
+use Rattle.theory.specs.PromiseConvert.{convert_none, convert_write}
+use Rattle.archive.specs.Answers.{Told}
+use Rattle.archive.specs.Parts.{known_part, told_fronts}
+use Rattle.archive.specs.Room.{Room, room_kept}
+use Rattle.converters.proofs.convert.convert_edition.Goals as goal
+
+-- there is still room in what was decoded into
+pub judge_film-answer-requires : goal.judge_film-answer-requires
+judge_film-answer-requires c = (room_kept c.requires.0 c.decode.auto.tree c.decode.auto.plan, c.decode.ensures)
+
+pub returns-then-answer-ne0 : goal.returns-then-answer-ne0
+returns-then-answer-ne0 c =
+    let none = c.judge_film-answer.ensures.refuses c.if-answer-ne0.true in
+    ap (λ (r : Answer). outcome r c.args.out.now) none.0
+    ∙ sym (convert_none c.args.e c.args.f c.args.archive.now c.args.out.now none.1)
+
+pub slice_bounds-write_edition-end : goal.slice_bounds-write_edition-end
+slice_bounds-write_edition-end c =
+    let room = room_kept c.requires.0 c.decode.auto.tree c.decode.auto.plan in
+    let fronts =
+    told_fronts c.judge_film-answer.ensures c.if-answer-ne0.false c.table_bytes-bytes.ensures
+    c.nodes_in-nodes.ensures room in
+    fronts.tree_fits
+
+pub slice_bounds-write_edition-end-2 : goal.slice_bounds-write_edition-end-2
+slice_bounds-write_edition-end-2 c =
+    let room = room_kept c.requires.0 c.decode.auto.tree c.decode.auto.plan in
+    let fronts =
+    told_fronts c.judge_film-answer.ensures c.if-answer-ne0.false c.table_bytes-bytes.ensures
+    c.nodes_in-nodes.ensures room in
+    known_part _ _ fronts.tree_fits
+
+pub slice_bounds-write_edition-end-3 : goal.slice_bounds-write_edition-end-3
+slice_bounds-write_edition-end-3 c =
+    let room = room_kept c.requires.0 c.decode.auto.tree c.decode.auto.plan in
+    let fronts =
+    told_fronts c.judge_film-answer.ensures c.if-answer-ne0.false c.table_bytes-bytes.ensures
+    c.nodes_in-nodes.ensures room in
+    fronts.plan_fits
+
+pub slice_bounds-write_edition-end-4 : goal.slice_bounds-write_edition-end-4
+slice_bounds-write_edition-end-4 c =
+    let room = room_kept c.requires.0 c.decode.auto.tree c.decode.auto.plan in
+    let fronts =
+    told_fronts c.judge_film-answer.ensures c.if-answer-ne0.false c.table_bytes-bytes.ensures
+    c.nodes_in-nodes.ensures room in
+    known_part _ _ fronts.plan_fits
+
+pub returns : goal.returns
+unfolding write_archive
+returns c =
+    let room = room_kept c.requires.0 c.decode.auto.tree c.decode.auto.plan in
+    let fronts =
+    told_fronts c.judge_film-answer.ensures c.if-answer-ne0.false c.table_bytes-bytes.ensures
+    c.nodes_in-nodes.ensures room in
+    c.write_edition.ensures ∙ ap₂ (λ t m. write_archive c.args.f t m c.args.out.now) fronts.tree_told fronts.plan_told
+    ∙ sym (convert_write c.args.e c.args.f c.args.archive.now c.args.out.now fronts.film)

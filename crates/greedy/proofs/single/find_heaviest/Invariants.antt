@@ -1,0 +1,10 @@
+use Rattle.theory.specs.PlanShape.{size}
+use Rattle.theory.specs.TableChain.{chain_at}
+use Rattle.greedy.proofs.Scan.{HeaviestTo}
+use Rattle.greedy.proofs.single.find_heaviest.Given as goal
+
+abbrev pub invariant-loop-u : goal.invariant-loop-u
+invariant-loop-u l = HeaviestTo l.table l.scratch l.v l.best l.u
+
+abbrev pub decreases-loop-u : goal.decreases-loop-u
+decreases-loop-u l = size (chain_at l.table l.u)
