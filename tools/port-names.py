@@ -18,7 +18,7 @@ SIGNED = re.compile(r"(?m)^\s*(?:\| )?((?:abbrev |unfoldable |pub |record |data 
 LISTED = re.compile(r"(?m)^\s*\| ([^\s:(){},.]+) : ")
 
 # names that two rules would send to one, or that a word of the library has
-BY_HAND = {"treeCD": "tree_cd", "last_line": "last_line_lem", "node_row": "node_row_lem", "old_row": "old_row_lem"}
+BY_HAND = {"treeCD": "tree_cd", "is_some": "some_is", "last_line": "last_line_lem", "node_row": "node_row_lem", "old_row": "old_row_lem"}
 APART = {"after_run", "goes_on", "one_more", "walk_from"}
 OF_STD = {"length", "append", "take", "drop", "set", "get_or", "sum", "replicate"}
 
@@ -81,7 +81,7 @@ def main():
     by_new = collections.defaultdict(set)
     for a, b in turn.items():
         by_new[b].add(a)
-    together = [(b, sorted(s)) for b, s in sorted(by_new.items()) if len(s) > 1 or tokens[b] > 0 and b not in APART and b not in turn]
+    together = [(b, sorted(s)) for b, s in sorted(by_new.items()) if len(s) > 1 or tokens[b] > 0 and b not in APART and b not in turn and b not in BY_HAND]
     if "--list" in sys.argv:
         for a, b in sorted(turn.items()):
             print(a, b)
@@ -95,7 +95,7 @@ def main():
             n = m.group(0)
             if n in BY_HAND and (not p.endswith(".antt") or t[m.start() - 1] == "."):
                 return n
-            return turn.get(n, n)
+            return BY_HAND.get(n) or turn.get(n, n)
 
         u = TOKEN.sub(respell, t)
         if u != t:

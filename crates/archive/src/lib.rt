@@ -1,5 +1,7 @@
 // The archive's reader, in an edition: it writes what it decoded, and compares. Refusal 13, and 12 and 8. What the
 // converters take from it is public.
+#![tactic(auto)]
+
 pub mod judged;
 mod read;
 

@@ -91,13 +91,13 @@ module _ {t rests gains prevs lasts xs marks seconds : List ℕ} {v : ℕ}
           low = omega arith;
           high = inside;
           ready = p.ready;
-          last_child_lem = p.last_child_lem w here inside;
+          last_child = p.last_child w here inside;
           columns = λ n s a b.
               p.columns w here inside n s a b
               ∙ ap (λ ks. cell_at (limit_of t) ks s)
               (sym (children_are w (nth_prev prevs n (get_or lasts w 0))
               (child-nth_prev t prevs p.ready.before p.ready.none w n (get_or lasts w 0)
-              (p.last_child_lem w here inside))));
+              (p.last_child w here inside))));
           second = λ q.
               let some : 1 ≤ (figure_at t g w).gain = omega (arith, ap (λ k. k.gain) figure) in
               rw (ap (λ k. k.rest) figure) (figure_starts t g w some);
@@ -113,14 +113,14 @@ module _ {t rests gains prevs lasts xs marks seconds : List ℕ} {v : ℕ}
         let K : ℕ = limit_of t in
         let w : ℕ = weight_at t u in
         let ks : List Child = children_of g K (chain_at t (first_at t u)) in
-        let last_child_lem = p.last_child_lem u (omega arith) high in
+        let last_child = p.last_child u (omega arith) high in
         let kids : ks ≡ children_in rests gains prevs (get_or lasts u 0) =
-        p.kids u (omega arith) high g ∙ sym (children_are u (get_or lasts u 0) last_child_lem) in
+        p.kids u (omega arith) high g ∙ sym (children_are u (get_or lasts u 0) last_child) in
         let rest : (entry_at K ks w).rest ≡ get_or rests u 0 =
         sym (ap (λ k. k.rest) (p.figures u (omega arith) high) ∙ figure_rest t g u) in
         record {
           chosen = reverse (siblings_back t (chosen_in marks seconds) (get_or lasts u 0));
-          along = back_along p.ready.accepted.sound (chosen_in marks seconds) u low (get_or lasts u 0) last_child_lem
+          along = back_along p.ready.accepted.sound (chosen_in marks seconds) u low (get_or lasts u 0) last_child
               (p.link u (omega arith) high);
           same =
               ap (λ W. reverse (entry_at K ks (start_of K w W (chosen_in marks seconds u).second)).choices) rest

@@ -152,7 +152,7 @@ module _ {t : List ℕ} {v : ℕ} {rests gains prevs lasts xs marks seconds : Li
       (w : Walking t v rests gains prevs lasts marks seconds marks' seconds' start child) where
     walk_child : ChildOrNone t v child
     walk_child = rw w.at (child-nth_prev t prevs node.ready.before node.ready.none v w.walked last
-        node.last_child_lem)
+        node.last_child)
 
     pub walk_high : child ≤ node_count t
     walk_high = child_high t v child walk_child
@@ -321,7 +321,7 @@ module _ {t : List ℕ} {v : ℕ} {rests gains prevs lasts xs marks seconds : Li
         let all : choices_for prevs (chosen_in marks' seconds') w.walked last
         ≡ siblings_back t (chosen_in marks' seconds') last =
         choices_all t prevs (chosen_in marks' seconds') v node.ready.before node.ready.none w.walked last
-        node.last_child_lem (sym w.at ∙ z)
+        node.last_child (sym w.at ∙ z)
         (λ j l. children_nodes rests gains prevs node.ready.earlier j last (omega (arith, w.within))) in
         record {
           long = w.laid.long;
@@ -331,7 +331,7 @@ module _ {t : List ℕ} {v : ℕ} {rests gains prevs lasts xs marks seconds : Li
               ∙ w.rest;
           others = λ u low h. w.laid.others u low
               (λ i l e. h (parent u low i (child-nth_prev t prevs node.ready.before node.ready.none v i last
-              node.last_child_lem) e));
+              node.last_child) e));
         }
       where
         parent : (u : ℕ) → 1 ≤ u → (i : ℕ) → ChildOrNone t v (nth_prev prevs i last) → u ≡ nth_prev prevs i last

@@ -60,7 +60,7 @@ pub record NodeReady (t : List ℕ) (v : ℕ) (rests gains prevs lasts xs marks 
   pub low : 1 ≤ v
   pub high : v ≤ node_count t
   pub ready : ColumnsReady t rests gains prevs xs
-  pub last_child_lem : ChildOrNone t v (get_or lasts v 0)
+  pub last_child : ChildOrNone t v (get_or lasts v 0)
   pub columns : ColumnsBack (limit_of t) (weight_at t v) rests gains prevs xs (get_or lasts v 0)
   pub second : 1 ≤ get_or gains v 0 → second_start (limit_of t) (weight_at t v) (get_or rests v 0) ≤ limit_of t
   pub long : length marks ≡ node_count t

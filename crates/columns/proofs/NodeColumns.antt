@@ -35,7 +35,7 @@ open_turn K s xs ys w high room =
 -- the columns of v's children up to `last` are filled, `child` is the next or 0, and no other block is changed
 pub record Filling (t rests gains prevs : List ℕ) (v last child : ℕ) (xs ys : List ℕ) : Type 0 where
   pub long : length ys ≡ length xs
-  pub last_child_lem : ChildOrNone t v last
+  pub last_child : ChildOrNone t v last
   pub link : after_at t v last ≡ child
   pub next : (child ≡ 0) ⊎ NextChild t v child last
   pub kids : KidsFrom t v child last
@@ -67,7 +67,7 @@ module _ {t rests gains prevs xs : List ℕ} (r : ColumnsReady t rests gains pre
   filling_start =
       record {
         long = refl;
-        last_child_lem = inl refl;
+        last_child = inl refl;
         link = refl;
         next = first_child r.accepted.sound v low high;
         kids = kids_first r.accepted.sound v low high;
@@ -121,7 +121,7 @@ module _ {t rests gains prevs xs : List ℕ} (r : ColumnsReady t rests gains pre
         let n = filling_next in
         record {
           long = w.long ∙ f.long;
-          last_child_lem = inr (n.low, n.high, n.parent);
+          last_child = inr (n.low, n.high, n.parent);
           link = pick_false (eqb child 0) (first_at t v) (next_at t child) (ne_eqb child 0 some);
           next = next_child r.accepted.sound v low high child last n;
           kids = kids_step r.accepted.sound v low high child last n f.kids;
@@ -143,7 +143,7 @@ pub filling_end : {t rests gains prevs xs ys : List ℕ} (v last child : ℕ)
 filling_end {t} v last child f z =
     record {
       long = f.long;
-      last_child_lem = f.last_child_lem;
+      last_child = f.last_child;
       link = f.link ∙ z;
       kids = kids_end t v last (rw z at f.kids);
       columns = f.columns;

@@ -35,7 +35,7 @@ module _ {t rests gains prevs lasts xs ys : List ℕ} {g : Bool} {v r : ℕ} (lo
   where
     pub block_fits : block_at (limit_of t) r + 2 * (limit_of t + 1) ≤ length ys
     block_fits =
-        let apart = block_apart (limit_of t) r (node_count t + 1) (omega (arith, child_high t v r f.last_child_lem)) in
+        let apart = block_apart (limit_of t) r (node_count t + 1) (omega (arith, child_high t v r f.last_child)) in
         omega (arith, apart, p.ready.room, f.long)
 
     module _ (K w here rest : ℕ) (limit : K ≡ limit_of t) (weight : w ≡ weight_at t v) (block : here ≡ block_at K r)

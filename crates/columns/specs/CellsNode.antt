@@ -177,7 +177,7 @@ ColumnsBack K start rests gains prevs ys u =
 -- the columns of v's children are filled, the last of them is r, and no other block is changed
 pub record ColumnsFilled (t rests gains prevs : List ℕ) (v r : ℕ) (xs ys : List ℕ) : Type 0 where
   pub long : length ys ≡ length xs
-  pub last_child_lem : ChildOrNone t v r
+  pub last_child : ChildOrNone t v r
   pub link : after_at t v r ≡ 0
   pub kids : (g : Bool) → children_of g (limit_of t) (chain_at t (first_at t v)) ≡ children_up_to t g r
   pub columns : ColumnsBack (limit_of t) (weight_at t v) rests gains prevs ys r

@@ -29,7 +29,7 @@ use Rattle.columns.specs.CellsNode.{children_same, ColumnsReady, ColumnsFilled}
 pub record NodesPlanned (t : List ℕ) (g : Bool) (v : ℕ) (rests gains prevs lasts xs : List ℕ) : Type 0 where
   pub ready : ColumnsReady t rests gains prevs xs
   pub figures : (u : ℕ) → v < u → u ≤ node_count t → child_in rests gains u ≡ figure_at t g u
-  pub last_child_lem : (w : ℕ) → v < w → w ≤ node_count t → ChildOrNone t w (get_or lasts w 0)
+  pub last_child : (w : ℕ) → v < w → w ≤ node_count t → ChildOrNone t w (get_or lasts w 0)
   pub link : (w : ℕ) → v < w → w ≤ node_count t → after_at t w (get_or lasts w 0) ≡ 0
   pub kids : (w : ℕ) → v < w → w ≤ node_count t → (h : Bool)
       → children_of h (limit_of t) (chain_at t (first_at t w)) ≡ children_up_to t h (get_or lasts w 0)
@@ -43,7 +43,7 @@ planned_none g lasts r =
     record {
       ready = r;
       figures = λ u p q. absurd (omega arith);
-      last_child_lem = λ u p q. absurd (omega arith);
+      last_child = λ u p q. absurd (omega arith);
       link = λ u p q. absurd (omega arith);
       kids = λ u p q. absurd (omega arith);
       columns = λ u p q. absurd (omega arith);
@@ -92,13 +92,13 @@ module _ {t rests gains prevs lasts xs ys : List ℕ} {g : Bool} {v r : ℕ} (lo
     same_children = children_same t rests gains prevs g v p.ready.before p.figures
 
     good_children : GoodChildren K (children_up_to t g r)
-    good_children = rw (same_children r f.last_child_lem) at (children_good K rests gains prevs p.ready.good r)
+    good_children = rw (same_children r f.last_child) at (children_good K rests gains prevs p.ready.good r)
 
     short_children : length (children_up_to t g r) ≤ max_nodes
     short_children =
         let l : length (children_in rests gains prevs r) ≤ r = children_length rests gains prevs p.ready.earlier r in
-        let m : length (children_up_to t g r) ≤ r = rw (same_children r f.last_child_lem) at l in
-        omega (arith, child_high t v r f.last_child_lem, p.ready.accepted.sound.count_high)
+        let m : length (children_up_to t g r) ≤ r = rw (same_children r f.last_child) at l in
+        omega (arith, child_high t v r f.last_child, p.ready.accepted.sound.count_high)
 
     rest_at : (s : ℕ) → weight_at t v ≤ s → s ≤ K
         → get_or ys (block_at K r + s) 0 % page_word ≡ (entry_at K kids s).rest
@@ -106,7 +106,7 @@ module _ {t rests gains prevs lasts xs ys : List ℕ} {g : Bool} {v r : ℕ} (lo
     rest_at s a b =
         let e = cell_entry K (omega (arith, small)) (children_up_to t g r) s b good_children short_children in
         let c : get_or ys (block_at K r + s) 0 ≡ (cell_at K (children_up_to t g r) s).word =
-        ap (λ x. x.word) (f.columns 0 s a b) ∙ ap (λ ks. (cell_at K ks s).word) (same_children r f.last_child_lem) in
+        ap (λ x. x.word) (f.columns 0 s a b) ∙ ap (λ ks. (cell_at K ks s).word) (same_children r f.last_child) in
         let d : word_of (entry_at K (children_up_to t g r) s) % page_word ≡ (entry_at K (children_up_to t g r) s).rest =
         word_rest (entry_at K (children_up_to t g r) s).count (entry_at K (children_up_to t g r) s).rest
         (omega (arith, e.high, small)) in
@@ -207,25 +207,25 @@ module _ {t rests gains prevs lasts xs ys : List ℕ} {g : Bool} {v r : ℕ} (lo
         go true e =
             let q : w ≡ v = eqb-true w v e in
             rw q (
-              f.last_child_lem,
+              f.last_child,
               f.link,
               f.kids,
               λ n s c d. f.columns n s c d
                   ∙ ap (λ ks. cell_at (limit_of t) ks s)
                   (children_same t rests gains prevs g v p.ready.before p.figures (nth_prev prevs n r)
-                  (child-nth_prev t prevs p.ready.before p.ready.none v n r f.last_child_lem)),
+                  (child-nth_prev t prevs p.ready.before p.ready.none v n r f.last_child)),
             )
         go false e =
             let q : w ≡ v → ⊥ = eqb-false w v e in
             let l : v < w = omega arith in (
-              p.last_child_lem w l b,
+              p.last_child w l b,
               p.link w l b,
               p.kids w l b,
               λ n s c d.
                   f.others (nth_prev prevs n (get_or lasts w 0)) s
                   (not_child w (nth_prev prevs n (get_or lasts w 0)) l
                   (child-nth_prev t prevs p.ready.before p.ready.none w n (get_or lasts w 0)
-                  (p.last_child_lem w l b)))
+                  (p.last_child w l b)))
                   d
                   ∙ p.columns w l b n s c d,
             )
@@ -245,7 +245,7 @@ module _ {t rests gains prevs lasts xs ys : List ℕ} {g : Bool} {v r : ℕ} (lo
                     f.others 0 s (λ q. omega (arith, parent_at_none t)) h ∙ p.ready.root s h;
               };
           figures = step_figures;
-          last_child_lem = λ w a b. (step_last w a b).0;
+          last_child = λ w a b. (step_last w a b).0;
           link = λ w a b. (step_last w a b).1;
           kids = λ w a b. (step_last w a b).2;
           columns = λ w a b. (step_last w a b).3;

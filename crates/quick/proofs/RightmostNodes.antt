@@ -125,7 +125,7 @@ module _ {t prevs rests sums lasts marks : List ℕ} {m : ℕ} (s : Settled t pr
           high = high;
           long = s.long;
           light = s.light;
-          last_child_lem = rw at kids.child;
+          last_child = rw at kids.child;
           sum_is = total_at;
           small = omega (
             arith,

@@ -149,7 +149,7 @@ module _ {t prevs rests entry : List ℕ} {v last sum : ℕ} (ready : CutReady t
   unfolding marks_on right_rest
   cutting_start left e =
       record {
-        child_is = ready.last_child_lem;
+        child_is = ready.last_child;
         long = ready.long;
         left_is = omega (arith, e, ready.sum_is);
         run_light = λ q. omega arith;

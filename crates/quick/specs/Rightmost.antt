@@ -50,7 +50,7 @@ pub record CutReady (t prevs rests marks : List ℕ) (v last sum : ℕ) : Type 0
   pub high : v ≤ node_count t
   pub long : length marks ≡ node_count t
   pub light : (u : ℕ) → rest_in rests u ≤ limit_of t
-  pub last_child_lem : ChildOrNone t v last
+  pub last_child : ChildOrNone t v last
   pub sum_is : sum ≡ total (rests_in t rests last)
   pub small : sum ≤ most_sum
 

@@ -198,8 +198,8 @@ first_to_suc n p = refl
 first_to_found : (n v : ℕ) (p : ℕ → Bool) → first_to n p ≡ At v → first_to (suc n) p ≡ At v
 first_to_found n v p e = first_to_suc n p ∙ at_place_at (first_to n p) v At (when (p (suc n)) (suc n)) e
 
-pub first_to-further : (n : ℕ) (p : ℕ → Bool) → first_to n p ≡ Nowhere → first_to (suc n) p ≡ when (p (suc n)) (suc n)
-first_to-further n p e = first_to_suc n p ∙ at_place_nowhere (first_to n p) At (when (p (suc n)) (suc n)) e
+pub first_to_further : (n : ℕ) (p : ℕ → Bool) → first_to n p ≡ Nowhere → first_to (suc n) p ≡ when (p (suc n)) (suc n)
+first_to_further n p e = first_to_suc n p ∙ at_place_nowhere (first_to n p) At (when (p (suc n)) (suc n)) e
 
 pub first_to_cong : (n : ℕ) (p q : ℕ → Bool) → Upto n (λ v. p v ≡ q v) → first_to n p ≡ first_to n q
 first_to_cong zero p q h = simp first_to_zero
@@ -212,7 +212,7 @@ first_to_cong (suc n) p q h =
 pub first_to_none : (n : ℕ) (p : ℕ → Bool) → Upto n (λ v. p v ≡ false) → first_to n p ≡ Nowhere
 first_to_none zero p h = first_to_zero p
 first_to_none (suc n) p h =
-    first_to-further n p (first_to_none n p (upto_less (λ v. p v ≡ false) n h))
+    first_to_further n p (first_to_none n p (upto_less (λ v. p v ≡ false) n h))
     ∙ when_false (p (suc n)) (suc n) (upto_last (λ v. p v ≡ false) n h)
 
 pub first_to_nowhere : (n : ℕ) (p : ℕ → Bool) → first_to n p ≡ Nowhere → Upto n (λ v. p v ≡ false)
@@ -221,7 +221,7 @@ first_to_nowhere (suc n) p e =
     ⊎_elim (λ f. absurd (at_nowhere f.0 (sym (first_to_found n f.0 p f.1) ∙ e)))
     (λ q.
     upto_add (λ v. p v ≡ false) n (first_to_nowhere n p q)
-    (when_nowhere (p (suc n)) (suc n) (sym (first_to-further n p q) ∙ e)))
+    (when_nowhere (p (suc n)) (suc n) (sym (first_to_further n p q) ∙ e)))
     (place_cases (first_to n p))
 
 -- v is the first of 1 to n that passes
@@ -241,7 +241,7 @@ first_to_at (suc n) v p e = go (first_to n p) refl (first_to_at n)
     go : (o : Place) → first_to n p ≡ o → ((u : ℕ) (q : ℕ → Bool) → first_to n q ≡ At u → First n q u) → First (suc n) p v
     go (At u) q ih = more (ih v p (q ∙ sym (first_to_found n u p q) ∙ e))
     go Nowhere q ih =
-        let both = when_at (p (suc n)) (suc n) v (sym (first_to-further n p q) ∙ e) in
+        let both = when_at (p (suc n)) (suc n) v (sym (first_to_further n p q) ∙ e) in
         let none : Upto n (λ u. p u ≡ false) = first_to_nowhere n p q in
         record {
           low = omega arith;

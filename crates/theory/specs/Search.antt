@@ -4,11 +4,11 @@ use Rattle.std.specs.Prelude.{◌≡◌, Bool, true, false, ℕ, suc, ◌+◌, �
 use Rattle.std.proofs.Common.{sym, ◌∙◌, arith, add-one}
 use Rattle.model.specs.Basics.{first_to}
 use Rattle.model.specs.declared.Place.TheVariants.{At, Nowhere}
-use Rattle.theory.specs.Ranges.{when_false, first_to-further, first_to_nowhere, first_to-first}
+use Rattle.theory.specs.Ranges.{when_false, first_to_further, first_to_nowhere, first_to-first}
 
 module _ (p : ℕ → Bool) (v : ℕ) (none : first_to v p ≡ Nowhere) where
   pub search_on : p (v + 1) ≡ false → first_to (v + 1) p ≡ Nowhere
-  search_on h = rw add-one (first_to-further v p none ∙ when_false (p (suc v)) (suc v) (rw add-one at h))
+  search_on h = rw add-one (first_to_further v p none ∙ when_false (p (suc v)) (suc v) (rw add-one at h))
 
   pub search_found : (n : ℕ) → v < n → p (v + 1) ≡ true → first_to n p ≡ At (v + 1)
   search_found n l h =

@@ -13,7 +13,7 @@ pub loop-v-preserved : goal.loop-v-preserved
 loop-v-preserved c =
     let p = c.requires.0.1 in
     laying_turn c.loop-v.invariant (laying_ready c.loop-v.invariant p (omega (arith, c.node_count-nodes.ensures)))
-    (λ w low h. p.last_child_lem w (omega arith) h) c.lay_children.ensures
+    (λ w low h. p.last_child w (omega arith) h) c.lay_children.ensures
 
 pub returns : goal.returns
 returns c = λ g p. laying_end c.loop-v.invariant p (omega (arith, c.node_count-nodes.ensures))
