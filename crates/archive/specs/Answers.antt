@@ -17,7 +17,8 @@ use Rattle.theory.specs.Bools.{never_true, both_true, and_false_right}
 use Rattle.theory.specs.JudgeAnswers.{page_count_le}
 use Rattle.theory.specs.ArchiveWords.{length_archive, archive_nodes_lem}
 use Rattle.theory.specs.ArchiveBack.{same_list_true, write_read}
-use Rattle.theory.specs.ArchiveAnswers.{WriteDone, writer_done, writer_refused}
+use Rattle.theory.specs.ArchiveAnswers.{WriteDone, writer_done}
+use Rattle.theory.proofs.ArchiveAnswers.{writer_refused}
 use Rattle.records.specs.Size.{longest_archive, InRoom, fits_longest}
 use Rattle.film.specs.Decoded.{Decoded, too_many}
 

@@ -1,5 +1,5 @@
--- What the judge promises beside its equation (judge_promise): plans and sequences of sibling runs are the same, order
--- apart, and the verdict's figures are those of the plan's runs. Assumes nothing.
+-- Plans and sequences of sibling runs are the same, order apart (held, heavy, plan_of), and the verdict's figures are
+-- those of the plan's runs (held). Assumes nothing.
 use Rattle.std.specs.Prelude.{ℕ, false, ◌≡◌, List, [], ◌∷◌, length}
 use native.Mathlib.Omega.{arith}
 use Rattle.std.proofs.Math.Bool.{true}
@@ -15,7 +15,7 @@ use Rattle.model.specs.Refusals.{asked}
 use Rattle.model.specs.Refusals.{mark_refused, page_refused, head_checks, node_checks, weight_checks, form_checks, tree_checks}
 use Rattle.model.specs.Refusals.{found_checks, mark_checks, judge_checks, accepted_tree, feasible_plan, answer_of}
 use Rattle.model.specs.Refusals.{plain_rules, first_of, judge_plan}
-use Rattle.model.specs.Demand.{HeldExactly, PlanOf, JudgePromise}
+use Rattle.model.specs.Demand.{HeldExactly, PlanOf}
 use Rattle.model.specs.declared.Answer.{Answer}
 use Rattle.model.specs.declared.Cause.TheVariants.{BadMark, HeavyPage}
 use Rattle.model.specs.declared.Place.TheVariants.{Nowhere}
@@ -30,12 +30,11 @@ use Rattle.theory.specs.PlanFeasible.{Judged, feasible_judged, judged_feasible, 
 use Rattle.theory.specs.JudgedEntries.{judge_passes}
 use Rattle.theory.specs.RunsSame.{apart_same}
 use Rattle.theory.specs.RunsHeld.{PlanRuns, plan_runs, RunsPlan, runs_plan}
-use Rattle.theory.specs.PromiseWeight.{judge_weight}
 
 -- ---- The runs of a plan
 
 module _ (t m : List ℕ) where
-  held : (judge_plan t m).number ≡ 0
+  pub held : (judge_plan t m).number ≡ 0
       → (P : ℕ) × (W : ℕ) × (judge_plan t m ≡ answer_of (Feasible P W)) × HeldExactly t P W (runs_of t m)
   unfolding judge_plan feasible_plan
   held z =
@@ -97,7 +96,7 @@ module _ (t m : List ℕ) where
             ),
       )
 
-  heavy : (judge_plan t m).number ≡ 11 → (holds t (runs_of t m) ≡ true) × (within_limit t (runs_of t m) ≡ false)
+  pub heavy : (judge_plan t m).number ≡ 11 → (holds t (runs_of t m) ≡ true) × (within_limit t (runs_of t m) ≡ false)
   heavy e =
       let found = found_heavy e in
       let runs : PlanRuns t m = plan_runs found.0.sound m found.1 in
@@ -135,7 +134,7 @@ module _ (t : List ℕ) (tree : accepted_tree t ≡ true) where
         ∙ at_place_at (heavy_page t n) x.0 (λ p. Failed (HeavyPage p)) _ x.1)))
         (λ none. absurd (other none)) (place_cases (heavy_page t n))
 
-  plan_of : (qs : List Run) → holds t qs ≡ true → PlanOf t qs
+  pub plan_of : (qs : List Run) → holds t qs ≡ true → PlanOf t qs
   plan_of qs h =
       let p : RunsPlan t qs = runs_plan facts.sound qs h in
       record {
@@ -150,13 +149,3 @@ module _ (t : List ℕ) (tree : accepted_tree t ≡ true) where
             ∙ ap₂ (λ (x y : ℕ). answer_of (Feasible x y)) p.count p.root;
         heavy = λ w. heavier p.marks p.long p.good (λ none. true≢false (sym (p.limit.0 none) ∙ w));
       }
-
-pub judge_promise : (t m : List ℕ) → JudgePromise t m (judge_plan t m)
-judge_promise t m =
-    record {
-      accepts = feasible_judge t m;
-      held = held t m;
-      heavy = heavy t m;
-      plans = plan_of t;
-      weight = judge_weight t m;
-    }

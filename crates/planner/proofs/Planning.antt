@@ -20,7 +20,7 @@ use Rattle.theory.specs.Entries.{promised, entry_done, entry_refused, entry_pass
 use Rattle.theory.specs.PlanFeasible.{Judged}
 use Rattle.theory.specs.JudgeAnswers.{tree_accepted}
 use Rattle.theory.specs.PromisePlanner.{passes_lent, planned_done, planned_refused, plan_promise, best_promise}
-use Rattle.theory.specs.PromisePlanner.{quick_promise}
+use Rattle.theory.proofs.PromisePlanner.{quick_promise}
 use Rattle.planner.specs.declared.Planner.{Planner}
 use Rattle.planner.specs.Planners.{steps_of, laid_by, PlanReady, steps_judged}
 

@@ -15,10 +15,11 @@ use Rattle.model.specs.declared.Answer.{Answer}
 use Rattle.theory.specs.Entries.{promised}
 use Rattle.theory.specs.TableFacts.{AcceptedFacts, accepted_facts}
 use Rattle.theory.specs.BestLowest.{best_judged, single_judged}
-use Rattle.theory.specs.PricePages.{total_fits}
+use Rattle.theory.proofs.PricePages.{total_fits}
 use Rattle.theory.specs.PromisePlanner.{passes_lent, planned_done, planned_refused, plan_passes, plan_fails}
 use Rattle.theory.specs.PromisePlanner.{planned_again, best_plan_lem}
-use Rattle.theory.specs.PromisePrice.{saved_done, saved_refused, saving_promise}
+use Rattle.theory.specs.PromisePrice.{saved_done, saved_refused}
+use Rattle.theory.proofs.PromisePrice.{saving_promise}
 
 -- with the equation, the promise
 pub saved_both : (t m s : List ℕ) {m' s' : List ℕ} {r : Answer} {z : ℤ} → saved (plan_left r m' s') z ≡ save_best t m s

@@ -1,33 +1,32 @@
 -- The answers of the archive's writer, under any rules, and of its reader, case by case, and what each tells.
--- Defines WriteDone. Proves film_answer, film_fifteen, film_few, film_long; write_done, write_many, write_fourteen,
--- write_fifteen, write_kept, writer_done, writer_refused; unfiled_stops; read_none, read_table, read_marks, read_done,
--- reader_done, read_kept, read_thirteen. Assumes nothing.
-use Rattle.std.specs.Prelude.{ℕ, ◌≤◌, ◌<◌, true, false, ◌&&◌, ◌≡◌, length, eqb, ltb}
+-- Defines WriteDone. Proves film_answer, film_fifteen, film_few, film_long; write_many, write_fourteen, write_fifteen,
+-- write_kept, writer_done; unfiled_stops; read_none, read_table, read_marks, read_done, reader_done, read_kept,
+-- read_thirteen. Assumes nothing.
+use Rattle.std.specs.Prelude.{ℕ, ◌≤◌, ◌<◌, true, false, ◌≡◌, length, eqb, ltb}
 use Rattle.std.proofs.Common.{arith, sym, ◌∙◌}
 use Rattle.std.proofs.Math.Bool.{not}
 use Rattle.std.proofs.Math.Path.{refl, ap, ap₂}
 use mathlib.Core.List.{List, [], ◌∷◌, ◌++◌}
 use borrow.Author.Tests.{not-false, eqb-true, ltb-false, lt-ltb, le-ltb}
-use Rattle.model.specs.Basics.{when, at_place, every, same_list}
+use Rattle.model.specs.Basics.{when, at_place, every}
 use Rattle.model.specs.Table.{node_count, table_bytes}
 use Rattle.model.specs.Plan.{page_count, verdict_of}
 use Rattle.model.specs.Archive.{archive_of, archive_bytes, nodes_in, table_in, marks_in}
 use Rattle.model.specs.Refusals.{bad_marks, bad_output, no_archive, many_nodes, judge_checks, film_checks, back_checks}
 use Rattle.model.specs.Refusals.{write_checks, read_checks, passes, answer_of, refused, first_of, no_label, feasible_film}
-use Rattle.model.specs.Refusals.{Check, Rules, writer_rules, feasible_by, Outcome, outcome, checked, Written, write_by}
+use Rattle.model.specs.Refusals.{Check, Rules, writer_rules, feasible_by, Outcome, outcome, checked, write_by}
 use Rattle.model.specs.Refusals.{write_archive, is_archive, ReadBuffers, read_left, read_archive}
 use Rattle.model.specs.declared.Edition.{Edition}
 use Rattle.model.specs.declared.Place.TheVariants.{At}
 use Rattle.model.specs.declared.Answer.{Answer}
-use Rattle.theory.specs.Bools.{never_true, both_true}
+use Rattle.theory.specs.Bools.{never_true}
 use Rattle.theory.specs.Ranges.{when_true, when_false, when_nowhere, at_place_at, at_place_nowhere}
 use Rattle.theory.specs.Checks.{Pass, pass_all, first_of_append, Never, never_first, film_plain, read_plain}
 use Rattle.theory.specs.Entries.{unequal, equal, entry_none, entry_stop, entry_next, entry_passed}
 use Rattle.theory.specs.Entries.{entry_accepted, entry_kept}
 use Rattle.theory.specs.PlanFeasible.{Judged, with_judged, film_judged, judged_zero, label_stops}
-use Rattle.theory.specs.JudgedEntries.{given_zero, after_never, after_parts, after_zero, after_done, after_last}
-use Rattle.theory.specs.ArchiveWords.{Described, length_archive, archive_nodes_lem}
-use Rattle.theory.specs.ArchiveBack.{same_list_true, read_write}
+use Rattle.theory.specs.JudgedEntries.{given_zero, after_never, after_parts, after_zero, after_last}
+use Rattle.theory.specs.ArchiveBack.{read_write}
 
 -- ---- What is checked of the film
 
@@ -92,12 +91,6 @@ module _ (rules : Rules) (e : Edition) (t m out : List ℕ) where
   abbrev film : List Check
   film = film_checks e t m out
 
-  pub write_done : feasible_by rules t m ≡ true → node_count t ≤ e.most
-      → length out ≡ archive_bytes e (page_count t m) (node_count t)
-      → write_by rules e t m out ≡ outcome (answer_of (verdict_of t m)) (archive_of e t m)
-  unfolding write_checks
-  write_done f few fits = after_done rules t m film _ _ f (film_long e t m out few fits)
-
   write_last : feasible_by rules t m ≡ true
       → (write_by rules e t m out).answer ≡ first_of (film_checks e t m out) (answer_of (verdict_of t m))
   unfolding write_checks
@@ -150,20 +143,6 @@ module _ (rules : Rules) (e : Edition) (t m out : List ℕ) where
         few = (film_few e t m out parts.1).0;
         wrote = entry_accepted _ _ out (judge_checks rules t m ++ film) never z;
       }
-
-  pub writer_refused : Described e → ((write_by rules e t m out).answer.number ≡ 0 → ⊥) → (a : List ℕ)
-      → nodes_in e a ≤ e.most → length out ≡ length a
-      → (feasible_by rules t m && same_list (archive_of e t m) a) ≡ false
-  writer_refused d h a few long =
-      never_true _
-      (λ y.
-      let both = both_true (feasible_by rules t m) (same_list (archive_of e t m) a) y in
-      let same : archive_of e t m ≡ a = same_list_true (archive_of e t m) a both.1 in
-      h
-      (ap (λ (w : Written). w.answer.number)
-      (write_done both.0 (omega (arith, ap (nodes_in e) same, archive_nodes_lem d t m))
-      (long ∙ ap length (sym same) ∙ length_archive d t m))
-      ∙ given_zero rules t m both.0))
 
 -- the writer of an edition, handed a tree and a plan from film, in which nothing but a label is refused
 pub unfiled_stops : (e f : Edition) (t m out : List ℕ) → feasible_film f t m ≡ true → (v : ℕ) → (no_label t).place ≡ At v

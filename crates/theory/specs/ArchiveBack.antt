@@ -1,7 +1,7 @@
 -- Writing and reading back, in an edition. The archive of a tree and a plan in which the judge that film is held
 -- against finds nothing tells that very table and those very marks, so it passes the reader's test; an archive that
--- passes the test is written by the tree and the plan that it tells, and is of no other edition.
--- Defines table_row. Proves write_read, read_write, editions_apart, table_in-bytes. Assumes nothing.
+-- passes the test is written by the tree and the plan that it tells.
+-- Defines table_row. Proves write_read, read_write, table_in-bytes. Assumes nothing.
 use Prim.Native.Nat.{ℕ, zero, suc, ◌+◌, ◌-◌, ◌*◌, ◌/◌, ◌%◌, ◌≤◌, ◌<◌}
 use native.Mathlib.Omega.{arith}
 use Rattle.std.proofs.Math.Bool.{Bool, true, false}
@@ -20,7 +20,6 @@ use Rattle.model.specs.Table.{weight_at, label_at, first_at, next_at}
 use Rattle.model.specs.Plan.{parent_at, stays, begins, continues, mark_at, has_mark}
 use Rattle.model.specs.Plan.{page_count, run_last}
 use Rattle.model.specs.Runs.{Run}
-use Rattle.model.specs.Archive.{first_edition, second_edition}
 use Rattle.model.specs.Archive.{archive_of, nodes_in, limit_in, pages_in, page_field_in, node_field_in, parent_in, first_in}
 use Rattle.model.specs.Archive.{next_in}
 use Rattle.model.specs.Archive.{table_in, begins_in, continues_in, mark_in, marks_in}
@@ -43,7 +42,7 @@ use Rattle.theory.specs.PagesByNumber.{Page, page_first, page_run_lem}
 use Rattle.theory.specs.Put.{length_records_to, get_d_records_to}
 use Rattle.theory.specs.ArchiveWords.{Described, archive_nodes_lem}
 use Rattle.theory.specs.ArchiveWords.{archive_limit, archive_pages, archive_begin, archive_end, archive_node}
-use Rattle.theory.specs.ArchiveWords.{archive_parent, second_word}
+use Rattle.theory.specs.ArchiveWords.{archive_parent}
 
 -- ---- A table is told by its words
 
@@ -370,16 +369,6 @@ read_write e a y =
       feasible = both.0;
       same = same_list_true (archive_of e t m) a both.1;
     }
-
--- an archive of one edition is none of the other
-pub editions_apart : (a : List ℕ) → is_archive first_edition a ≡ true → is_archive second_edition a ≡ true → ⊥
-editions_apart a first second =
-    omega (
-      arith,
-      (read_write first_edition a first).few,
-      ap (nodes_in first_edition) (read_write second_edition a second).same,
-      second_word (table_in second_edition a) (marks_in second_edition a),
-    )
 
 -- ---- What an archive of bytes tells is bytes
 

@@ -77,7 +77,6 @@ pub mod BestLowest
 pub mod PromiseWeight
 pub mod PromisePlanner
 pub mod ArchiveLowest
-pub mod PromiseArchive
 pub mod PromiseConvert
 pub mod PromiseSheets
 pub mod PromisePrice

@@ -1,6 +1,6 @@
 -- What the planners' entries promise beside their equations, from the answer and what is left: each accepts, with a
 -- feasible plan (plan_promise, best_plan_lem), the best planner's plan is the lowest there is (best_promise), and so not
--- above any feasible plan (best_not_above), a quick planner's among them (quick_promise).
+-- above any feasible plan (best_not_above).
 -- Proves lent_passes, passes_lent (right buffers are checks that pass), planned_done, planned_refused (what a planner
 -- leaves), plan_passes, plan_fails (a planner answers 0 where it was lent an accepted tree and right buffers, and else
 -- not), planned_again (one planner after the other). Assumes nothing.
@@ -17,7 +17,7 @@ use Rattle.model.specs.Steps.{best_marks}
 use Rattle.model.specs.Refusals.{bad_marks, short_scratch, scratch_words, tree_checks, lent_checks, plan_checks, passes}
 use Rattle.model.specs.Refusals.{accepted_tree, feasible_plan, answer_of, accepted, first_of, Outcome, checked}
 use Rattle.model.specs.Refusals.{PlanBuffers, plan_left, planned, plan_best}
-use Rattle.model.specs.Demand.{Lowest, WeightPromise, PlanLent, PlanPromise, BestPromise, QuickPromise}
+use Rattle.model.specs.Demand.{Lowest, WeightPromise, PlanLent, PlanPromise, BestPromise}
 use Rattle.model.specs.declared.Answer.{Answer}
 use Rattle.model.specs.declared.Beside.TheVariants.{Given}
 use Rattle.model.specs.declared.Verdict.TheVariants.{Feasible}
@@ -183,7 +183,7 @@ module _ (t m s : List ℕ) where
 -- ---- No feasible plan is below best's
 
 -- the figures of a planner that accepts are those of its plan
-plan_figures : (steps : ℕ → Chain → List ℕ) (t m s : List ℕ)
+pub plan_figures : (steps : ℕ → Chain → List ℕ) (t m s : List ℕ)
     (good : AcceptedFacts t → Judged t (steps (limit_of t) (tree_of t))) (P W : ℕ)
     → (planned steps t m s).answer ≡ answer_of (Feasible P W)
     → (P ≡ page_count t (steps (limit_of t) (tree_of t))) × (W ≡ page_weight t (steps (limit_of t) (tree_of t)) 1)
@@ -196,7 +196,7 @@ plan_figures steps t m s good P W e =
     (cc, cc, made_feasible steps t m s good passed)
 
 -- one law for whichever feasible plan
-best_not_above : (t n m s : List ℕ) (bestP bestW : ℕ) → feasible_plan t n ≡ true
+pub best_not_above : (t n m s : List ℕ) (bestP bestW : ℕ) → feasible_plan t n ≡ true
     → (plan_best t m s).answer ≡ answer_of (Feasible bestP bestW)
     → (bestP ≤ page_count t n) × (bestP ≡ page_count t n → bestW ≤ page_weight t n 1)
 best_not_above t n m s bestP bestW f e =
@@ -204,13 +204,3 @@ best_not_above t n m s bestP bestW f e =
     let best = plan_figures best_marks t m s best_judged bestP bestW e in
     let least = best_least_plan j.tree n j in
     (omega (arith, best.0, least.0), λ q. omega (arith, best.1, least.1 (sym q ∙ best.0)))
-
-pub quick_promise : (steps : ℕ → Chain → List ℕ) (t m s : List ℕ)
-    → (AcceptedFacts t → Judged t (steps (limit_of t) (tree_of t))) → QuickPromise t (planned steps t m s).answer
-quick_promise steps t m s good =
-    record {
-      not_below = λ m' s' P W bestP bestW e b.
-          let own = plan_figures steps t m s good P W e in
-          let least = best_not_above t (steps (limit_of t) (tree_of t)) m' s' bestP bestW own.2 b in
-          (omega (arith, own.0, least.0), λ q. omega (arith, own.1, least.1 (q ∙ own.0)));
-    }

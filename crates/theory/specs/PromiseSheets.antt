@@ -1,30 +1,16 @@
--- What the printer of leader sheets promises beside its equation (print_promise): every feasible plan is printed, and
--- the sheets, read by their columns, tell it. Every number of a feasible plan fits its field (pages_fit, sheets_fit).
--- Proves share_most, sheet_short, sheet_long besides. Assumes nothing.
-use Rattle.std.specs.Prelude.{ℕ, ◌*◌, ◌^◌, ◌≤◌, ◌<◌, true, ◌&&◌, ◌≡◌, List, length}
+-- Leader sheets of feasible plans: the share of a page is at most 100 per cent (share_most), page count and sheet numbers
+-- fit their fields (sheets_fit), and what an output's length comes to (sheet_short, sheet_long). Assumes nothing.
+use Rattle.std.specs.Prelude.{ℕ, ◌*◌, ◌^◌, ◌≤◌, ◌<◌, true, ◌≡◌, List, length}
 use native.Mathlib.Omega.{arith}
 use Rattle.std.proofs.Math.Nat.{div-le_of_le-mul}
-use Rattle.std.proofs.Common.{◌∙◌}
-use Rattle.std.proofs.Math.Path.{ap}
-use Rattle.std.proofs.Math.Dec.{eqb}
-use Rattle.model.specs.Table.{max_nodes, node_count, limit_of}
-use Rattle.model.specs.Plan.{begins, has_mark, in_run, page_of, page_count, verdict_of}
-use Rattle.model.specs.Runs.{page_run}
-use Rattle.model.specs.Sheets.{sheet_bytes, sheet_count, page_at, per_cent, sheets_of}
-use Rattle.model.specs.Refusals.{sheet_checks, print_checks, passes, answer_of, refused, first_of, plain_rules}
-use Rattle.model.specs.Refusals.{feasible_plan, outcome, Written, print_sheets}
-use Rattle.model.specs.Demand.{PageTold, PrintPromise}
-use Rattle.theory.specs.Ranges.{last_to_le}
-use Rattle.theory.specs.Checks.{Never, sheet_plain}
-use Rattle.theory.specs.Entries.{entry_passed, entry_accepted, entry_kept}
+use Rattle.model.specs.Table.{max_nodes}
+use Rattle.model.specs.Plan.{page_count, verdict_of}
+use Rattle.model.specs.Sheets.{sheet_bytes, sheet_count, per_cent}
+use Rattle.model.specs.Refusals.{sheet_checks, passes, answer_of, refused, first_of}
 use Rattle.theory.specs.JudgeAnswers.{page_count_le}
-use Rattle.theory.specs.PlanFeasible.{Judged, within_limit_lem, feasible_judged, judged_verdict}
-use Rattle.theory.specs.JudgedEntries.{after_never, after_parts, after_zero, after_done, short_output}
+use Rattle.theory.specs.PlanFeasible.{Judged}
+use Rattle.theory.specs.JudgedEntries.{short_output}
 use Rattle.theory.specs.JudgedEntries.{long_output}
-use Rattle.theory.specs.PagesByNumber.{last_on_page, first_found, last_found}
-use Rattle.theory.specs.SheetsRead.{sheet_numbers, PageFits, tells_number, tells_first, tells_last, tells_weight}
-use Rattle.theory.specs.SheetsRead.{tells_share}
-use Rattle.theory.specs.PromiseWeight.{print_weight}
 
 -- ---- Every number of a feasible plan fits its field
 
@@ -33,36 +19,8 @@ pub share_most : (weight limit : ℕ) → weight ≤ limit → per_cent weight l
 share_most weight limit within = div-le_of_le-mul limit (omega arith)
 
 module _ {t m : List ℕ} (j : Judged t m) where
-  pages_most : page_count t m ≤ max_nodes
+  pub pages_most : page_count t m ≤ max_nodes
   pages_most = omega (arith, page_count_le t m, j.tree.sound.count_high)
-
-  module _ (p : ℕ) (low : 1 ≤ p) (high : p ≤ page_count t m) where
-    run_most : ((page_run t m p).first ≤ node_count t) × ((page_run t m p).last ≤ node_count t)
-    unfolding last_on_page
-    run_most =
-        let s = j.tree.sound in (
-          omega (
-            arith,
-            first_found s m j.marked p low high,
-            last_to_le (node_count t) (λ u. eqb (page_of t m u) p && has_mark m begins u),
-          ),
-          omega (
-            arith,
-            last_found s m j.marked p low high,
-            last_to_le (node_count t) (λ u. eqb (page_of t m u) p && in_run m u),
-          ),
-        )
-
-    pub pages_fit : PageFits (page_count t m) (limit_of t) (page_at t m) p
-    pages_fit =
-        let count = j.tree.sound.count_high in
-        record {
-          number = omega (arith, pages_most);
-          first = omega (arith, run_most.0, count);
-          last = omega (arith, run_most.1, count);
-          weight = omega (arith, within_limit_lem j p low high, j.tree.sound.limit_high);
-          share = omega (arith, share_most _ _ (within_limit_lem j p low high));
-        }
 
   pub sheets_fit : (s : ℕ) → s ≤ sheet_count (page_count t m) → (page_count t m < 10 ^ 6) × (s < 10 ^ 6)
   sheets_fit s high = (omega (arith, pages_most), omega (arith, pages_most))
@@ -80,46 +38,3 @@ module _ (t m out : List ℕ) where
   pub sheet_long : length out ≡ sheet_bytes * sheet_count (page_count t m) → passes (sheet_checks t m out) ≡ true
   unfolding sheet_checks
   sheet_long fits = long_output _ out fits
-
-  -- ---- The promise
-
-  print_never : Never 0 (print_checks t m out)
-  unfolding print_checks
-  print_never = after_never plain_rules t m (sheet_checks t m out) (sheet_plain t m out).0
-
-  wrote : (print_sheets t m out).answer.number ≡ 0
-      → (feasible_plan t m ≡ true) × (print_sheets t m out ≡ outcome (answer_of (verdict_of t m)) (sheets_of t m))
-  unfolding print_sheets print_checks feasible_plan
-  wrote z = (
-    (after_parts plain_rules t m (sheet_checks t m out) (entry_passed _ _ out (print_checks t m out) print_never z)).0,
-    entry_accepted _ _ out (print_checks t m out) print_never z,
-  )
-
-  pages_told : Judged t m → (p : ℕ) → 1 ≤ p → p ≤ page_count t m → PageTold t m (sheets_of t m) p
-  unfolding sheets_of
-  pages_told j p low high =
-      let fits = pages_fit j p low high in
-      record {
-        number = tells_number _ _ (page_at t m) p low high fits;
-        first = tells_first _ _ (page_at t m) p low high fits;
-        last = tells_last _ _ (page_at t m) p low high fits;
-        weight = tells_weight _ _ (page_at t m) p low high fits;
-        share = tells_share _ _ (page_at t m) p low high fits;
-      }
-
-  pub print_promise : PrintPromise t m out (print_sheets t m out).answer (print_sheets t m out).left
-  unfolding print_sheets print_checks feasible_plan sheets_of
-  print_promise =
-      record {
-        accepts =
-            λ f fits.
-            ap (λ (w : Written). w.answer) (after_done plain_rules t m (sheet_checks t m out) _ _ f (sheet_long fits))
-            ∙ ap answer_of (judged_verdict (feasible_judged t m f));
-        pages = λ z. rw (wrote z).1 (pages_told (feasible_judged t m (wrote z).0));
-        sheets =
-            λ z s low high.
-            let fits = sheets_fit (feasible_judged t m (wrote z).0) s high in
-            rw (wrote z).1 (sheet_numbers (page_count t m) (limit_of t) (page_at t m) s low high fits.0 fits.1);
-        kept = entry_kept _ _ out (print_checks t m out) (after_zero plain_rules t m (sheet_checks t m out));
-        weight = print_weight t m out;
-      }

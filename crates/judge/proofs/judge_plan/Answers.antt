@@ -4,7 +4,7 @@ use Rattle.model.specs.Demand.{JudgePromise}
 use Rattle.model.specs.declared.Answer.{Answer}
 use Rattle.theory.specs.TableFacts.{passed_facts}
 use Rattle.theory.specs.JudgeAnswers.{judge_verdict}
-use Rattle.judge.specs.PromiseJudge.{judge_promise}
+use Rattle.judge.proofs.PromiseJudge.{judge_promise}
 use Rattle.judge.proofs.judge_plan.Goals as goal
 
 -- with the equation, the promise

@@ -5,9 +5,9 @@ use Rattle.model.specs.Demand.{ReadPromise}
 use Rattle.model.specs.declared.Answer.{Answer}
 use Rattle.model.specs.declared.Edition.{Edition}
 use Rattle.theory.specs.ArchiveWords.{first_described}
-use Rattle.theory.specs.ArchiveBack.{editions_apart}
+use Rattle.theory.proofs.ArchiveBack.{editions_apart}
 use Rattle.theory.specs.Entries.{promised}
-use Rattle.theory.specs.PromiseArchive.{read_promise}
+use Rattle.theory.proofs.PromiseArchive.{read_promise}
 use Rattle.records.specs.Size.{first_room}
 use Rattle.archive.specs.Room.{room_of}
 use Rattle.archive.proofs.read.read_archive.Goals as goal

@@ -6,7 +6,7 @@ use Rattle.model.specs.Archive.{first_edition, second_edition}
 use Rattle.model.specs.declared.Edition.{Edition}
 use Rattle.theory.specs.ArchiveWords.{first_described, second_described}
 use Rattle.theory.specs.Entries.{promised}
-use Rattle.theory.specs.PromiseConvert.{convert_promise}
+use Rattle.theory.proofs.PromiseConvert.{convert_promise}
 use Rattle.records.specs.Size.{first_room, second_room}
 use Rattle.archive.specs.Room.{room_of}
 use Rattle.converters.proofs.convert.convert_to_2.Goals as goal

@@ -5,7 +5,7 @@ use Rattle.model.specs.Demand.{PricePromise}
 use Rattle.model.specs.declared.Answer.{Answer}
 use Rattle.theory.specs.Entries.{promised, entry_done, entry_stands}
 use Rattle.theory.specs.JudgedEntries.{judge_passes, judge_given, given_zero}
-use Rattle.theory.specs.PromisePrice.{price_promise}
+use Rattle.theory.proofs.PromisePrice.{price_promise}
 use Rattle.price.proofs.LayoutTotal.{layout_total}
 use Rattle.price.proofs.priced.price.Goals as goal
 

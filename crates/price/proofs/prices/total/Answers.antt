@@ -3,7 +3,8 @@ use Rattle.std.proofs.Math.Path.{ap₂}
 use Rattle.model.specs.Basics.{sum_to}
 use Rattle.model.specs.Prices.{full_fill, price_at}
 use Rattle.theory.specs.Ranges.{sum_to_zero, sum_to_suc}
-use Rattle.theory.specs.PricePages.{fill_most, price_range, sum-most}
+use Rattle.theory.specs.PricePages.{fill_most}
+use Rattle.theory.proofs.PricePages.{price_range, sum-most}
 use Rattle.price.proofs.prices.total.Goals as goal
 
 pub loop-p-init : goal.loop-p-init

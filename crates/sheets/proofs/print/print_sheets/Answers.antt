@@ -7,7 +7,8 @@ use Rattle.model.specs.Demand.{PrintPromise}
 use Rattle.model.specs.declared.Answer.{Answer}
 use Rattle.theory.specs.Entries.{promised}
 use Rattle.theory.specs.JudgedEntries.{judge_passes, judge_given, judge_stands, after_stands, after_done}
-use Rattle.theory.specs.PromiseSheets.{sheet_short, sheet_long, print_promise}
+use Rattle.theory.specs.PromiseSheets.{sheet_short, sheet_long}
+use Rattle.theory.proofs.PromiseSheets.{print_promise}
 use Rattle.layout.specs.Rows.{Layout, FeasibleLayout}
 use Rattle.sheets.proofs.print.print_sheets.Goals as goal
 

@@ -5,7 +5,7 @@ use Rattle.model.specs.Demand.{WritePromise}
 use Rattle.model.specs.declared.Edition.{Edition}
 use Rattle.theory.specs.ArchiveWords.{first_described}
 use Rattle.theory.specs.Entries.{promised}
-use Rattle.theory.specs.PromiseArchive.{write_promise}
+use Rattle.theory.proofs.PromiseArchive.{write_promise}
 use Rattle.records.specs.Size.{first_room}
 use Rattle.writer.proofs.write.write_archive.Goals as goal
 

@@ -24,11 +24,12 @@ use Rattle.theory.specs.PromiseWeight.{write_weight, read_five}
 use Rattle.theory.specs.PromisePlanner.{best_lent, best_plan_lem, best_promise}
 use Rattle.theory.specs.ArchiveWords.{Described, length_archive, archive_nodes_lem}
 use Rattle.theory.specs.ArchiveBack.{write_read, WritesBack, read_write, table_in-bytes}
-use Rattle.theory.specs.ArchiveAnswers.{write_done, write_many, write_fifteen, write_kept}
+use Rattle.theory.specs.ArchiveAnswers.{write_many, write_fifteen, write_kept}
 use Rattle.theory.specs.ArchiveAnswers.{WriteDone, writer_done}
 use Rattle.theory.specs.ArchiveAnswers.{unfiled_stops, read_none, read_done, read_kept, reader_done}
 use Rattle.theory.specs.ArchiveAnswers.{read_thirteen}
-use Rattle.theory.specs.ArchiveLowest.{archive_figures, archive_plan, film_lowest}
+use Rattle.theory.proofs.ArchiveAnswers.{write_done}
+use Rattle.theory.proofs.ArchiveLowest.{archive_figures, archive_plan, film_lowest}
 
 -- ---- The writer
 
