@@ -1,4 +1,5 @@
 // The answer types of document 01. Their meaning, and every rule of the document, stands in specs/.
+#![tactic(auto)]
 
 // A place that a check names, as the first node of a kind; or none, where its condition does not hold.
 #[derive(Drop)]

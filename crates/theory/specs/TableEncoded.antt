@@ -3,7 +3,7 @@
 -- Defines Fits, Encodable. Proves encoded_count, encoded_limit, encoded_tree, encoded_sound (sound form, whatever the
 -- weights and the labels), encoded_accepted; and tree_fits: the nodes of an accepted tree are within those bounds. They
 -- serve a late leaf, and stand ready for request Fourteen (the table of a load). Assumes nothing.
-use Rattle.std.specs.Prelude.{ℕ, suc, ◌+◌, ◌-◌, ◌*◌, ◌≤◌, ◌<◌, true, ◌≡◌, List, [], ◌∷◌, ◌++◌, length}
+use Rattle.std.specs.Prelude.{ℕ, suc, ◌+◌, ◌-◌, ◌*◌, ◌≤◌, ◌<◌, true, ◌≡◌, List, ◌∷◌, ◌++◌, length}
 use Rattle.std.proofs.Common.{arith, add-zero, zero-add, ◌∙◌, ap, length-append}
 use Rattle.std.proofs.Math.Path.{refl}
 use Rattle.model.specs.Table.{Bytes, max_nodes, max_limit, word_at, bytes_of, node_count, limit_of, field_at, weight_at}

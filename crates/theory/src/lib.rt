@@ -1,1 +1,3 @@
+#![tactic(auto)]
+
 // Laws about the definitions of `model`, in specs/. No code.

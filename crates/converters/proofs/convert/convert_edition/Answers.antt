@@ -1,12 +1,10 @@
-use Rattle.std.proofs.Common.{ℕ, List, length, sym, ap, ◌∙◌}
+use Rattle.std.proofs.Common.{sym, ap, ◌∙◌}
 use Rattle.std.proofs.Math.Path.{ap₂}
 use Rattle.model.specs.Refusals.{outcome, write_archive}
 use Rattle.model.specs.declared.Answer.{Answer}
-use Rattle.model.specs.declared.Edition.{Edition}
 use Rattle.theory.specs.PromiseConvert.{convert_none, convert_write}
-use Rattle.archive.specs.Answers.{Told}
 use Rattle.archive.specs.Parts.{known_part, told_fronts}
-use Rattle.archive.specs.Room.{Room, room_kept}
+use Rattle.archive.specs.Room.{room_kept}
 use Rattle.converters.proofs.convert.convert_edition.Goals as goal
 
 -- there is still room in what was decoded into
