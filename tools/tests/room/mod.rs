@@ -9,9 +9,10 @@ pub struct Room(PathBuf);
 
 impl Room {
     pub fn new(name: &str) -> Room {
-        let name = format!("balduqen-{}-{name}", process::id());
-        let folder = env::temp_dir().join(name);
-        let _ = fs::remove_dir_all(&folder);
+        let own = env::temp_dir().join(format!("balduqen-{}-{name}", process::id()));
+        let _ = fs::remove_dir_all(&own);
+        // a test may go by its folder's name
+        let folder = own.join(name);
         fs::create_dir_all(&folder).expect("a folder");
         Room(folder)
     }
@@ -27,6 +28,7 @@ impl Deref for Room {
 
 impl Drop for Room {
     fn drop(&mut self) {
-        let _ = fs::remove_dir_all(&self.0);
+        let own = self.0.parent().expect("the room's own folder");
+        let _ = fs::remove_dir_all(own);
     }
 }

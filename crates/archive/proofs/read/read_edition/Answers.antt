@@ -1,7 +1,7 @@
-use Rattle.std.proofs.Common.{◌≡◌, ℕ, List, length, sym, ap, ap₂, ◌∙◌}
+use Rattle.std.proofs.Common.{◌≡◌, ℕ, List, length, sym, ap, ap₂, ◌∙◌, rules}
 use Rattle.model.specs.Table.{table_bytes}
 use Rattle.model.specs.Archive.{nodes_in}
-use Rattle.model.specs.Refusals.{refused, outcome, ReadBuffers, read_left}
+use Rattle.model.specs.Refusals.{refused, outcome, ReadBuffers, read_left, read_archive}
 use Rattle.model.specs.declared.Answer.{Answer}
 use Rattle.model.specs.declared.Edition.{Edition}
 use Rattle.theory.specs.ArchiveAnswers.{read_none, read_table, read_marks, read_done}
@@ -24,15 +24,20 @@ returns-then-answer-ne0 c =
     ap (λ (r : Answer). read_left r a.table.now a.marks.now) none.0
     ∙ sym (read_none a.e a.archive.now a.table.now a.marks.now none.1)
 
+-- by what a refusal answers, and not by which call made it
 pub returns-then-table-bytes : goal.returns-then-table-bytes
 returns-then-table-bytes c =
     let a = c.args in
     let f =
     fronts c.requires c.decode.auto.tree c.decode.auto.plan c.judge_film-answer.ensures c.if-answer-ne0.false
     c.table_bytes-size.ensures c.nodes_in-nodes.ensures in
-    ap (λ (r : Answer). read_left r a.table.now a.marks.now) (c.refuse.ensures ∙ ap (refused 12) f.bytes_are)
-    ∙ sym
-    (read_table a.e a.archive.now a.table.now a.marks.now f.film (λ long. c.if-table-bytes.true (long ∙ sym f.bytes_are)))
+    let told : (r : Answer) → r ≡ refused 12 c.table_bytes-size.result
+        → read_left r a.table.now a.marks.now ≡ read_archive a.e a.archive.now a.table.now a.marks.now =
+        λ r is. ap (λ (r : Answer). read_left r a.table.now a.marks.now) (is ∙ ap (refused 12) f.bytes_are)
+        ∙ sym
+        (read_table a.e a.archive.now a.table.now a.marks.now f.film
+        (λ long. c.if-table-bytes.true (long ∙ sym f.bytes_are))) in
+    told _ (search rules)
 
 pub returns-then-marks-count : goal.returns-then-marks-count
 returns-then-marks-count c =
@@ -40,11 +45,15 @@ returns-then-marks-count c =
     let f =
     fronts c.requires c.decode.auto.tree c.decode.auto.plan c.judge_film-answer.ensures c.if-answer-ne0.false
     c.table_bytes-size.ensures c.nodes_in-nodes.ensures in
-    ap (λ (r : Answer). read_left r a.table.now a.marks.now)
-    (c.refuse-then-marks-count.ensures ∙ ap (refused 8) f.count_is)
-    ∙ sym
-    (read_marks a.e a.archive.now a.table.now a.marks.now f.film (c.if-table-bytes.false ∙ f.bytes_are)
-    (λ long. c.if-marks-count.true (long ∙ sym f.count_is)))
+    -- the table has its length, since 12 comes before 8
+    let long : length a.table.now ≡ c.table_bytes-size.result = search rules in
+    let told : (r : Answer) → r ≡ refused 8 c.nodes_in-nodes.result
+        → read_left r a.table.now a.marks.now ≡ read_archive a.e a.archive.now a.table.now a.marks.now =
+        λ r is. ap (λ (r : Answer). read_left r a.table.now a.marks.now) (is ∙ ap (refused 8) f.count_is)
+        ∙ sym
+        (read_marks a.e a.archive.now a.table.now a.marks.now f.film (long ∙ f.bytes_are)
+        (λ long. c.if-marks-count.true (long ∙ sym f.count_is))) in
+    told _ (search rules)
 
 pub slice_bounds-copy_bytes-end : goal.slice_bounds-copy_bytes-end
 slice_bounds-copy_bytes-end c =
