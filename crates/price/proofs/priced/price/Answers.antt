@@ -1,4 +1,4 @@
-use Rattle.std.proofs.Common.{sym, ap, ◌∙◌}
+use Rattle.std.proofs.Common.{◌≡◌, sym, ap, ◌∙◌, rules}
 use Rattle.std.proofs.Math.Path.{ap₂}
 use Rattle.model.specs.Refusals.{plain_rules, judge_checks, outcome, price_plan}
 use Rattle.model.specs.Demand.{PricePromise}
@@ -26,8 +26,9 @@ returns c =
     let t = c.args.table.now in
     let m = c.args.marks.now in
     let answer = c.judge_pages-judged.ensures.answer_value in
-    let layout = c.judge_pages-judged.ensures.laid_beside.feasible c.if-answer-ne0.false in
-    let zero = sym (ap (λ (r : Answer). r.number) answer) ∙ c.if-answer-ne0.false in
+    let accepted : c.judge_pages-judged.result.answer.number ≡ 0 = search rules in
+    let layout = c.judge_pages-judged.ensures.laid_beside.feasible accepted in
+    let zero = sym (ap (λ (r : Answer). r.number) answer) ∙ accepted in
     let f = judge_passes plain_rules t m zero in
     let both =
     promised (PricePromise t m) (price_promise t m)
