@@ -1,7 +1,5 @@
--- Laws of prices: a page's fill has an entry among them, the last exactly where the page weighs K (fill_most,
--- fill_full); each is from 90 to 410 cents, by one test over the whole table (price_range), and so are a plan's cents a
--- page (sum-most, sum_least, total_range), so that a total fits an i32 (total_fits); and what a difference of two
--- numbers is, over the integers (less_is). Assumes nothing.
+-- Laws of prices: a page's fill has an entry among them (fill_most), each entry is from 90 to 410 cents (all_in_range),
+-- and what a difference of two numbers is, over the integers (less_is). Assumes nothing.
 use Rattle.std.specs.Prelude.{ℕ, ◌+◌, ◌*◌, ◌≤◌, Bool, true, ◌&&◌, ◌≡◌, refl, leb, ℤ, pos, neg_ℤ, ◌+ℤ◌, ◌-ℤ◌}
 use Rattle.std.proofs.Common.{arith, sym, ◌∙◌, ap}
 use Rattle.std.proofs.Math.Nat.{div-le_of_le-mul}
