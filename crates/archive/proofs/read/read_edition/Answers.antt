@@ -32,11 +32,11 @@ returns-then-table-bytes c =
     fronts c.requires c.decode.auto.tree c.decode.auto.plan c.judge_film-answer.ensures c.if-answer-ne0.false
     c.table_bytes-size.ensures c.nodes_in-nodes.ensures in
     let told : (r : Answer) → r ≡ refused 12 c.table_bytes-size.result
-        → read_left r a.table.now a.marks.now ≡ read_archive a.e a.archive.now a.table.now a.marks.now =
-        λ r is. ap (λ (r : Answer). read_left r a.table.now a.marks.now) (is ∙ ap (refused 12) f.bytes_are)
-        ∙ sym
-        (read_table a.e a.archive.now a.table.now a.marks.now f.film
-        (λ long. c.if-table-bytes.true (long ∙ sym f.bytes_are))) in
+    → read_left r a.table.now a.marks.now ≡ read_archive a.e a.archive.now a.table.now a.marks.now =
+    λ r is. ap (λ (r : Answer). read_left r a.table.now a.marks.now) (is ∙ ap (refused 12) f.bytes_are)
+    ∙ sym
+    (read_table a.e a.archive.now a.table.now a.marks.now f.film
+    (λ long. c.if-table-bytes.true (long ∙ sym f.bytes_are))) in
     told _ (search rules)
 
 pub returns-then-marks-count : goal.returns-then-marks-count
@@ -48,11 +48,11 @@ returns-then-marks-count c =
     -- the table has its length, since 12 comes before 8
     let long : length a.table.now ≡ c.table_bytes-size.result = search rules in
     let told : (r : Answer) → r ≡ refused 8 c.nodes_in-nodes.result
-        → read_left r a.table.now a.marks.now ≡ read_archive a.e a.archive.now a.table.now a.marks.now =
-        λ r is. ap (λ (r : Answer). read_left r a.table.now a.marks.now) (is ∙ ap (refused 8) f.count_is)
-        ∙ sym
-        (read_marks a.e a.archive.now a.table.now a.marks.now f.film (long ∙ f.bytes_are)
-        (λ long. c.if-marks-count.true (long ∙ sym f.count_is))) in
+    → read_left r a.table.now a.marks.now ≡ read_archive a.e a.archive.now a.table.now a.marks.now =
+    λ r is. ap (λ (r : Answer). read_left r a.table.now a.marks.now) (is ∙ ap (refused 8) f.count_is)
+    ∙ sym
+    (read_marks a.e a.archive.now a.table.now a.marks.now f.film (long ∙ f.bytes_are)
+    (λ long. c.if-marks-count.true (long ∙ sym f.count_is))) in
     told _ (search rules)
 
 pub slice_bounds-copy_bytes-end : goal.slice_bounds-copy_bytes-end
