@@ -10,6 +10,8 @@ const NOTE: &str =
 const GONE: &str = "refused, as it must be (only because a proof file names what the edit took away, so this says little of the contract: change a value and keep the names): ./proofs/read/Answers.antt:9:5: error: `add-i`: `goal.add-i`: module `Rattle.table.proofs.read.Goals` has no `add-i`";
 const NAME: &str =
     "refused, as it must be: specs/Tree.antt:9:5: error: `depth`: module `Rattle.model.specs.Table` has no `level` that can be named from here";
+const CUT: &str =
+    "refused, as it must be: ./proofs/read/Answers.antt:9:5: error: `returns`: record `Rattle.table.proofs.read.Lts.View.";
 const LIMIT: &str = "refused, as it must be (only by a limit of the prover, which gave no verdict, so this says less of the contract: choose a change that it refuses sooner): specs/Cases.antt:4:3: error: antt ran out of stack";
 const NO_REASON: &str = "refused, as it must be";
 const BAD: &str = "BAD EDIT: an 'old:' text is in src/lib.rt 0 times, and not once";
@@ -55,6 +57,7 @@ fn edits_that_show_nothing() {
         ("judge/fact", FACT),
         ("judge/gone", GONE),
         ("judge/name", NAME),
+        ("judge/cut", CUT),
         ("judge/note", NOTE),
         ("table/limit", LIMIT),
         ("table/no_reason", NO_REASON),
