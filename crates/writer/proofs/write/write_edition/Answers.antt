@@ -1,4 +1,4 @@
-use Rattle.std.proofs.Common.{◌≡◌, ℕ, Bool, true, not, List, length, eqb, ltb, sym, ap, ap₂, ◌∙◌}
+use Rattle.std.proofs.Common.{◌≡◌, ℕ, Bool, true, not, List, length, eqb, ltb, sym, ap, ap₂, ◌∙◌, arith}
 use Rattle.model.specs.Basics.{when, at_place}
 use Rattle.model.specs.Table.{node_count}
 use Rattle.model.specs.Plan.{verdict_of}
@@ -52,7 +52,7 @@ returns-then-checked-ne0 c =
     let t = a.table.now in
     let m = a.marks.now in
     let judge = c.judge_pages-judged.ensures in
-    let zero = c.if-answer-ne0.false in
+    let zero : c.judge_pages-judged.result.answer.number ≡ 0 = omega arith in
     let layout = judge.laid_beside.feasible zero in
     after_stands (rules a.filed a.e t m a.out.now) t m _ _ _ (feasible a.filed a.e t m a.out.now judge.answer_value zero)
     (given a.filed a.e t m a.out.now judge.answer_value zero layout c.check_film-checked.ensures
@@ -65,7 +65,7 @@ fill_archive-requires c =
     let t = a.table.now in
     let m = a.marks.now in
     let judge = c.judge_pages-judged.ensures in
-    let zero = c.if-answer-ne0.false in
+    let zero : c.judge_pages-judged.result.answer.number ≡ 0 = omega arith in
     let layout = judge.laid_beside.feasible zero in
     let is =
     given a.filed a.e t m a.out.now judge.answer_value zero layout c.check_film-checked.ensures
@@ -84,7 +84,7 @@ returns c =
     let t = a.table.now in
     let m = a.marks.now in
     let judge = c.judge_pages-judged.ensures in
-    let zero = c.if-answer-ne0.false in
+    let zero : c.judge_pages-judged.result.answer.number ≡ 0 = omega arith in
     let is =
     given a.filed a.e t m a.out.now judge.answer_value zero (judge.laid_beside.feasible zero)
     c.check_film-checked.ensures c.node_count-nodes.ensures c.archive_bytes-size.ensures in
