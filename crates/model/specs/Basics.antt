@@ -1,22 +1,22 @@
 -- What the definitions are written with: a choice by a test, a place, and the numbers 1 to n summed, counted and
 -- searched.
 use Rattle.std.specs.Prelude.{ℕ, zero, suc, ◌+◌, Bool, true, false, ◌&&◌, List, [], ◌∷◌, ◌++◌, eqb}
-use Rattle.model.specs.declared.Place.{Place}
-use Rattle.model.specs.declared.Place.TheVariants.{At, Nowhere}
+use Rattle.std.specs.declared.option.Option.{Option}
+use Rattle.std.specs.declared.option.Option.TheVariants.{Some, None}
 
 unfoldable pub pick {ℓ} : {X : Type ℓ} → Bool → X → X → X
 pick true x y = x
 pick false x y = y
 
 -- the place p where a condition holds
-unfoldable pub when : Bool → ℕ → Place
-when true p = At p
-when false p = Nowhere
+unfoldable pub when : Bool → ℕ → Option ℕ
+when true p = Some p
+when false p = None
 
 -- what f makes of a place, or what stands in for none
-unfoldable pub at_place {ℓ} : {X : Type ℓ} → Place → (ℕ → X) → X → X
-at_place (At p) f x = f p
-at_place Nowhere f x = x
+unfoldable pub at_place {ℓ} : {X : Type ℓ} → Option ℕ → (ℕ → X) → X → X
+at_place (Some p) f x = f p
+at_place None f x = x
 
 -- f 1 + f 2 + .. + f n
 unfoldable pub sum_to : ℕ → (ℕ → ℕ) → ℕ
@@ -28,9 +28,9 @@ unfoldable pub count_to : ℕ → (ℕ → Bool) → ℕ
 count_to n p = sum_to n (λ v. pick (p v) 1 0)
 
 -- the first of 1 to n that passes the test
-unfoldable pub first_to : ℕ → (ℕ → Bool) → Place
-first_to zero p = Nowhere
-first_to (suc n) p = at_place (first_to n p) At (when (p (suc n)) (suc n))
+unfoldable pub first_to : ℕ → (ℕ → Bool) → Option ℕ
+first_to zero p = None
+first_to (suc n) p = at_place (first_to n p) Some (when (p (suc n)) (suc n))
 
 -- the last of 1 to n that passes the test, or 0
 unfoldable pub last_to : ℕ → (ℕ → Bool) → ℕ

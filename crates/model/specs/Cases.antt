@@ -35,10 +35,11 @@ use Rattle.model.specs.Refusals.{many_nodes, first_of, accepted, convert_archive
 use Rattle.model.specs.Refusals.{no_parent, add_leaf}
 use Rattle.model.specs.Demand.{runs_in, root_in}
 use Rattle.model.specs.declared.Cause.TheVariants.{BadMark, HeavyPage}
-use Rattle.model.specs.declared.Beside.{Beside}
-use Rattle.model.specs.declared.Beside.TheVariants.{Given, Nothing}
+use Rattle.std.specs.declared.option.Option.{Option}
+use Rattle.std.specs.declared.option.Option.TheVariants.{Some, None}
+use Rattle.model.specs.declared.Verdict.{Verdict}
 use Rattle.model.specs.declared.Verdict.TheVariants.{Feasible, Failed}
-use Rattle.model.specs.declared.Answer.{Answer}
+use Rattle.model.specs.Refusals.{Answer}
 use Rattle.model.specs.declared.Edition.{Edition}
 
 -- ---- The trees, as tables; labels are node numbers
@@ -127,10 +128,10 @@ unfolding Basics.pick Basics.when Basics.at_place Basics.sum_to Basics.count_to 
     Refusals.table_checks Refusals.add_checks Refusals.add_leaf
 computed b = b
 
-abbrev says_feasible : Beside → ℕ → ℕ → Bool
-says_feasible (Given (Feasible pages root)) p r = eqb pages p && eqb root r
-says_feasible (Given (Failed c)) p r = eqb 0 1
-says_feasible Nothing p r = eqb 0 1
+abbrev says_feasible : Option Verdict → ℕ → ℕ → Bool
+says_feasible (Some (Feasible pages root)) p r = eqb pages p && eqb root r
+says_feasible (Some (Failed c)) p r = eqb 0 1
+says_feasible None p r = eqb 0 1
 
 -- the answer is number n at place p
 abbrev answers : Answer → ℕ → ℕ → Bool
@@ -460,11 +461,11 @@ conversions_hold = refl
 -- ---- Verdicts
 
 -- what stands beside an answer: pages and root weight, or a cause by its number and its node or page, or nothing
-abbrev told : Beside → List ℕ
-told (Given (Feasible pages root)) = 0 ∷ pages ∷ root ∷ []
-told (Given (Failed (BadMark v))) = 10 ∷ v ∷ []
-told (Given (Failed (HeavyPage p))) = 11 ∷ p ∷ []
-told Nothing = []
+abbrev told : Option Verdict → List ℕ
+told (Some (Feasible pages root)) = 0 ∷ pages ∷ root ∷ []
+told (Some (Failed (BadMark v))) = 10 ∷ v ∷ []
+told (Some (Failed (HeavyPage p))) = 11 ∷ p ∷ []
+told None = []
 
 -- the answer is number n at place p, with this beside it
 abbrev says : Answer → ℕ → ℕ → List ℕ → Bool
@@ -478,8 +479,8 @@ verdicts =
     let bad : List ℕ = 1 ∷ 0 ∷ 2 ∷ 0 ∷ [] in
     let heavy : List ℕ = 1 ∷ 0 ∷ 1 ∷ 2 ∷ [] in
     let film : List ℕ = archive_of first_edition tree_f best_f in
-    same_list (told (Given (verdict_of t bad))) (10 ∷ 3 ∷ [])
-    ∷ same_list (told (Given (verdict_of t heavy))) (11 ∷ 2 ∷ [])
+    same_list (told (Some (verdict_of t bad))) (10 ∷ 3 ∷ [])
+    ∷ same_list (told (Some (verdict_of t heavy))) (11 ∷ 2 ∷ [])
     ∷ says (judge_plan t bad) 10 3 (10 ∷ 3 ∷ [])
     ∷ says (judge_plan t heavy) 11 2 (11 ∷ 2 ∷ [])
     ∷ says (write_archive first_edition t bad []).answer 10 3 (10 ∷ 3 ∷ [])

@@ -15,7 +15,7 @@ use Rattle.model.specs.Refusals.{scratch_words, accepted_tree, feasible_plan, fe
 use Rattle.model.specs.Refusals.{refused, outcome, judge_plan, plan_best, Written, write_archive, write_film}
 use Rattle.model.specs.Refusals.{read_archive, convert_archive, plan_single, price_plan, accepted, passes, read_tree}
 use Rattle.model.specs.Refusals.{parent_checks}
-use Rattle.model.specs.declared.Answer.{Answer}
+use Rattle.model.specs.Refusals.{Answer}
 use Rattle.model.specs.declared.Edition.{Edition}
 use Rattle.model.specs.declared.Verdict.TheVariants.{Feasible}
 

@@ -2,7 +2,7 @@
 use Rattle.std.specs.Prelude.{ℕ, zero, suc, ◌-◌, Bool, not, ◌&&◌, ◌||◌, List, get_or, eqb, ltb}
 use Rattle.model.specs.Basics.{pick, at_place, sum_to, count_to, first_to, last_to}
 use Rattle.model.specs.Table.{node_count, limit_of, weight_at, first_at, next_at}
-use Rattle.model.specs.declared.Place.{Place}
+use Rattle.std.specs.declared.option.Option.{Option}
 use Rattle.model.specs.declared.Cause.TheVariants.{BadMark, HeavyPage}
 use Rattle.model.specs.declared.Verdict.{Verdict}
 use Rattle.model.specs.declared.Verdict.TheVariants.{Feasible, Failed}
@@ -74,11 +74,11 @@ unfoldable pub page_nodes : List ℕ → List ℕ → ℕ → ℕ
 page_nodes t m p = count_to (node_count t) (λ v. eqb (page_of t m v) p)
 
 -- the first node whose mark is not allowed
-unfoldable pub bad_mark : List ℕ → List ℕ → Place
+unfoldable pub bad_mark : List ℕ → List ℕ → Option ℕ
 bad_mark t m = first_to (node_count t) (λ v. not (good_mark t m v))
 
 -- the first page that weighs over K
-unfoldable pub heavy_page : List ℕ → List ℕ → Place
+unfoldable pub heavy_page : List ℕ → List ℕ → Option ℕ
 heavy_page t m = first_to (page_count t m) (λ p. ltb (limit_of t) (page_weight t m p))
 
 -- the judge's verdict: page count and root weight, or else why the plan failed

@@ -11,13 +11,19 @@ use Rattle.model.specs.Steps.{best_marks, level_marks, single_marks, pair_marks,
 use Rattle.model.specs.Archive.{archive_of, archive_bytes, nodes_in, table_in, marks_in}
 use Rattle.model.specs.Sheets.{sheet_bytes, sheet_count, sheets_of}
 use Rattle.model.specs.Prices.{total_cents, saving_of}
-use Rattle.model.specs.declared.Place.{Place}
-use Rattle.model.specs.declared.Place.TheVariants.{Nowhere}
+use Rattle.std.specs.declared.option.Option.{Option}
+use Rattle.std.specs.declared.option.Option.TheVariants.{Some, None}
+use Rattle.std.specs.declared.result.Result.{Result}
+use Rattle.std.specs.declared.result.Result.TheVariants.{Ok, Err}
 use Rattle.model.specs.declared.Cause.TheVariants.{BadMark, HeavyPage}
 use Rattle.model.specs.declared.Verdict.{Verdict}
 use Rattle.model.specs.declared.Verdict.TheVariants.{Feasible, Failed}
-use Rattle.model.specs.declared.Beside.TheVariants.{Given, Nothing}
-use Rattle.model.specs.declared.Answer.{Answer}
+use Rattle.model.specs.declared.PlanSize.{PlanSize}
+use Rattle.model.specs.declared.Price.{Price}
+use Rattle.model.specs.declared.Refusal.{Refusal}
+use Rattle.model.specs.declared.Refusal.TheVariants.{ShortTable, BadCount, BadLimit, BadLength, BadWalk, HeavyNode, BadMarks}
+use Rattle.model.specs.declared.Refusal.TheVariants.{ShortScratch, PlanFailed, BadOutput, NoArchive, NoLabel, ManyNodes}
+use Rattle.model.specs.declared.Saving.{Saving}
 use Rattle.model.specs.declared.Edition.{Edition}
 
 -- ---- Rules: what is asked of a tree and a plan beyond what all are held to
@@ -40,6 +46,13 @@ writer_rules e = record { filed = true }
 
 -- ---- Answers
 
+-- A number and a place, 0 and 0 for acceptance, and what stands beside them: the judge's verdict with acceptance and
+-- with 10 and 11, wherever a plan is given or made; and nothing with every other refusal, and from the tree reader.
+pub record Answer : Type 0 where
+  pub number : ℕ
+  pub place : ℕ
+  pub beside : Option Verdict
+
 -- document 01's number and place for each case of the verdict
 abbrev pub number_of : Verdict → ℕ
 number_of (Feasible pages root) = 0
@@ -53,23 +66,53 @@ place_of (Failed (HeavyPage p)) = p
 
 -- the answer with a verdict: the one way from a verdict to its number and place
 abbrev pub answer_of : Verdict → Answer
-answer_of v = record { number = number_of v; place = place_of v; beside = Given v }
+answer_of v = record { number = number_of v; place = place_of v; beside = Some v }
 
 -- with no verdict: every other refusal, and acceptance where no plan is given or made
 abbrev pub refused : ℕ → ℕ → Answer
-refused n p = record { number = n; place = p; beside = Nothing }
+refused n p = record { number = n; place = p; beside = None }
 
 abbrev pub accepted : Answer
-accepted = record { number = 0; place = 0; beside = Nothing }
+accepted = record { number = 0; place = 0; beside = None }
+
+-- document 01's number and place for each refusal, and the verdict where it is a plan's that failed
+abbrev pub refusal_answer : Refusal → Answer
+refusal_answer ShortTable = refused 1 0
+refusal_answer (BadCount n) = refused 2 n
+refusal_answer (BadLimit k) = refused 3 k
+refusal_answer (BadLength size) = refused 4 size
+refusal_answer (BadWalk met) = refused 6 met
+refusal_answer (HeavyNode v) = refused 7 v
+refusal_answer (BadMarks n) = refused 8 n
+refusal_answer (ShortScratch words) = refused 9 words
+refusal_answer (PlanFailed cause) = answer_of (Failed cause)
+refusal_answer (BadOutput size) = refused 12 size
+refusal_answer NoArchive = refused 13 0
+refusal_answer (NoLabel v) = refused 14 v
+refusal_answer (ManyNodes n) = refused 15 n
+
+-- the answer that a result tells: of the tree reader, whatever it gives with acceptance; of the judge; and of whoever
+-- is given or makes a plan, and accepts a feasible one alone
+abbrev pub tree_told : {A : Type 0} → Result A Refusal → Answer
+tree_told (Ok tree) = accepted
+tree_told (Err r) = refusal_answer r
+
+abbrev pub verdict_told : Result Verdict Refusal → Answer
+verdict_told (Ok v) = answer_of v
+verdict_told (Err r) = refusal_answer r
+
+abbrev pub plan_told : Result PlanSize Refusal → Answer
+plan_told (Ok size) = answer_of (Feasible size.pages size.root)
+plan_told (Err r) = refusal_answer r
 
 -- a check: the answer that it gives at a place, and its place where its condition holds
 pub record Check : Type 0 where
   pub answer : ℕ → Answer
-  pub place : Place
+  pub place : Option ℕ
 
 -- a check that a rule asks for: where it does not, the check applies nowhere
 unfoldable pub asked : Bool → Check → Check
-asked rule c = record { answer = c.answer; place = pick rule c.place Nowhere }
+asked rule c = record { answer = c.answer; place = pick rule c.place None }
 
 -- ---- The list
 
@@ -371,6 +414,11 @@ convert_archive e f a out =
 unfoldable pub print_sheets : List ℕ → List ℕ → List ℕ → Written
 print_sheets t m out = checked (print_checks t m out) (answer_of (verdict_of t m)) (sheets_of t m) out
 
+-- what a priced plan tells: the answer, and the cents, 0 on refusal
+abbrev pub price_told : Result Price Refusal → Outcome Answer ℕ
+price_told (Ok p) = outcome (answer_of (Feasible p.plan.pages p.plan.root)) p.cents
+price_told (Err r) = outcome (refusal_answer r) 0
+
 -- the price of a plan: the judge's answer with the total in cents, 0 on refusal
 unfoldable pub price_plan : List ℕ → List ℕ → Outcome Answer ℕ
 price_plan t m = checked (judge_checks plain_rules t m) (answer_of (verdict_of t m)) (total_cents t m) 0
@@ -382,6 +430,11 @@ pub record SavingLeft : Type 0 where
 
 abbrev pub saved : {Told : Type 0} → Outcome Told PlanBuffers → ℤ → Outcome Told SavingLeft
 saved p z = outcome p.answer (record { best = p.left; saving = z })
+
+-- what a saving tells, with the marks and the scratch that it leaves: no cents on refusal
+abbrev pub saving_told : Result Saving Refusal → List ℕ → List ℕ → Outcome Answer SavingLeft
+saving_told (Ok z) m s = saved (plan_left (answer_of (Feasible z.plan.pages z.plan.root)) m s) z.saving
+saving_told (Err r) m s = saved (plan_left (refusal_answer r) m s) (pos 0)
 
 unfoldable pub save_best : List ℕ → List ℕ → List ℕ → Outcome Answer SavingLeft
 save_best t m s = saved (plan_best t m s) (pick (passes (plan_checks t m s)) (saving_of t) (pos 0))

@@ -3,8 +3,8 @@ use Rattle.std.specs.Prelude.{ℕ, zero, suc, ◌-◌, ◌≡◌, Bool, not, ◌
 use Rattle.model.specs.Basics.{pick, at_place, sum_to, count_to, list_to, every}
 use Rattle.model.specs.Table.{node_count, limit_of, weight_at, next_at}
 use Rattle.model.specs.Plan.{parent_at, has_mark, begins, run_last}
-use Rattle.model.specs.declared.Place.{Place}
-use Rattle.model.specs.declared.Place.TheVariants.{At, Nowhere}
+use Rattle.std.specs.declared.option.Option.{Option}
+use Rattle.std.specs.declared.option.Option.TheVariants.{Some, None}
 
 -- a run by its first node and its last sibling
 pub record Run : Type 0 where
@@ -57,9 +57,9 @@ holds t rs =
     every (is_run t) rs && leb 1 (count_of is_root_run rs) && eqb (count_to (node_count t) (in_one_at_most t rs)) (node_count t)
 
 -- the first node of the run that has node v
-unfoldable pub run_with : List ℕ → List Run → ℕ → Place
-run_with t [] v = Nowhere
-run_with t (r ∷ rs) v = pick (is_member t v r) (At r.first) (run_with t rs v)
+unfoldable pub run_with : List ℕ → List Run → ℕ → Option ℕ
+run_with t [] v = None
+run_with t (r ∷ rs) v = pick (is_member t v r) (Some r.first) (run_with t rs v)
 
 -- A page is named by the first node of its run. A node in a run is on that run's page, any other on its parent's
 -- page; f bounds the steps up.

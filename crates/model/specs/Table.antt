@@ -1,8 +1,8 @@
 -- Document 01, 'The tree table': words, records, the walk, the tree by shape, and the table of such a tree.
 use Rattle.std.specs.Prelude.{ℕ, zero, suc, ◌+◌, ◌-◌, ◌*◌, ◌/◌, ◌%◌, ◌<◌, not, ◌&&◌, List, [], ◌∷◌, ◌++◌, get_or, eqb, ltb}
 use Rattle.model.specs.Basics.{pick, when}
-use Rattle.model.specs.declared.Place.{Place}
-use Rattle.model.specs.declared.Place.TheVariants.{At}
+use Rattle.std.specs.declared.option.Option.{Option}
+use Rattle.std.specs.declared.option.Option.TheVariants.{Some}
 
 -- the most nodes that a table has
 abbrev pub max_nodes : ℕ
@@ -58,16 +58,16 @@ table_bytes n = 4 + 8 * n
 
 -- The walk of the chains, child before sibling: where it fails, at the number of nodes met in order before that. The
 -- list is what is still to be visited; 0 is the end of a chain. Each node met puts two numbers in the place of one.
-unfoldable pub walk_from : ℕ → List ℕ → ℕ → ℕ → List ℕ → Place
-walk_from zero t n met pending = At met
+unfoldable pub walk_from : ℕ → List ℕ → ℕ → ℕ → List ℕ → Option ℕ
+walk_from zero t n met pending = Some met
 walk_from (suc f) t n met [] = when (not (eqb met n)) met
 walk_from (suc f) t n met (zero ∷ pending) = walk_from f t n met pending
 walk_from (suc f) t n met (suc v ∷ pending) =
-    pick (eqb v met && ltb met n) (walk_from f t n (suc met) (first_at t (suc v) ∷ next_at t (suc v) ∷ pending)) (At met)
+    pick (eqb v met && ltb met n) (walk_from f t n (suc met) (first_at t (suc v) ∷ next_at t (suc v) ∷ pending)) (Some met)
 
 -- where the walk from node 1 fails: 0 if node 1 has a sibling, else as many nodes as it met in order
-unfoldable pub walk_place : List ℕ → Place
-walk_place t = pick (eqb (next_at t 1) 0) (walk_from (2 * node_count t + 2) t (node_count t) 0 (1 ∷ [])) (At 0)
+unfoldable pub walk_place : List ℕ → Option ℕ
+walk_place t = pick (eqb (next_at t 1) 0) (walk_from (2 * node_count t + 2) t (node_count t) 0 (1 ∷ [])) (Some 0)
 
 -- A chain of siblings by shape: each with its weight, its label, the chain of its children and the siblings after it.
 pub data Chain : Type 0 where

@@ -8,10 +8,11 @@ use Rattle.model.specs.Plan.{verdict_of}
 use Rattle.model.specs.Archive.{archive_of, pages_in}
 use Rattle.model.specs.Refusals.{answer_of}
 use Rattle.model.specs.Demand.{PlanLent, PlanPromise, BestPromise, root_in, PlanOnFilm, LowestOnFilm}
+use Rattle.model.specs.declared.Verdict.{Verdict}
 use Rattle.model.specs.declared.Verdict.TheVariants.{Feasible, Failed}
-use Rattle.model.specs.declared.Beside.{Beside}
-use Rattle.model.specs.declared.Beside.TheVariants.{Given, Nothing}
-use Rattle.model.specs.declared.Answer.{Answer}
+use Rattle.std.specs.declared.option.Option.{Option}
+use Rattle.std.specs.declared.option.Option.TheVariants.{Some, None}
+use Rattle.model.specs.Refusals.{Answer}
 use Rattle.model.specs.declared.Edition.{Edition}
 use Rattle.theory.specs.PlanFeasible.{Judged, feasible_judged, judged_verdict}
 use Rattle.theory.specs.RunsMarked.{length-runs_of}
@@ -33,10 +34,10 @@ module _ {e : Edition} (d : Described e) (t m : List ℕ) (judged : Judged t m) 
 -- ---- The archive of a plan that its planner promises to be the lowest
 
 -- the root weight of the verdict beside an answer
-abbrev root_beside : Beside → ℕ
-root_beside (Given (Feasible pages root)) = root
-root_beside (Given (Failed c)) = 0
-root_beside Nothing = 0
+abbrev root_beside : Option Verdict → ℕ
+root_beside (Some (Feasible pages root)) = root
+root_beside (Some (Failed c)) = 0
+root_beside None = 0
 
 module _ {t m s marks scratch : List ℕ} {r : Answer} (p : PlanPromise t m s r marks scratch)
     (ready : PlanLent t m s) where

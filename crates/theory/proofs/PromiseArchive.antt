@@ -13,7 +13,7 @@ use Rattle.model.specs.Refusals.{judge_checks, film_checks, first_of, feasible_p
 use Rattle.model.specs.Refusals.{outcome, checked, plan_best, Written, write_checks, write_archive, write_film, is_archive}
 use Rattle.model.specs.Refusals.{Rules, film_rules, writer_rules, feasible_by, write_by, ReadBuffers, read_archive}
 use Rattle.model.specs.Demand.{LowestOnFilm, WritePromise, WrittenFrom, Filed, ReadPromise}
-use Rattle.model.specs.declared.Answer.{Answer}
+use Rattle.model.specs.Refusals.{Answer}
 use Rattle.model.specs.declared.Edition.{Edition}
 use Rattle.theory.specs.Bools.{never_true}
 use Rattle.theory.specs.Checks.{first_of_append, never_first, judge_fifteen}

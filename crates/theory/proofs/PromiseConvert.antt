@@ -13,7 +13,7 @@ use Rattle.model.specs.Refusals.{no_label}
 use Rattle.model.specs.Refusals.{read_checks, feasible_plan, answer_of, refused, outcome, Written}
 use Rattle.model.specs.Refusals.{write_archive, is_archive, read_archive, writer_rules, convert_archive}
 use Rattle.model.specs.Demand.{WritePromise, Filed, ConvertPromise}
-use Rattle.model.specs.declared.Place.TheVariants.{At, Nowhere}
+use Rattle.std.specs.declared.option.Option.TheVariants.{Some, None}
 use Rattle.model.specs.declared.Edition.{Edition}
 use Rattle.theory.specs.Bools.{bool_cases, never_true}
 use Rattle.theory.specs.Ranges.{place_cases}
@@ -116,7 +116,7 @@ module _ {e f : Edition} (d : Described e) (d' : Described f) (a out : List ℕ)
       go is number (place_cases (no_label (table_in e a)).place)
     where
       go : is_archive e a ≡ true → (write_archive f (table_in e a) (marks_in e a) out).answer.number ≡ given
-          → ((v : ℕ) × ((no_label (table_in e a)).place ≡ At v)) ⊎ ((no_label (table_in e a)).place ≡ Nowhere) → ⊥
+          → ((v : ℕ) × ((no_label (table_in e a)).place ≡ Some v)) ⊎ ((no_label (table_in e a)).place ≡ None) → ⊥
       go is number (inl x) =
           omega (arith, ap (λ (w : Written). w.answer.number) (label_stopped e f a out is x.0 x.1))
       go is number (inr none) =

@@ -10,7 +10,7 @@ use Rattle.model.specs.Prices.{total_cents, saving_of}
 use Rattle.model.specs.Refusals.{Check, judge_checks, feasible_plan, answer_of, plain_rules, Outcome}
 use Rattle.model.specs.Refusals.{outcome, checked, judge_plan, PlanBuffers, planned, price_plan, save_best}
 use Rattle.model.specs.Demand.{PricePromise, SavingPromise}
-use Rattle.model.specs.declared.Answer.{Answer}
+use Rattle.model.specs.Refusals.{Answer}
 use Rattle.theory.specs.Checks.{judge_never}
 use Rattle.theory.specs.Entries.{entry_done, entry_passed, entry_kept}
 use Rattle.theory.specs.TableFacts.{AcceptedFacts}

@@ -17,8 +17,8 @@ use Rattle.model.specs.Refusals.{write_checks, read_checks, passes, answer_of, r
 use Rattle.model.specs.Refusals.{Check, Rules, writer_rules, feasible_by, Outcome, outcome, checked, write_by}
 use Rattle.model.specs.Refusals.{write_archive, is_archive, ReadBuffers, read_left, read_archive}
 use Rattle.model.specs.declared.Edition.{Edition}
-use Rattle.model.specs.declared.Place.TheVariants.{At}
-use Rattle.model.specs.declared.Answer.{Answer}
+use Rattle.std.specs.declared.option.Option.TheVariants.{Some}
+use Rattle.model.specs.Refusals.{Answer}
 use Rattle.theory.specs.Bools.{never_true}
 use Rattle.theory.specs.Ranges.{when_true, when_false, when_nowhere, at_place_at, at_place_nowhere}
 use Rattle.theory.specs.Checks.{Pass, pass_all, first_of_append, Never, never_first, film_plain, read_plain}
@@ -145,7 +145,7 @@ module _ (rules : Rules) (e : Edition) (t m out : List ℕ) where
       }
 
 -- the writer of an edition, handed a tree and a plan from film, in which nothing but a label is refused
-pub unfiled_stops : (e f : Edition) (t m out : List ℕ) → feasible_film f t m ≡ true → (v : ℕ) → (no_label t).place ≡ At v
+pub unfiled_stops : (e f : Edition) (t m out : List ℕ) → feasible_film f t m ≡ true → (v : ℕ) → (no_label t).place ≡ Some v
     → write_archive e t m out ≡ outcome (refused 14 v) out
 unfolding write_archive checked write_checks
 unfiled_stops e f t m out film v found =

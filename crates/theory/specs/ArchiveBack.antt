@@ -25,8 +25,8 @@ use Rattle.model.specs.Archive.{next_in}
 use Rattle.model.specs.Archive.{table_in, begins_in, continues_in, mark_in, marks_in}
 use Rattle.model.specs.Refusals.{feasible_film, is_archive}
 use Rattle.model.specs.declared.Edition.{Edition}
-use Rattle.model.specs.declared.Place.{Place}
-use Rattle.model.specs.declared.Place.TheVariants.{At, Nowhere}
+use Rattle.std.specs.declared.option.Option.{Option}
+use Rattle.std.specs.declared.option.Option.TheVariants.{Some, None}
 use Rattle.theory.specs.Bools.{both_true, and_true, and_false_left}
 use Rattle.theory.specs.Ranges.{Upto, pick_true, pick_false, at_place_at, at_place_nowhere, place_cases}
 use Rattle.theory.specs.Ranges.{count_to_none}
@@ -135,7 +135,7 @@ module _ {e : Edition} (d : Described e) {t m : List ℕ} (p : Judged t m) where
       go true q =
           let one : v ≡ 1 = eqb-true v 1 q in pick_true (eqb v 1) 0 found q ∙ sym (ap (next_at t) one ∙ s.root_alone)
       go false q =
-          pick_false (eqb v 1) 0 found q ∙ ap (λ (o : Place). at_place o (λ u. u) 0) same ∙ next_by_parent s v low high
+          pick_false (eqb v 1) 0 found q ∙ ap (λ (o : Option ℕ). at_place o (λ u. u) 0) same ∙ next_by_parent s v low high
 
   row_back : (v : ℕ) → 1 ≤ v → v ≤ node_count t
       → (node_field_in e a v 0 ∷ node_field_in e a v 1 ∷ first_in e a v ∷ next_in e a v ∷ []) ≡ table_row t v
@@ -376,7 +376,7 @@ read_write e a y =
 pub found_small : (n : ℕ) (p : ℕ → Bool) → at_place (first_to n p) (λ u. u) 0 ≤ n
 found_small n p = go (place_cases (first_to n p))
   where
-    go : ((u : ℕ) × (first_to n p ≡ At u)) ⊎ (first_to n p ≡ Nowhere) → at_place (first_to n p) (λ u. u) 0 ≤ n
+    go : ((u : ℕ) × (first_to n p ≡ Some u)) ⊎ (first_to n p ≡ None) → at_place (first_to n p) (λ u. u) 0 ≤ n
     go (inl x) = omega (arith, at_place_at (first_to n p) x.0 (λ u. u) 0 x.1, (first_to_at n x.0 p x.1).high)
     go (inr e) = omega (arith, at_place_nowhere (first_to n p) (λ u. u) 0 e)
 

@@ -15,9 +15,9 @@ use Rattle.model.specs.Refusals.{short_scratch, mark_refused, page_refused, bad_
 use Rattle.model.specs.Refusals.{head_checks, node_checks, weight_checks, lent_checks, found_checks, mark_checks, film_checks}
 use Rattle.model.specs.Refusals.{back_checks, sheet_checks, form_checks, tree_checks, plan_checks, judge_checks, read_checks}
 use Rattle.model.specs.Refusals.{convert_checks}
-use Rattle.model.specs.declared.Place.{Place}
-use Rattle.model.specs.declared.Place.TheVariants.{At, Nowhere}
-use Rattle.model.specs.declared.Answer.{Answer}
+use Rattle.std.specs.declared.option.Option.{Option}
+use Rattle.std.specs.declared.option.Option.TheVariants.{Some, None}
+use Rattle.model.specs.Refusals.{Answer}
 use Rattle.model.specs.declared.Edition.{Edition}
 use Rattle.theory.specs.Ranges.{at_nowhere, at_place_at}
 use Rattle.theory.specs.Bools.{both_true, and_true}
@@ -27,27 +27,27 @@ use Rattle.theory.specs.Bools.{both_true, and_true}
 -- no check's condition holds
 unfoldable pub Pass : List Check → Type 0
 Pass [] = Unit {0}
-Pass (c ∷ cs) = (c.place ≡ Nowhere) × Pass cs
+Pass (c ∷ cs) = (c.place ≡ None) × Pass cs
 
 pub pass_all : (cs : List Check) → (passes cs ≡ true) ↔ Pass cs
 unfolding passes at_place Pass
 pass_all [] = (λ e. tt, λ p. refl)
 pass_all (c ∷ cs) = go c.place refl (pass_all cs)
   where
-    go : (o : Place) → c.place ≡ o → (passes cs ≡ true) ↔ Pass cs
-        → (at_place o (λ p. false) (passes cs) ≡ true) ↔ ((c.place ≡ Nowhere) × Pass cs)
-    go (At p) q ih = (λ h. absurd (false≢true h), λ h. absurd (at_nowhere p (sym q ∙ h.0)))
-    go Nowhere q ih = (λ h. (q, ih.0 h), λ h. ih.1 h.1)
+    go : (o : Option ℕ) → c.place ≡ o → (passes cs ≡ true) ↔ Pass cs
+        → (at_place o (λ p. false) (passes cs) ≡ true) ↔ ((c.place ≡ None) × Pass cs)
+    go (Some p) q ih = (λ h. absurd (false≢true h), λ h. absurd (at_nowhere p (sym q ∙ h.0)))
+    go None q ih = (λ h. (q, ih.0 h), λ h. ih.1 h.1)
 
 pub passes_append : (cs ds : List Check) → passes (cs ++ ds) ≡ (passes cs && passes ds)
 unfolding passes at_place
 passes_append [] ds = refl
 passes_append (c ∷ cs) ds = go c.place (passes_append cs ds)
   where
-    go : (o : Place) → passes (cs ++ ds) ≡ (passes cs && passes ds)
+    go : (o : Option ℕ) → passes (cs ++ ds) ≡ (passes cs && passes ds)
         → at_place o (λ p. false) (passes (cs ++ ds)) ≡ (at_place o (λ p. false) (passes cs) && passes ds)
-    go (At p) ih = refl
-    go Nowhere ih = ih
+    go (Some p) ih = refl
+    go None ih = ih
 
 pub passes_both : (cs ds : List Check) → passes (cs ++ ds) ≡ true → (passes cs ≡ true) × (passes ds ≡ true)
 passes_both cs ds e = both_true (passes cs) (passes ds) (sym (passes_append cs ds) ∙ e)
@@ -63,10 +63,10 @@ unfolding passes first_of at_place
 first_of_pass [] ds a e = refl
 first_of_pass (c ∷ cs) ds a e = go c.place (first_of_pass cs ds a) e
   where
-    go : (o : Place) → (passes cs ≡ true → first_of (cs ++ ds) a ≡ first_of ds a)
+    go : (o : Option ℕ) → (passes cs ≡ true → first_of (cs ++ ds) a ≡ first_of ds a)
         → at_place o (λ p. false) (passes cs) ≡ true → at_place o c.answer (first_of (cs ++ ds) a) ≡ first_of ds a
-    go (At p) ih h = absurd (false≢true h)
-    go Nowhere ih h = ih h
+    go (Some p) ih h = absurd (false≢true h)
+    go None ih h = ih h
 
 -- checks that do not pass answer, whatever comes after
 pub first_of_stop : (cs ds : List Check) (a b : Answer) → passes cs ≡ false → first_of (cs ++ ds) a ≡ first_of cs b
@@ -74,11 +74,11 @@ unfolding passes first_of at_place
 first_of_stop [] ds a b e = absurd (true≢false e)
 first_of_stop (c ∷ cs) ds a b e = go c.place (first_of_stop cs ds a b) e
   where
-    go : (o : Place) → (passes cs ≡ false → first_of (cs ++ ds) a ≡ first_of cs b)
+    go : (o : Option ℕ) → (passes cs ≡ false → first_of (cs ++ ds) a ≡ first_of cs b)
         → at_place o (λ p. false) (passes cs) ≡ false
         → at_place o c.answer (first_of (cs ++ ds) a) ≡ at_place o c.answer (first_of cs b)
-    go (At p) ih h = refl
-    go Nowhere ih h = ih h
+    go (Some p) ih h = refl
+    go None ih h = ih h
 
 -- whatever answer they are given
 pub first_of_fails : (cs : List Check) (a b : Answer) → passes cs ≡ false → first_of cs a ≡ first_of cs b
@@ -91,11 +91,11 @@ unfolding first_of
 first_of_all cs a e = ap (λ (ds : List Check). first_of ds a) (sym (append-nil cs)) ∙ first_of_pass cs [] a e
 
 -- one check before others, as a program puts an answer together
-pub first_of_cons : (c : Check) (cs : List Check) (a : Answer) (p : Place) (rest r : Answer) → r
+pub first_of_cons : (c : Check) (cs : List Check) (a : Answer) (p : Option ℕ) (rest r : Answer) → r
     ≡ at_place p c.answer rest
     → p ≡ c.place → rest ≡ first_of cs a → r ≡ first_of (c ∷ cs) a
 unfolding first_of
-first_of_cons c cs a p rest r e h g = e ∙ ap₂ (λ (o : Place) (x : Answer). at_place o c.answer x) h g
+first_of_cons c cs a p rest r e h g = e ∙ ap₂ (λ (o : Option ℕ) (x : Answer). at_place o c.answer x) h g
 
 pub first_of_none : (a r : Answer) → r ≡ a → r ≡ first_of [] a
 unfolding first_of
@@ -135,11 +135,11 @@ unfolding passes first_of at_place every
 never_first n [] a h e = (refl, e)
 never_first n (c ∷ cs) a h e = go c.place (never_first n cs a (never_cons n c cs h 0).1) e
   where
-    go : (o : Place) → ((first_of cs a).number ≡ n → (passes cs ≡ true) × (a.number ≡ n))
+    go : (o : Option ℕ) → ((first_of cs a).number ≡ n → (passes cs ≡ true) × (a.number ≡ n))
         → (at_place o c.answer (first_of cs a)).number ≡ n
         → (at_place o (λ p. false) (passes cs) ≡ true) × (a.number ≡ n)
-    go (At p) ih q = absurd (true≢false (sym (never_cons n c cs h p).0 ∙ ap not (eq-eqb (c.answer p).number n q)))
-    go Nowhere ih q = ih q
+    go (Some p) ih q = absurd (true≢false (sym (never_cons n c cs h p).0 ∙ ap not (eq-eqb (c.answer p).number n q)))
+    go None ih q = ih q
 
 -- 0 is acceptance: all pass
 pub accepted_pass : (cs : List Check) (a : Answer) → Never 0 cs → (first_of cs a).number ≡ 0 → passes cs ≡ true
@@ -183,9 +183,9 @@ pub weight_seven : (t : List ℕ) (a : Answer) → passes (weight_checks t) ≡ 
 unfolding first_of passes at_place weight_checks heavy_node
 weight_seven t a = go (heavy_node t).place
   where
-    go : (o : Place) → at_place o (λ p. false) true ≡ false → (at_place o (heavy_node t).answer a).number ≡ 7
-    go (At p) e = refl
-    go Nowhere e = absurd (true≢false e)
+    go : (o : Option ℕ) → at_place o (λ p. false) true ≡ false → (at_place o (heavy_node t).answer a).number ≡ 7
+    go (Some p) e = refl
+    go None e = absurd (true≢false e)
 
 pub lent_plain : (t m s : List ℕ) → Plain (lent_checks t m s)
 unfolding every lent_checks bad_marks short_scratch
@@ -243,21 +243,21 @@ convert_plain e f a out = (λ p. refl, λ p. refl, λ p. refl)
 -- ---- A check that a rule asks for
 
 -- one that applies nowhere does so under every rule
-pub asked_none : (rule : Bool) (c : Check) → c.place ≡ Nowhere → (asked rule c).place ≡ Nowhere
+pub asked_none : (rule : Bool) (c : Check) → c.place ≡ None → (asked rule c).place ≡ None
 unfolding asked pick
 asked_none true c e = e
 asked_none false c e = refl
 
 -- under a rule that asks no more it applies nowhere either
-pub asked_less : (rule less : Bool) (c : Check) → (less ≡ true → rule ≡ true) → (asked rule c).place ≡ Nowhere
-    → (asked less c).place ≡ Nowhere
+pub asked_less : (rule less : Bool) (c : Check) → (less ≡ true → rule ≡ true) → (asked rule c).place ≡ None
+    → (asked less c).place ≡ None
 unfolding asked pick
 asked_less true less c h e = asked_none less c e
 asked_less false true c h e = absurd (false≢true (h refl))
 asked_less false false c h e = refl
 
 -- nodes with a label 0, where the rule asks
-pub node_stops : (t : List ℕ) (v : ℕ) → (no_label t).place ≡ At v → (a : Answer)
+pub node_stops : (t : List ℕ) (v : ℕ) → (no_label t).place ≡ Some v → (a : Answer)
     → first_of (node_checks true t) a ≡ refused 14 v
 unfolding first_of node_checks asked pick no_label bad_walk
 node_stops t v found a = at_place_at (no_label t).place v (refused 14) _ found

@@ -9,8 +9,8 @@ use Rattle.std.proofs.Math.Path.{refl, ap, ap₂}
 use Rattle.std.proofs.Common.{sym, ◌∙◌, eq-eqb, ne_eqb}
 use Rattle.model.specs.Basics.{pick, when}
 use Rattle.model.specs.Refusals.{Check, passes, first_of, Outcome, outcome, checked}
-use Rattle.model.specs.declared.Place.TheVariants.{At, Nowhere}
-use Rattle.model.specs.declared.Answer.{Answer}
+use Rattle.std.specs.declared.option.Option.TheVariants.{Some, None}
+use Rattle.model.specs.Refusals.{Answer}
 use Rattle.theory.specs.Bools.{never_true}
 use Rattle.theory.specs.Ranges.{when_true, when_false, at_place_at, at_place_nowhere, pick_true, pick_false}
 use Rattle.theory.specs.Checks.{Never, passes_append, first_of_pass, first_of_stop, first_of_fails, first_of_all}
@@ -23,10 +23,10 @@ promised Promise p is =
     (is, rw (ap (λ (o : Outcome _ _). o.answer) is, ap (λ (o : Outcome _ _). o.left) is) p)
 
 -- a number that is to be n, as the checks of a length ask
-pub unequal : (x n : ℕ) → (x ≡ n → ⊥) → when (not (eqb x n)) n ≡ At n
+pub unequal : (x n : ℕ) → (x ≡ n → ⊥) → when (not (eqb x n)) n ≡ Some n
 unequal x n h = when_true (not (eqb x n)) n (ap not (ne_eqb x n h))
 
-pub equal : (x n : ℕ) → x ≡ n → when (not (eqb x n)) n ≡ Nowhere
+pub equal : (x n : ℕ) → x ≡ n → when (not (eqb x n)) n ≡ None
 equal x n h = when_false (not (eqb x n)) n (ap not (eq-eqb x n h))
 
 module _ {Left : Type 0} (a : Answer) (done lent : Left) where
@@ -36,14 +36,14 @@ module _ {Left : Type 0} (a : Answer) (done lent : Left) where
   unfolding checked first_of passes pick
   entry_none = refl
 
-  pub entry_stop : (c : Check) (cs : List Check) (p : ℕ) → c.place ≡ At p
+  pub entry_stop : (c : Check) (cs : List Check) (p : ℕ) → c.place ≡ Some p
       → checked (c ∷ cs) a done lent ≡ outcome (c.answer p) lent
   unfolding checked first_of passes pick
   entry_stop c cs p e =
       ap₂ (λ (r : Answer) (b : Bool). outcome r (pick b done lent))
       (at_place_at c.place p c.answer (first_of cs a) e) (at_place_at c.place p (λ q. false) (passes cs) e)
 
-  pub entry_next : (c : Check) (cs : List Check) → c.place ≡ Nowhere
+  pub entry_next : (c : Check) (cs : List Check) → c.place ≡ None
       → checked (c ∷ cs) a done lent ≡ checked cs a done lent
   unfolding checked first_of passes
   entry_next c cs e =

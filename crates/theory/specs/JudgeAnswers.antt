@@ -12,12 +12,12 @@ use Rattle.model.specs.Plan.{bad_mark, heavy_page, page_count, page_weight, verd
 use Rattle.model.specs.Refusals.{Rules, bad_marks, mark_refused, page_refused, head_checks, node_checks, weight_checks}
 use Rattle.model.specs.Refusals.{form_checks, tree_checks, found_checks, mark_checks, judge_checks, passes, accepted_tree}
 use Rattle.model.specs.Refusals.{answer_of, refused, accepted, first_of, read_tree, judge_by}
-use Rattle.model.specs.declared.Place.{Place}
-use Rattle.model.specs.declared.Place.TheVariants.{At, Nowhere}
+use Rattle.std.specs.declared.option.Option.{Option}
+use Rattle.std.specs.declared.option.Option.TheVariants.{Some, None}
 use Rattle.model.specs.declared.Cause.TheVariants.{BadMark, HeavyPage}
 use Rattle.model.specs.declared.Verdict.{Verdict}
 use Rattle.model.specs.declared.Verdict.TheVariants.{Feasible, Failed}
-use Rattle.model.specs.declared.Answer.{Answer}
+use Rattle.model.specs.Refusals.{Answer}
 use Rattle.theory.specs.Ranges.{at_place_at, at_place_nowhere, count_to_le}
 use Rattle.theory.specs.Checks.{head_plain, tree_never, first_of_append, first_of_pass, first_of_stop}
 use Rattle.theory.specs.Checks.{accepted_pass, refused_fails}
@@ -84,23 +84,23 @@ head_count t e = (head_facts t (accepted_pass (head_checks t) accepted (head_pla
 -- ---- The plan
 
 -- the checks of the marks and the pages give the verdict's own answer
-verdict_stands : (o p : Place) (v : Verdict)
+verdict_stands : (o p : Option ℕ) (v : Verdict)
     → at_place o (λ u. answer_of (Failed (BadMark u)))
     (at_place p (λ q. answer_of (Failed (HeavyPage q)))
     (answer_of (at_place o (λ u. Failed (BadMark u)) (at_place p (λ q. Failed (HeavyPage q)) v))))
     ≡ answer_of (at_place o (λ u. Failed (BadMark u)) (at_place p (λ q. Failed (HeavyPage q)) v))
 unfolding at_place
-verdict_stands (At u) p v = refl
-verdict_stands Nowhere (At q) v = refl
-verdict_stands Nowhere Nowhere v = refl
+verdict_stands (Some u) p v = refl
+verdict_stands None (Some q) v = refl
+verdict_stands None None v = refl
 
-found_stands : (o p : Place) (v : Verdict)
+found_stands : (o p : Option ℕ) (v : Verdict)
     → at_place o (λ u. answer_of (Failed (BadMark u))) (at_place p (λ q. answer_of (Failed (HeavyPage q))) (answer_of v))
     ≡ answer_of (at_place o (λ u. Failed (BadMark u)) (at_place p (λ q. Failed (HeavyPage q)) v))
 unfolding at_place
-found_stands (At u) p v = refl
-found_stands Nowhere (At q) v = refl
-found_stands Nowhere Nowhere v = refl
+found_stands (Some u) p v = refl
+found_stands None (Some q) v = refl
+found_stands None None v = refl
 
 -- the answer to a plan of the right length: the first of what is found, and else acceptance with its figures
 pub found_verdict : (t m : List ℕ)

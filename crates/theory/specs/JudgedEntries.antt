@@ -9,7 +9,7 @@ use Rattle.std.proofs.Common.{◌∙◌, ap}
 use Rattle.model.specs.Plan.{verdict_of}
 use Rattle.model.specs.Refusals.{Rules, Check, bad_output, judge_checks, passes, feasible_by, answer_of, refused, first_of}
 use Rattle.model.specs.Refusals.{outcome, checked, judge_by}
-use Rattle.model.specs.declared.Answer.{Answer}
+use Rattle.model.specs.Refusals.{Answer}
 use Rattle.theory.specs.Ranges.{at_place_at, at_place_nowhere}
 use Rattle.theory.specs.Bools.{never_true}
 use Rattle.theory.specs.Checks.{Never, passes_both, first_of_pass, first_of_all}

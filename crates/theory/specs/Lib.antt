@@ -9,6 +9,7 @@ pub mod Lists
 pub mod Words
 -- Lists of checks, and entries over them
 pub mod Checks
+pub mod Refused
 pub mod Entries
 -- Tables of sound form: facts, numbering, links, siblings, marks laid by number, bytes, and words put into bytes
 pub mod TableFacts

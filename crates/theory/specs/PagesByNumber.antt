@@ -14,7 +14,7 @@ use Rattle.model.specs.Basics.{pick, last_to}
 use Rattle.model.specs.Table.{node_count, next_at}
 use Rattle.model.specs.Plan.{begins, has_mark, in_run, page_of, page_count, bad_mark, run_last}
 use Rattle.model.specs.Runs.{Run, root_run, runs_of, page_run}
-use Rattle.model.specs.declared.Place.TheVariants.{Nowhere}
+use Rattle.std.specs.declared.option.Option.TheVariants.{None}
 use Rattle.theory.specs.Bools.{and_true, and_false_left, both_true}
 use Rattle.theory.specs.Ranges.{last_to_zero, last_to_suc, last_to_no, last_to_only, last_to_last}
 use Rattle.theory.specs.Chosen.{Ranked, ranked, ranked_one, get_d_chosen}
@@ -75,7 +75,7 @@ module _ {t : List ℕ} (s : SoundFacts t) (m : List ℕ) where
       goes_page r a (next_le s u low high) ∙ page_of_continues t m (next_at t u) a p
       ∙ ap (page_of t m) (next_prev s u (next_at t u) low high a refl)
 
-  module _ (good : bad_mark t m ≡ Nowhere) (p : ℕ) (low : 1 ≤ p) (high : p ≤ page_count t m) where
+  module _ (good : bad_mark t m ≡ None) (p : ℕ) (low : 1 ≤ p) (high : p ≤ page_count t m) where
     -- the node that begins page p
     abbrev first : ℕ
     first = (page_first t m p low high).0

@@ -16,9 +16,9 @@ use Rattle.model.specs.Refusals.{node_checks, weight_checks, form_checks, tree_c
 use Rattle.model.specs.Refusals.{accepted_tree, plain_rules, film_rules, feasible_by, feasible_plan, feasible_film}
 use Rattle.model.specs.Refusals.{first_of, answer_of, refused, judge_plan}
 use Rattle.model.specs.Demand.{Filed}
-use Rattle.model.specs.declared.Answer.{Answer}
+use Rattle.model.specs.Refusals.{Answer}
 use Rattle.model.specs.declared.Edition.{Edition}
-use Rattle.model.specs.declared.Place.TheVariants.{At, Nowhere}
+use Rattle.std.specs.declared.option.Option.TheVariants.{Some, None}
 use Rattle.model.specs.declared.Verdict.TheVariants.{Feasible}
 use Rattle.theory.specs.Ranges.{Upto, when_false, when_nowhere, at_place_nowhere, first_to_none, first_to_nowhere}
 use Rattle.theory.specs.Checks.{Pass, pass_all, passes_both, both_pass, first_of_all}
@@ -60,8 +60,8 @@ all_within K (x ∷ ps) h = (h 1 (omega arith) (omega arith), all_within K ps re
 pub record Judged (t m : List ℕ) : Type 0 where
   pub tree : AcceptedFacts t
   pub long : length m ≡ node_count t
-  pub marked : bad_mark t m ≡ Nowhere
-  pub light : heavy_page t m ≡ Nowhere
+  pub marked : bad_mark t m ≡ None
+  pub light : heavy_page t m ≡ None
 
 pub within_limit_lem : {t m : List ℕ} → Judged t m → Upto (page_count t m) (λ p. page_weight t m p ≤ limit_of t)
 unfolding heavy_page
@@ -97,12 +97,12 @@ module _ (r : Rules) (t m : List ℕ) (f : feasible_by r t m ≡ true) where
       let plan = passes_both (tree_checks r.filed t) (mark_checks t m) f in
       marks_judged t m (passed_facts r.filed t plan.0) plan.1
 
-  labels_asked : (asked r.filed (no_label t)).place ≡ Nowhere
+  labels_asked : (asked r.filed (no_label t)).place ≡ None
   unfolding Pass node_checks
   labels_asked = ((pass_all (node_checks r.filed t)).0 rule_parts.1).0
 
   -- nor does the judge under others, where what they ask for applies nowhere
-  other_rules : (s : Rules) → (asked s.filed (no_label t)).place ≡ Nowhere → feasible_by s t m ≡ true
+  other_rules : (s : Rules) → (asked s.filed (no_label t)).place ≡ None → feasible_by s t m ≡ true
   unfolding Pass judge_checks tree_checks form_checks node_checks
   other_rules s labels =
       let p = rule_parts in
@@ -163,12 +163,12 @@ feasible_judge t m e =
 
 module _ (e : Edition) (t m : List ℕ) (f : feasible_film e t m ≡ true) where
   -- with no label 0 it is feasible
-  pub filed_feasible : (no_label t).place ≡ Nowhere → feasible_plan t m ≡ true
+  pub filed_feasible : (no_label t).place ≡ None → feasible_plan t m ≡ true
   unfolding feasible_plan feasible_film
   filed_feasible none = other_rules (film_rules e) t m f plain_rules (asked_none true (no_label t) none)
 
   -- with one, 14 is the answer
-  pub label_stops : (v : ℕ) → (no_label t).place ≡ At v → (a : Answer)
+  pub label_stops : (v : ℕ) → (no_label t).place ≡ Some v → (a : Answer)
       → first_of (judge_checks plain_rules t m) a ≡ refused 14 v
   unfolding feasible_film judge_checks tree_checks form_checks
   label_stops v found a =
@@ -191,7 +191,7 @@ pub record ShapePlan (t m : List ℕ) : Type 0 where
   pub within : AllWithin (limit_of t) (weighed (tree_of t) m).pages
 
 module _ {t : List ℕ} (s : SoundFacts t) (m : List ℕ) (long : length m ≡ node_count t) where
-  pub heavy_bridge : allowed false (tree_of t) m ≡ true → (heavy_page t m ≡ Nowhere) ↔ AllWithin (limit_of t)
+  pub heavy_bridge : allowed false (tree_of t) m ≡ true → (heavy_page t m ≡ None) ↔ AllWithin (limit_of t)
       (weighed (tree_of t) m).pages
   unfolding heavy_page
   heavy_bridge ok = (

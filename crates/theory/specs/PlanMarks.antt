@@ -14,7 +14,7 @@ use borrow.Author.Tests.{eqb-true, eq-eqb, ne_eqb}
 use Rattle.model.specs.Basics.{pick}
 use Rattle.model.specs.Table.{node_count, weight_at, label_at, first_at, next_at, Chain, end, node, tree_of}
 use Rattle.model.specs.Plan.{prev_at, mark_at, in_run, good_mark, bad_mark}
-use Rattle.model.specs.declared.Place.TheVariants.{Nowhere}
+use Rattle.std.specs.declared.option.Option.TheVariants.{None}
 use Rattle.theory.specs.Bools.{three_true}
 use Rattle.theory.specs.Ranges.{Upto}
 use Rattle.theory.specs.TableFacts.{SoundFacts}
@@ -131,7 +131,7 @@ module _ {t : List ℕ} (s : SoundFacts t) (m : List ℕ) (long : length m ≡ n
       )
 
   -- no mark is bad: node 1 has mark 1, and the marks of the tree are allowed
-  pub marks_bridge : (bad_mark t m ≡ Nowhere) ↔ ((mark_at m 1 ≡ 1) × (allowed false (tree_of t) m ≡ true))
+  pub marks_bridge : (bad_mark t m ≡ None) ↔ ((mark_at m 1 ≡ 1) × (allowed false (tree_of t) m ≡ true))
   unfolding allowed allowed_mark
   marks_bridge = (
     λ e.

@@ -8,7 +8,7 @@ use Rattle.model.specs.Basics.{pick, count_to}
 use Rattle.model.specs.Table.{node_count}
 use Rattle.model.specs.Plan.{prev_at, parent_at, begins, continues, stays, mark_at, has_mark, in_run, good_mark, page_of}
 use Rattle.model.specs.Plan.{page_count, bad_mark}
-use Rattle.model.specs.declared.Place.TheVariants.{Nowhere}
+use Rattle.std.specs.declared.option.Option.TheVariants.{None}
 use Rattle.theory.specs.Bools.{both_true}
 use Rattle.theory.specs.Ranges.{Upto, pick_true, pick_false, first_to_none, first_to_nowhere}
 use Rattle.theory.specs.Chosen.{count_to_some}
@@ -43,7 +43,7 @@ page_of_stays t m v low e e' =
 
 -- ---- Marks that are good
 
-pub bad_none : (t m : List ℕ) → (bad_mark t m ≡ Nowhere) ↔ Upto (node_count t) (λ v. good_mark t m v ≡ true)
+pub bad_none : (t m : List ℕ) → (bad_mark t m ≡ None) ↔ Upto (node_count t) (λ v. good_mark t m v ≡ true)
 unfolding bad_mark
 bad_none t m = (
   λ e v low high. not-false (good_mark t m v) (first_to_nowhere (node_count t) (λ v. not (good_mark t m v)) e v low high),
@@ -87,7 +87,7 @@ good_after t m v low good e = (good_prev t m v low good e).1
 
 -- ---- A plan with no bad mark
 
-module _ {t : List ℕ} (s : SoundFacts t) (m : List ℕ) (good : bad_mark t m ≡ Nowhere) where
+module _ {t : List ℕ} (s : SoundFacts t) (m : List ℕ) (good : bad_mark t m ≡ None) where
   pub good_node : (v : ℕ) → 1 ≤ v → v ≤ node_count t → good_mark t m v ≡ true
   good_node = (bad_none t m).0 good
 

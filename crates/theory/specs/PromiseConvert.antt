@@ -11,8 +11,8 @@ use Rattle.model.specs.Archive.{archive_of, table_in, marks_in}
 use Rattle.model.specs.Refusals.{Check, bad_output, no_archive, no_label, many_nodes, judge_checks, film_checks, write_checks}
 use Rattle.model.specs.Refusals.{feasible_plan, feasible_film, answer_of, refused, outcome, checked, Written}
 use Rattle.model.specs.Refusals.{write_archive, is_archive, convert_checks, writer_rules, convert_archive}
-use Rattle.model.specs.declared.Place.TheVariants.{At, Nowhere}
-use Rattle.model.specs.declared.Answer.{Answer}
+use Rattle.std.specs.declared.option.Option.TheVariants.{Some, None}
+use Rattle.model.specs.Refusals.{Answer}
 use Rattle.model.specs.declared.Edition.{Edition}
 use Rattle.theory.specs.Ranges.{when_true, when_false, place_cases}
 use Rattle.theory.specs.Checks.{never_first}
@@ -53,11 +53,11 @@ module _ (e f : Edition) (a out : List ℕ) where
         entry_next told _ out (no_archive (is_archive e a)) (no_label t ∷ film)
         (when_false (not (is_archive e a)) 0 (ap not is))
 
-    pub label_stopped : (v : ℕ) → (no_label t).place ≡ At v → convert_archive e f a out ≡ outcome (refused 14 v) out
+    pub label_stopped : (v : ℕ) → (no_label t).place ≡ Some v → convert_archive e f a out ≡ outcome (refused 14 v) out
     unfolding no_label
     label_stopped v found = film_next ∙ entry_stop told _ out (no_label t) film v found
 
-    label_passed : (no_label t).place ≡ Nowhere → convert_archive e f a out ≡ write_archive f t m out
+    label_passed : (no_label t).place ≡ None → convert_archive e f a out ≡ write_archive f t m out
     unfolding write_archive write_checks feasible_plan
     label_passed none =
         film_next ∙ entry_next told _ out (no_label t) film none
@@ -67,7 +67,7 @@ module _ (e f : Edition) (a out : List ℕ) where
     pub convert_write : convert_archive e f a out ≡ write_archive f (table_in e a) (marks_in e a) out
     convert_write = go (place_cases (no_label t).place)
       where
-        go : ((v : ℕ) × ((no_label t).place ≡ At v)) ⊎ ((no_label t).place ≡ Nowhere)
+        go : ((v : ℕ) × ((no_label t).place ≡ Some v)) ⊎ ((no_label t).place ≡ None)
             → convert_archive e f a out ≡ write_archive f t m out
         go (inl x) = label_stopped x.0 x.1 ∙ sym (unfiled_stops f e t m out film_told x.0 x.1)
         go (inr none) = label_passed none

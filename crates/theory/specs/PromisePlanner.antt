@@ -18,8 +18,8 @@ use Rattle.model.specs.Refusals.{bad_marks, short_scratch, scratch_words, tree_c
 use Rattle.model.specs.Refusals.{accepted_tree, feasible_plan, answer_of, accepted, first_of, Outcome, checked}
 use Rattle.model.specs.Refusals.{PlanBuffers, plan_left, planned, plan_best}
 use Rattle.model.specs.Demand.{Lowest, WeightPromise, PlanLent, PlanPromise, BestPromise}
-use Rattle.model.specs.declared.Answer.{Answer}
-use Rattle.model.specs.declared.Beside.TheVariants.{Given}
+use Rattle.model.specs.Refusals.{Answer}
+use Rattle.std.specs.declared.option.Option.TheVariants.{Some}
 use Rattle.model.specs.declared.Verdict.TheVariants.{Feasible}
 use Rattle.theory.specs.Ranges.{when_false, when_nowhere}
 use Rattle.theory.specs.Checks.{Pass, pass_all, passes_both, both_pass, plan_never, lent_plain}
@@ -191,7 +191,7 @@ pub plan_figures : (steps : ℕ → Chain → List ℕ) (t m s : List ℕ)
 plan_figures steps t m s good P W e =
     let passed = plan_passes steps t m s (ap (λ (a : Answer). a.number) e) in
     let made : List ℕ = steps (limit_of t) (tree_of t) in
-    let same : Given (Feasible P W) ≡ Given (Feasible (page_count t made) (page_weight t made 1)) =
+    let same : Some (Feasible P W) ≡ Some (Feasible (page_count t made) (page_weight t made 1)) =
     ap (λ (a : Answer). a.beside) (sym e ∙ done_answer steps t m s good passed) in
     (cc, cc, made_feasible steps t m s good passed)
 

@@ -17,7 +17,7 @@ use Rattle.model.specs.Demand.{WeightPromise}
 use Rattle.model.specs.declared.Cause.TheVariants.{BadMark, HeavyPage}
 use Rattle.model.specs.declared.Verdict.{Verdict}
 use Rattle.model.specs.declared.Verdict.TheVariants.{Feasible, Failed}
-use Rattle.model.specs.declared.Answer.{Answer}
+use Rattle.model.specs.Refusals.{Answer}
 use Rattle.model.specs.declared.Edition.{Edition}
 use Rattle.theory.specs.Checks.{Never, Plain, first_of_pass, first_of_stop, first_of_fails, first_of_all}
 use Rattle.theory.specs.Checks.{never_append, never_first, plain_append, mark_plain, film_plain, sheet_plain}

@@ -7,8 +7,8 @@ use Rattle.std.proofs.lemmas.Bool.{false≢true, eqb-false}
 use Rattle.std.proofs.Math.ListN.{get_or-append}
 use Rattle.std.proofs.Math.Seq.{get_or-append_seam}
 use Rattle.model.specs.Basics.{pick, when, at_place, sum_to, count_to, first_to, last_to, list_to}
-use Rattle.model.specs.declared.Place.{Place}
-use Rattle.model.specs.declared.Place.TheVariants.{At, Nowhere}
+use Rattle.std.specs.declared.option.Option.{Option}
+use Rattle.std.specs.declared.option.Option.TheVariants.{Some, None}
 use Rattle.theory.specs.Bools.{bool_cases}
 
 -- ---- Choices and places
@@ -29,44 +29,44 @@ unfolding pick
 pick_both P true x y p q = p
 pick_both P false x y p q = q
 
-pub when_true : (b : Bool) (p : ℕ) → b ≡ true → when b p ≡ At p
+pub when_true : (b : Bool) (p : ℕ) → b ≡ true → when b p ≡ Some p
 unfolding when
 when_true true p e = refl
 when_true false p e = absurd (false≢true e)
 
-pub when_false : (b : Bool) (p : ℕ) → b ≡ false → when b p ≡ Nowhere
+pub when_false : (b : Bool) (p : ℕ) → b ≡ false → when b p ≡ None
 unfolding when
 when_false true p e = absurd (true≢false e)
 when_false false p e = refl
 
-pub at_nowhere : (p : ℕ) → At p ≡ Nowhere → ⊥
+pub at_nowhere : (p : ℕ) → Some p ≡ None → ⊥
 at_nowhere p e = let z : ◌≡◌ {A = ℕ} 0 1 = cc in omega arith
 
-pub at_same : {p q : ℕ} → At p ≡ At q → p ≡ q
+pub at_same : {p q : ℕ} → Some p ≡ Some q → p ≡ q
 at_same e = cc
 
-pub when_nowhere : (b : Bool) (p : ℕ) → when b p ≡ Nowhere → b ≡ false
+pub when_nowhere : (b : Bool) (p : ℕ) → when b p ≡ None → b ≡ false
 unfolding when
 when_nowhere true p e = absurd (at_nowhere p e)
 when_nowhere false p e = refl
 
-when_at : (b : Bool) (p q : ℕ) → when b p ≡ At q → (b ≡ true) × (p ≡ q)
+when_at : (b : Bool) (p q : ℕ) → when b p ≡ Some q → (b ≡ true) × (p ≡ q)
 unfolding when
 when_at true p q e = (refl, at_same e)
 when_at false p q e = absurd (at_nowhere q (sym e))
 
-pub at_place_at {ℓ} : {X : Type ℓ} (o : Place) (p : ℕ) (f : ℕ → X) (x : X) → o ≡ At p → at_place o f x ≡ f p
+pub at_place_at {ℓ} : {X : Type ℓ} (o : Option ℕ) (p : ℕ) (f : ℕ → X) (x : X) → o ≡ Some p → at_place o f x ≡ f p
 unfolding at_place
 at_place_at o p f x e = rw e
 
-pub at_place_nowhere {ℓ} : {X : Type ℓ} (o : Place) (f : ℕ → X) (x : X) → o ≡ Nowhere → at_place o f x ≡ x
+pub at_place_nowhere {ℓ} : {X : Type ℓ} (o : Option ℕ) (f : ℕ → X) (x : X) → o ≡ None → at_place o f x ≡ x
 unfolding at_place
 at_place_nowhere o f x e = rw e
 
 -- a place is a number or none
-pub place_cases : (o : Place) → ((p : ℕ) × (o ≡ At p)) ⊎ (o ≡ Nowhere)
-place_cases (At p) = inl (p, refl)
-place_cases Nowhere = inr refl
+pub place_cases : (o : Option ℕ) → ((p : ℕ) × (o ≡ Some p)) ⊎ (o ≡ None)
+place_cases (Some p) = inl (p, refl)
+place_cases None = inr refl
 
 -- ---- Numbers in order
 
@@ -187,19 +187,19 @@ count_to_full (suc n) p e =
 
 -- ---- The first that passes
 
-pub first_to_zero : (p : ℕ → Bool) → first_to 0 p ≡ Nowhere
+pub first_to_zero : (p : ℕ → Bool) → first_to 0 p ≡ None
 unfolding first_to
 first_to_zero p = refl
 
-pub first_to_suc : (n : ℕ) (p : ℕ → Bool) → first_to (suc n) p ≡ at_place (first_to n p) At (when (p (suc n)) (suc n))
+pub first_to_suc : (n : ℕ) (p : ℕ → Bool) → first_to (suc n) p ≡ at_place (first_to n p) Some (when (p (suc n)) (suc n))
 unfolding first_to
 first_to_suc n p = refl
 
-first_to_found : (n v : ℕ) (p : ℕ → Bool) → first_to n p ≡ At v → first_to (suc n) p ≡ At v
-first_to_found n v p e = first_to_suc n p ∙ at_place_at (first_to n p) v At (when (p (suc n)) (suc n)) e
+first_to_found : (n v : ℕ) (p : ℕ → Bool) → first_to n p ≡ Some v → first_to (suc n) p ≡ Some v
+first_to_found n v p e = first_to_suc n p ∙ at_place_at (first_to n p) v Some (when (p (suc n)) (suc n)) e
 
-pub first_to_further : (n : ℕ) (p : ℕ → Bool) → first_to n p ≡ Nowhere → first_to (suc n) p ≡ when (p (suc n)) (suc n)
-first_to_further n p e = first_to_suc n p ∙ at_place_nowhere (first_to n p) At (when (p (suc n)) (suc n)) e
+pub first_to_further : (n : ℕ) (p : ℕ → Bool) → first_to n p ≡ None → first_to (suc n) p ≡ when (p (suc n)) (suc n)
+first_to_further n p e = first_to_suc n p ∙ at_place_nowhere (first_to n p) Some (when (p (suc n)) (suc n)) e
 
 pub first_to_cong : (n : ℕ) (p q : ℕ → Bool) → Upto n (λ v. p v ≡ q v) → first_to n p ≡ first_to n q
 first_to_cong zero p q h = simp first_to_zero
@@ -209,13 +209,13 @@ first_to_cong (suc n) p q h =
     rw (first_to_suc n p, first_to_suc n q, before, last)
 
 -- no number passes, and none is found
-pub first_to_none : (n : ℕ) (p : ℕ → Bool) → Upto n (λ v. p v ≡ false) → first_to n p ≡ Nowhere
+pub first_to_none : (n : ℕ) (p : ℕ → Bool) → Upto n (λ v. p v ≡ false) → first_to n p ≡ None
 first_to_none zero p h = first_to_zero p
 first_to_none (suc n) p h =
     first_to_further n p (first_to_none n p (upto_less (λ v. p v ≡ false) n h))
     ∙ when_false (p (suc n)) (suc n) (upto_last (λ v. p v ≡ false) n h)
 
-pub first_to_nowhere : (n : ℕ) (p : ℕ → Bool) → first_to n p ≡ Nowhere → Upto n (λ v. p v ≡ false)
+pub first_to_nowhere : (n : ℕ) (p : ℕ → Bool) → first_to n p ≡ None → Upto n (λ v. p v ≡ false)
 first_to_nowhere zero p e = λ v low high. absurd (omega arith)
 first_to_nowhere (suc n) p e =
     ⊎_elim (λ f. absurd (at_nowhere f.0 (sym (first_to_found n f.0 p f.1) ∙ e)))
@@ -231,16 +231,16 @@ pub record First (n : ℕ) (p : ℕ → Bool) (v : ℕ) : Type 0 where
   pub passed : p v ≡ true
   pub before : (u : ℕ) → 1 ≤ u → u < v → p u ≡ false
 
-pub first_to_at : (n v : ℕ) (p : ℕ → Bool) → first_to n p ≡ At v → First n p v
+pub first_to_at : (n v : ℕ) (p : ℕ → Bool) → first_to n p ≡ Some v → First n p v
 first_to_at zero v p e = absurd (at_nowhere v (sym e ∙ first_to_zero p))
 first_to_at (suc n) v p e = go (first_to n p) refl (first_to_at n)
   where
     more : First n p v → First (suc n) p v
     more f = record { low = f.low; high = omega (arith, f.high); passed = f.passed; before = f.before }
 
-    go : (o : Place) → first_to n p ≡ o → ((u : ℕ) (q : ℕ → Bool) → first_to n q ≡ At u → First n q u) → First (suc n) p v
-    go (At u) q ih = more (ih v p (q ∙ sym (first_to_found n u p q) ∙ e))
-    go Nowhere q ih =
+    go : (o : Option ℕ) → first_to n p ≡ o → ((u : ℕ) (q : ℕ → Bool) → first_to n q ≡ Some u → First n q u) → First (suc n) p v
+    go (Some u) q ih = more (ih v p (q ∙ sym (first_to_found n u p q) ∙ e))
+    go None q ih =
         let both = when_at (p (suc n)) (suc n) v (sym (first_to_further n p q) ∙ e) in
         let none : Upto n (λ u. p u ≡ false) = first_to_nowhere n p q in
         record {
@@ -251,12 +251,12 @@ first_to_at (suc n) v p e = go (first_to n p) refl (first_to_at n)
         }
 
 -- the first one that passes is found
-pub first_to-first : (n v : ℕ) (p : ℕ → Bool) → First n p v → first_to n p ≡ At v
+pub first_to-first : (n v : ℕ) (p : ℕ → Bool) → First n p v → first_to n p ≡ Some v
 first_to-first n v p f = go (first_to n p) refl
   where
-    go : (o : Place) → first_to n p ≡ o → first_to n p ≡ At v
-    go Nowhere e = absurd (true≢false (sym f.passed ∙ first_to_nowhere n p e v f.low f.high))
-    go (At u) e = e ∙ ap At (same (order_cases u v))
+    go : (o : Option ℕ) → first_to n p ≡ o → first_to n p ≡ Some v
+    go None e = absurd (true≢false (sym f.passed ∙ first_to_nowhere n p e v f.low f.high))
+    go (Some u) e = e ∙ ap Some (same (order_cases u v))
       where
         g : First n p u
         g = first_to_at n u p e

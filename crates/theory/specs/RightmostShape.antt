@@ -14,8 +14,8 @@ use Rattle.model.specs.Table.{Chain, end, node}
 use Rattle.model.specs.Plan.{stays, begins, continues}
 use Rattle.model.specs.Steps.{siblings_by, lay_down, total, while_over, cut_runs, run_left, stayed, right_rest, right_rests}
 use Rattle.model.specs.Steps.{lay_rightmost, rightmost_marks}
-use Rattle.model.specs.declared.Place.{Place}
-use Rattle.model.specs.declared.Place.TheVariants.{At, Nowhere}
+use Rattle.std.specs.declared.option.Option.{Option}
+use Rattle.std.specs.declared.option.Option.TheVariants.{Some, None}
 use Rattle.theory.specs.PlanShape.{AllWithin, EachWithin}
 use Rattle.theory.specs.PlanLaid.{MarksLaid, laid_end, laid_stays, laid_begins, laid_continues, FeasibleShape}
 use Rattle.theory.specs.PlanLaid.{feasible_tree}
@@ -24,23 +24,23 @@ use Rattle.theory.specs.PlanLaid.{feasible_tree}
 
 -- Siblings with the remainders rs have the marks ms, the last first in both: x is the sum of those that stay, no run
 -- weighs over K, and the last sibling is in a run of the weight told, or in none.
-data RunsWithin (K : ℕ) : List ℕ → List ℕ → ℕ → Place → Type 0 where
-  empty : RunsWithin K [] [] 0 Nowhere
-  stay : {rs ms : List ℕ} {r x z : ℕ} {o : Place} → z ≡ r + x → RunsWithin K rs ms x o
-      → RunsWithin K (r ∷ rs) (stays ∷ ms) z Nowhere
-  begin : {rs ms : List ℕ} {r x : ℕ} {o : Place} → r ≤ K → RunsWithin K rs ms x o
-      → RunsWithin K (r ∷ rs) (begins ∷ ms) x (At r)
-  go : {rs ms : List ℕ} {r x y z : ℕ} → z ≡ y + r → z ≤ K → RunsWithin K rs ms x (At y)
-      → RunsWithin K (r ∷ rs) (continues ∷ ms) x (At z)
+data RunsWithin (K : ℕ) : List ℕ → List ℕ → ℕ → Option ℕ → Type 0 where
+  empty : RunsWithin K [] [] 0 None
+  stay : {rs ms : List ℕ} {r x z : ℕ} {o : Option ℕ} → z ≡ r + x → RunsWithin K rs ms x o
+      → RunsWithin K (r ∷ rs) (stays ∷ ms) z None
+  begin : {rs ms : List ℕ} {r x : ℕ} {o : Option ℕ} → r ≤ K → RunsWithin K rs ms x o
+      → RunsWithin K (r ∷ rs) (begins ∷ ms) x (Some r)
+  go : {rs ms : List ℕ} {r x y z : ℕ} → z ≡ y + r → z ≤ K → RunsWithin K rs ms x (Some y)
+      → RunsWithin K (r ∷ rs) (continues ∷ ms) x (Some z)
 
-runs_stayed : {K x : ℕ} {rs ms : List ℕ} {o : Place} → RunsWithin K rs ms x o → stayed rs ms ≡ x
+runs_stayed : {K x : ℕ} {rs ms : List ℕ} {o : Option ℕ} → RunsWithin K rs ms x o → stayed rs ms ≡ x
 unfolding stayed pick
 runs_stayed empty = refl
 runs_stayed (stay e v) = omega (arith, runs_stayed v)
 runs_stayed (begin h v) = omega (arith, runs_stayed v)
 runs_stayed (go e h v) = omega (arith, runs_stayed v)
 
-runs_total : {K x : ℕ} {rs ms : List ℕ} {o : Place} → RunsWithin K rs ms x o → x ≤ total rs
+runs_total : {K x : ℕ} {rs ms : List ℕ} {o : Option ℕ} → RunsWithin K rs ms x o → x ≤ total rs
 unfolding total
 runs_total empty = omega arith
 runs_total (stay e v) = omega (arith, runs_total v)
@@ -52,7 +52,7 @@ runs_total (go e h v) = omega (arith, runs_total v)
 -- the marks are runs within K, and a node of weight w has room for what stays
 record CutWithin (K w : ℕ) (rs ms : List ℕ) : Type 0 where
   sum : ℕ
-  run : Place
+  run : Option ℕ
   runs : RunsWithin K rs ms sum run
   fits : w + sum ≤ K
 
@@ -60,7 +60,7 @@ record CutWithin (K w : ℕ) (rs ms : List ℕ) : Type 0 where
 -- those to its right weigh, and rs are the siblings to its left.
 data RunFrom (K w sum : ℕ) (rs : List ℕ) : List ℕ → Type 0 where
   leftmost : {ms : List ℕ} → CutWithin K w rs ms → RunFrom K w sum rs (begins ∷ ms)
-  further : {ms : List ℕ} {x y : ℕ} → RunsWithin K rs ms x (At y) → y + sum ≤ K → w + x ≤ K
+  further : {ms : List ℕ} {x y : ℕ} → RunsWithin K rs ms x (Some y) → y + sum ≤ K → w + x ≤ K
       → RunFrom K w sum rs (continues ∷ ms)
 
 module _ {K w : ℕ} {rs : List ℕ} where
@@ -109,7 +109,7 @@ module _ {K w : ℕ} (r : ℕ) {rs : List ℕ} (light : r ≤ K) (before : Cutti
 cutting : (K w : ℕ) (rs : List ℕ) → w ≤ K → AllWithin K rs → Cutting K w rs
 unfolding cut_runs run_left AllWithin
 cutting K w [] h a =
-    let none : CutWithin K w [] [] = record { sum = 0; run = Nowhere; runs = empty; fits = omega arith } in
+    let none : CutWithin K w [] [] = record { sum = 0; run = None; runs = empty; fits = omega arith } in
     record { cut = none; left = λ sum s. leftmost none }
 cutting K w (r ∷ rs) h a =
     let before = cutting K w rs h a.1 in
@@ -139,15 +139,15 @@ kids_within K kids e = rests_within K kids [] e tt
 -- ---- A chain
 
 -- whether a sibling may continue a run, and what a run has room for
-abbrev in_run : Place → Bool
-in_run (At y) = true
-in_run Nowhere = false
+abbrev in_run : Option ℕ → Bool
+in_run (Some y) = true
+in_run None = false
 
-abbrev HasRoom : ℕ → Place → ℕ → Type 0
-HasRoom K (At y) c = y + c ≤ K
-HasRoom K Nowhere c = Unit {0}
+abbrev HasRoom : ℕ → Option ℕ → ℕ → Type 0
+HasRoom K (Some y) c = y + c ≤ K
+HasRoom K None c = Unit {0}
 
-room_zero : {K x : ℕ} {rs ms : List ℕ} {o : Place} → RunsWithin K rs ms x o → HasRoom K o 0
+room_zero : {K x : ℕ} {rs ms : List ℕ} {o : Option ℕ} → RunsWithin K rs ms x o → HasRoom K o 0
 room_zero empty = tt
 room_zero (stay e v) = tt
 room_zero (begin h v) = omega arith
@@ -155,7 +155,7 @@ room_zero (go e h v) = omega arith
 
 -- The marks of a chain after some siblings: ds are the marks of both, the last first, and x is what stays of both.
 data ChainLaid (K : ℕ) (c : Chain) (before ds : List ℕ) (x : ℕ) : Type 0 where
-  chain_laid : {others : List ℕ} {sum stayed carried : ℕ} {run : Place} (own : List ℕ) → reverse_aux own others ≡ ds
+  chain_laid : {others : List ℕ} {sum stayed carried : ℕ} {run : Option ℕ} (own : List ℕ) → reverse_aux own others ≡ ds
       → RunsWithin K before others sum run → MarksLaid K (in_run run) c (lay_rightmost K c own) stayed carried
       → HasRoom K run carried → x ≡ sum + stayed → ChainLaid K c before ds x
 
@@ -192,7 +192,7 @@ cut_kids_lem : (K w : ℕ) (kids : Chain) → w ≤ K → EachWithin K kids
     → CutWithin K w (right_rests K kids) (cut_runs K w (right_rests K kids))
 cut_kids_lem K w kids h e = cut_within K w (right_rests K kids) h (kids_within K kids e)
 
-lay_chain : {K : ℕ} (c : Chain) (before : List ℕ) {ds : List ℕ} {o : Place} {x : ℕ} → EachWithin K c
+lay_chain : {K : ℕ} (c : Chain) (before : List ℕ) {ds : List ℕ} {o : Option ℕ} {x : ℕ} → EachWithin K c
     → RunsWithin K (siblings_by (right_rest K) c before) ds x o → ChainLaid K c before ds x
 unfolding siblings_by EachWithin lay_down right_rests
 lay_chain {K} end before {o = o} e v = chain_laid [] refl v (laid_end K (in_run o)) (room_zero v) (omega arith)

@@ -8,7 +8,7 @@ use Rattle.std.proofs.Common.{arith, eq-or-lt_of_le, sym, ◌∙◌, ap, inl, in
 use Rattle.model.specs.Table.{node_count, next_at}
 use Rattle.model.specs.Plan.{prev_at, parent_at, stays, begins, continues, mark_at, has_mark, in_run, good_mark, bad_mark}
 use Rattle.model.specs.Plan.{run_last}
-use Rattle.model.specs.declared.Place.TheVariants.{Nowhere}
+use Rattle.std.specs.declared.option.Option.TheVariants.{None}
 use Rattle.theory.specs.Bools.{bool_cases, either_true}
 use Rattle.theory.specs.Ranges.{Upto, pick_false}
 use Rattle.theory.specs.TableFacts.{SoundFacts}
@@ -46,7 +46,7 @@ good_few t m v low good = go (eq-or-lt_of_le low) (bool_cases (has_mark m contin
         (either_true (has_mark m stays v) (has_mark m begins v)
         (sym (pick_false (has_mark m continues v) _ _ q) ∙ sym (good_later t m v two) ∙ good))
 
-pub good_marks : (t m : List ℕ) → bad_mark t m ≡ Nowhere → GoodMarks t m
+pub good_marks : (t m : List ℕ) → bad_mark t m ≡ None → GoodMarks t m
 good_marks t m e =
     record {
       few = λ v low high. good_few t m v low (good v low high);
@@ -87,7 +87,7 @@ pub record InRunOf (t m : List ℕ) (v b : ℕ) : Type 0 where
   pub reached : v ≤ run_last t m b
 
 module _ {t : List ℕ} (s : SoundFacts t) (m : List ℕ) where
-  pub in_run_of : bad_mark t m ≡ Nowhere → (v : ℕ) → 1 ≤ v → v ≤ node_count t → mark_at m v ≡ 2 → (b : ℕ) × InRunOf t m v b
+  pub in_run_of : bad_mark t m ≡ None → (v : ℕ) → 1 ≤ v → v ≤ node_count t → mark_at m v ≡ 2 → (b : ℕ) × InRunOf t m v b
   in_run_of good v low high two =
       let h : FirstInRun t m v = first_in_run s m good v low high (in_run-continues m v (eq-eqb (mark_at m v) 2 two)) in
       let one : mark_at m h.first ≡ 1 = eqb-true (mark_at m h.first) 1 h.mark in

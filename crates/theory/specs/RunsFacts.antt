@@ -12,8 +12,8 @@ use Rattle.model.specs.Table.{node_count}
 use Rattle.model.specs.Plan.{parent_at}
 use Rattle.model.specs.Runs.{Run, comes_after, is_run, is_member, root_run, is_root_run, count_of, in_one_at_most, holds, run_with}
 use Rattle.model.specs.Runs.{home_from, home_of}
-use Rattle.model.specs.declared.Place.{Place}
-use Rattle.model.specs.declared.Place.TheVariants.{At, Nowhere}
+use Rattle.std.specs.declared.option.Option.{Option}
+use Rattle.std.specs.declared.option.Option.TheVariants.{Some, None}
 use Rattle.theory.specs.Bools.{both_true}
 use Rattle.theory.specs.Ranges.{Upto, by_earlier, steps_enough, pick_true, pick_false, at_nowhere, at_same}
 use Rattle.theory.specs.Ranges.{at_place_at, at_place_nowhere, count_to_all, count_to_full}
@@ -80,19 +80,19 @@ module _ {t : List ℕ} (s : SoundFacts t) where
 
 -- ---- The run that a node is in
 
-run_with_nil : (t : List ℕ) (v : ℕ) → run_with t [] v ≡ Nowhere
+run_with_nil : (t : List ℕ) (v : ℕ) → run_with t [] v ≡ None
 unfolding run_with
 run_with_nil t v = refl
 
 run_with_yes : (t : List ℕ) (r : Run) (rs : List Run) (v : ℕ) → is_member t v r ≡ true
-    → run_with t (r ∷ rs) v ≡ At r.first
+    → run_with t (r ∷ rs) v ≡ Some r.first
 unfolding run_with
-run_with_yes t r rs v e = pick_true (is_member t v r) (At r.first) (run_with t rs v) e
+run_with_yes t r rs v e = pick_true (is_member t v r) (Some r.first) (run_with t rs v) e
 
 run_with_no : (t : List ℕ) (r : Run) (rs : List Run) (v : ℕ) → is_member t v r ≡ false
     → run_with t (r ∷ rs) v ≡ run_with t rs v
 unfolding run_with
-run_with_no t r rs v e = pick_false (is_member t v r) (At r.first) (run_with t rs v) e
+run_with_no t r rs v e = pick_false (is_member t v r) (Some r.first) (run_with t rs v) e
 
 pub record FoundRun (t : List ℕ) (rs : List Run) (v u : ℕ) : Type 0 where
   pub run : Run
@@ -100,30 +100,30 @@ pub record FoundRun (t : List ℕ) (rs : List Run) (v u : ℕ) : Type 0 where
   pub member : is_member t v run ≡ true
   pub first : run.first ≡ u
 
-pub run_with_found : (t : List ℕ) (rs : List Run) (v u : ℕ) → run_with t rs v ≡ At u → FoundRun t rs v u
+pub run_with_found : (t : List ℕ) (rs : List Run) (v u : ℕ) → run_with t rs v ≡ Some u → FoundRun t rs v u
 run_with_found t [] v u e = absurd (at_nowhere u (sym e ∙ run_with_nil t v))
 run_with_found t (r ∷ rs) v u e = go (is_member t v r) refl (run_with_found t rs v u)
   where
-    go : (b : Bool) → is_member t v r ≡ b → (run_with t rs v ≡ At u → FoundRun t rs v u) → FoundRun t (r ∷ rs) v u
+    go : (b : Bool) → is_member t v r ≡ b → (run_with t rs v ≡ Some u → FoundRun t rs v u) → FoundRun t (r ∷ rs) v u
     go true q ih =
         record { run = r; listed = Memᴰ.head refl; member = q; first = at_same (sym (run_with_yes t r rs v q) ∙ e) }
     go false q ih =
         let f : FoundRun t rs v u = ih (sym (run_with_no t r rs v q) ∙ e) in
         record { run = f.run; listed = Memᴰ.tail f.listed; member = f.member; first = f.first }
 
-pub run_with_none : (t : List ℕ) (rs : List Run) (v : ℕ) → run_with t rs v ≡ Nowhere → (r : Run) → Mem r rs
+pub run_with_none : (t : List ℕ) (rs : List Run) (v : ℕ) → run_with t rs v ≡ None → (r : Run) → Mem r rs
     → is_member t v r ≡ false
 run_with_none t [] v e r h = absurd (Memᴰ.not-nil h)
 run_with_none t (x ∷ rs) v e r h = go (is_member t v x) refl h (run_with_none t rs v)
   where
     go : (b : Bool) → is_member t v x ≡ b → Mem r (x ∷ rs)
-        → (run_with t rs v ≡ Nowhere → (r' : Run) → Mem r' rs → is_member t v r' ≡ false) → is_member t v r ≡ false
+        → (run_with t rs v ≡ None → (r' : Run) → Mem r' rs → is_member t v r' ≡ false) → is_member t v r ≡ false
     go true q m ih = absurd (at_nowhere x.first (sym (run_with_yes t x rs v q) ∙ e))
     go false q (Memᴰ.head p) ih = ap (is_member t v) p ∙ q
     go false q (Memᴰ.tail m) ih = ih (sym (run_with_no t x rs v q) ∙ e) r m
 
 pub none_run_with : (t : List ℕ) (rs : List Run) (v : ℕ) → ((r : Run) → Mem r rs → is_member t v r ≡ false)
-    → run_with t rs v ≡ Nowhere
+    → run_with t rs v ≡ None
 none_run_with t [] v h = run_with_nil t v
 none_run_with t (x ∷ rs) v h =
     run_with_no t x rs v (h x (Memᴰ.head refl)) ∙ none_run_with t rs v (λ r m. h r (Memᴰ.tail m))
@@ -180,29 +180,29 @@ module _ {t : List ℕ} (s : SoundFacts t) where
         let range = member_range s v r (h.each r m) (member_inside t v r e) in
         count_of_one (is_member t v) rs r r' (h.once v range.0 range.1) m m' e e'
 
-    pub run_with_at : (v : ℕ) (r : Run) → Mem r rs → is_member t v r ≡ true → run_with t rs v ≡ At r.first
+    pub run_with_at : (v : ℕ) (r : Run) → Mem r rs → is_member t v r ≡ true → run_with t rs v ≡ Some r.first
     run_with_at v r m e = go (run_with t rs v) refl
       where
-        go : (o : Place) → run_with t rs v ≡ o → run_with t rs v ≡ At r.first
-        go Nowhere q = absurd (true≢false (sym e ∙ run_with_none t rs v q r m))
-        go (At u) q =
+        go : (o : Option ℕ) → run_with t rs v ≡ o → run_with t rs v ≡ Some r.first
+        go None q = absurd (true≢false (sym e ∙ run_with_none t rs v q r m))
+        go (Some u) q =
             let f : FoundRun t rs v u = run_with_found t rs v u q in
-            q ∙ ap At (sym f.first ∙ ap (λ x. x.first) (runs_apart v f.run r f.listed m f.member e))
+            q ∙ ap Some (sym f.first ∙ ap (λ x. x.first) (runs_apart v f.run r f.listed m f.member e))
 
     -- there is no node 0
-    pub run_with_zero : run_with t rs 0 ≡ Nowhere
+    pub run_with_zero : run_with t rs 0 ≡ None
     run_with_zero = none_run_with t rs 0 (λ r m. go r m (is_member t 0 r) refl)
       where
         go : (r : Run) → Mem r rs → (b : Bool) → is_member t 0 r ≡ b → is_member t 0 r ≡ false
         go r m true e = absurd (omega (arith, (member_range s 0 r (h.each r m) (member_inside t 0 r e)).0))
         go r m false e = e
 
-    pub run_with_root : run_with t rs 1 ≡ At 1
+    pub run_with_root : run_with t rs 1 ≡ Some 1
     run_with_root = run_with_at 1 root_run h.root (first_member s root_run (h.each root_run h.root))
 
 -- ---- The page that a node is on
 
-module _ (t : List ℕ) (rs : List Run) (z : run_with t rs 0 ≡ Nowhere) where
+module _ (t : List ℕ) (rs : List Run) (z : run_with t rs 0 ≡ None) where
   home_from_none : (f : ℕ) → home_from f t rs 0 ≡ 0
   unfolding home_from
   home_from_none zero = refl
@@ -219,13 +219,13 @@ module _ (t : List ℕ) (rs : List Run) (z : run_with t rs 0 ≡ Nowhere) where
       (λ f g v e. ap (at_place (run_with t rs v) (λ u. u)) e)
 
   -- a node in a run is on that run's page, any other on its parent's page
-  pub home_run : (v u : ℕ) → 1 ≤ v → run_with t rs v ≡ At u → home_of t rs v ≡ u
+  pub home_run : (v u : ℕ) → 1 ≤ v → run_with t rs v ≡ Some u → home_of t rs v ≡ u
   unfolding home_of home_from
   home_run zero u low e = absurd (omega arith)
   home_run (suc v) u low e =
       at_place_at (run_with t rs (suc v)) u (λ w. w) (home_from v t rs (parent_at t (suc v))) e
 
-  pub home_up : (v : ℕ) → 1 ≤ v → run_with t rs v ≡ Nowhere → home_of t rs v ≡ home_of t rs (parent_at t v)
+  pub home_up : (v : ℕ) → 1 ≤ v → run_with t rs v ≡ None → home_of t rs v ≡ home_of t rs (parent_at t v)
   unfolding home_of home_from
   home_up zero low e = absurd (omega arith)
   home_up (suc v) low e =
@@ -241,15 +241,15 @@ module _ {t : List ℕ} (s : SoundFacts t) (rs : List Run) (h : HoldFacts t rs) 
   pub home_first : (v : ℕ) → HomeRun v
   home_first = by_earlier HomeRun (λ v earlier low high. go v low high earlier (run_with t rs v) refl)
     where
-      z : run_with t rs 0 ≡ Nowhere
+      z : run_with t rs 0 ≡ None
       z = run_with_zero s rs h
 
-      go : (v : ℕ) → 1 ≤ v → v ≤ node_count t → ((u : ℕ) → u < v → HomeRun u) → (o : Place) → run_with t rs v ≡ o
+      go : (v : ℕ) → 1 ≤ v → v ≤ node_count t → ((u : ℕ) → u < v → HomeRun u) → (o : Option ℕ) → run_with t rs v ≡ o
           → (r : Run) × Mem r rs × (r.first ≡ home_of t rs v)
-      go v low high earlier (At u) q =
+      go v low high earlier (Some u) q =
           let found : FoundRun t rs v u = run_with_found t rs v u q in
           (found.run, found.listed, found.first ∙ sym (home_run t rs z v u low q))
-      go v low high earlier Nowhere q =
+      go v low high earlier None q =
           let other : v ≡ 1 → ⊥ = λ e. at_nowhere 1 (sym (run_with_root s rs h) ∙ ap (run_with t rs) (sym e) ∙ q) in
           let two : 2 ≤ v = omega (arith, other) in
           let less : parent_at t v < v = parent_at_less t v low in

@@ -21,8 +21,8 @@ use Rattle.model.specs.Refusals.{form_checks, weight_checks, tree_checks, passes
 use Rattle.model.specs.Refusals.{refused_for_weight}
 use Rattle.model.specs.Refusals.{first_of, accepted, read_tree}
 use Rattle.model.specs.Demand.{HeldWithin}
-use Rattle.model.specs.declared.Place.TheVariants.{Nowhere}
-use Rattle.model.specs.declared.Answer.{Answer}
+use Rattle.std.specs.declared.option.Option.TheVariants.{None}
+use Rattle.model.specs.Refusals.{Answer}
 use Rattle.theory.specs.Ranges.{Upto, pick_true, pick_false, sum_to_cong, count_to_le, count_to_all, first_to_none}
 use Rattle.theory.specs.Sums.{sum_to_only, sum_to_one}
 use Rattle.theory.specs.TableFacts.{SoundFacts, sound_facts, accepted_facts, sound_accepted}
@@ -45,9 +45,9 @@ pub record PlanRuns (t m : List ℕ) : Type 0 where
   pub held : holds t (runs_of t m) ≡ true
   pub count : run_count (runs_of t m) ≡ page_count t m
   pub root : root_weight t (runs_of t m) ≡ page_weight t m 1
-  pub limit : (within_limit t (runs_of t m) ≡ true) ↔ (heavy_page t m ≡ Nowhere)
+  pub limit : (within_limit t (runs_of t m) ≡ true) ↔ (heavy_page t m ≡ None)
 
-pub plan_runs : {t : List ℕ} → SoundFacts t → (m : List ℕ) → bad_mark t m ≡ Nowhere → PlanRuns t m
+pub plan_runs : {t : List ℕ} → SoundFacts t → (m : List ℕ) → bad_mark t m ≡ None → PlanRuns t m
 plan_runs {t} s m good =
     record {
       held = runs_hold s m good;
@@ -63,15 +63,15 @@ plan_runs {t} s m good =
 pub record RunsPlan (t : List ℕ) (rs : List Run) : Type 0 where
   pub marks : List ℕ
   pub long : length marks ≡ node_count t
-  pub good : bad_mark t marks ≡ Nowhere
+  pub good : bad_mark t marks ≡ None
   pub runs : SameRuns (runs_of t marks) rs
   pub times : OrderApart (runs_of t marks) rs
-  pub only : (m : List ℕ) → length m ≡ node_count t → bad_mark t m ≡ Nowhere → SameRuns (runs_of t m) rs → m ≡ marks
+  pub only : (m : List ℕ) → length m ≡ node_count t → bad_mark t m ≡ None → SameRuns (runs_of t m) rs → m ≡ marks
   pub count : page_count t marks ≡ run_count rs
   pub home : (v : ℕ) → home_of t (runs_of t marks) v ≡ home_of t rs v
   pub weight : (r : Run) → run_weight t (runs_of t marks) r ≡ run_weight t rs r
   pub root : page_weight t marks 1 ≡ root_weight t rs
-  pub limit : (heavy_page t marks ≡ Nowhere) ↔ (within_limit t rs ≡ true)
+  pub limit : (heavy_page t marks ≡ None) ↔ (within_limit t rs ≡ true)
 
 pub runs_plan : {t : List ℕ} → SoundFacts t → (rs : List Run) → holds t rs ≡ true → RunsPlan t rs
 runs_plan {t} s rs e =
@@ -95,7 +95,7 @@ runs_plan {t} s rs e =
     m : List ℕ
     m = marks_of t rs
 
-    good : bad_mark t m ≡ Nowhere
+    good : bad_mark t m ≡ None
     good = marks_good s rs h
 
     same : SameRuns (runs_of t m) rs
@@ -115,7 +115,7 @@ module _ {t : List ℕ} (s : SoundFacts t) where
   ones_begin v low high =
       eq-eqb (get_or (replicate (node_count t) 1) (v - 1) 0) 1 (get_or-replicate (node_count t) (v - 1) 1 0 (omega arith))
 
-  ones_good : bad_mark t (ones (node_count t)) ≡ Nowhere
+  ones_good : bad_mark t (ones (node_count t)) ≡ None
   ones_good = (bad_none t (ones (node_count t))).1 (λ v low high. go v low high (eqb v 1) refl)
     where
       go : (v : ℕ) → 1 ≤ v → v ≤ node_count t → (b : Bool) → eqb v 1 ≡ b → good_mark t (ones (node_count t)) v ≡ true
@@ -155,7 +155,7 @@ module _ {t : List ℕ} (s : SoundFacts t) where
           pick_false (eqb v p) (weight_at t v) 0 q
           ∙ sym (pick_false (eqb p v) (weight_at t p) 0 (ne_eqb p v (λ e. eqb-false v p q (sym e))))
 
-  ones_light : Upto (node_count t) (λ v. weight_at t v ≤ limit_of t) → heavy_page t (ones (node_count t)) ≡ Nowhere
+  ones_light : Upto (node_count t) (λ v. weight_at t v ≤ limit_of t) → heavy_page t (ones (node_count t)) ≡ None
   unfolding heavy_page page_count
   ones_light light =
       first_to_none (count_to (node_count t) (has_mark (ones (node_count t)) begins))

@@ -11,7 +11,7 @@ use Rattle.model.specs.Table.{node_count, next_at}
 use Rattle.model.specs.Plan.{prev_at, bad_mark, begins, continues, mark_at, has_mark, in_run, page_count, run_last_from}
 use Rattle.model.specs.Plan.{run_last}
 use Rattle.model.specs.Runs.{Run, is_member, runs_of}
-use Rattle.model.specs.declared.Place.TheVariants.{Nowhere}
+use Rattle.std.specs.declared.option.Option.TheVariants.{None}
 use Rattle.theory.specs.Bools.{bool_cases, both_true, both_false}
 use Rattle.theory.specs.Ranges.{by_earlier, pick_true, pick_false}
 use Rattle.theory.specs.TableFacts.{SoundFacts}
@@ -172,7 +172,7 @@ pub record FirstInRun (t m : List ℕ) (v : ℕ) : Type 0 where
   pub mark : has_mark m begins first ≡ true
   pub goes : Goes t m first v
 
-module _ {t : List ℕ} (s : SoundFacts t) (m : List ℕ) (good : bad_mark t m ≡ Nowhere) where
+module _ {t : List ℕ} (s : SoundFacts t) (m : List ℕ) (good : bad_mark t m ≡ None) where
   abbrev FirstInRunAt : ℕ → Type 0
   FirstInRunAt v = 1 ≤ v → v ≤ node_count t → in_run m v ≡ true → FirstInRun t m v
 

@@ -13,7 +13,7 @@ use Rattle.model.specs.Table.{node_count, limit_of, weight_at, next_at}
 use Rattle.model.specs.Plan.{parent_at, begins, has_mark, in_run, page_of, page_count, page_weight, bad_mark, heavy_page}
 use Rattle.model.specs.Runs.{Run, is_member, root_run, count_of, holds, run_with, home_of, run_weight, within_limit}
 use Rattle.model.specs.Runs.{root_weight, runs_of}
-use Rattle.model.specs.declared.Place.TheVariants.{At, Nowhere}
+use Rattle.std.specs.declared.option.Option.TheVariants.{Some, None}
 use Rattle.theory.specs.Bools.{both_true, same_true}
 use Rattle.theory.specs.Ranges.{by_earlier, sum_to_cong, count_to_zero, count_to_yes, count_to_none, first_to_none}
 use Rattle.theory.specs.Ranges.{first_to_nowhere}
@@ -37,7 +37,7 @@ record OnPage (t m : List ℕ) (v : ℕ) : Type 0 where
   home : home_of t (runs_of t m) v ≡ first
   page : page_of t m v ≡ count_to first (has_mark m begins)
 
-module _ {t : List ℕ} (s : SoundFacts t) (m : List ℕ) (good : bad_mark t m ≡ Nowhere) where
+module _ {t : List ℕ} (s : SoundFacts t) (m : List ℕ) (good : bad_mark t m ≡ None) where
   -- ---- They hold the tree
 
   pub mem_from : (r : Run) → Mem r (runs_of t m) → From (has_mark m begins) (plan_run t m) (node_count t) r
@@ -111,15 +111,15 @@ module _ {t : List ℕ} (s : SoundFacts t) (m : List ℕ) (good : bad_mark t m �
 
   -- ---- Homes and pages
 
-  zero_none : run_with t (runs_of t m) 0 ≡ Nowhere
+  zero_none : run_with t (runs_of t m) 0 ≡ None
   zero_none = run_with_zero s (runs_of t m) runs_facts
 
   pub run_with_goes : (u v : ℕ) → 1 ≤ u → u ≤ node_count t → has_mark m begins u ≡ true → Goes t m u v
-      → run_with t (runs_of t m) v ≡ At u
+      → run_with t (runs_of t m) v ≡ Some u
   run_with_goes u v low high e r =
       run_with_at s (runs_of t m) runs_facts v (plan_run t m u) (runs_mem u low high e) (goes_member s m u v low high r)
 
-  pub run_with_out : (v : ℕ) → in_run m v ≡ false → run_with t (runs_of t m) v ≡ Nowhere
+  pub run_with_out : (v : ℕ) → in_run m v ≡ false → run_with t (runs_of t m) v ≡ None
   run_with_out v e = none_run_with t (runs_of t m) v (λ r h. go r (mem_from r h))
     where
       go : (r : Run) → From (has_mark m begins) (plan_run t m) (node_count t) r → is_member t v r ≡ false
@@ -198,7 +198,7 @@ module _ {t : List ℕ} (s : SoundFacts t) (m : List ℕ) (good : bad_mark t m �
       (count_to_yes 0 (has_mark m begins) (root_begins s m good) ∙ ap suc (count_to_zero (has_mark m begins)))
 
   -- within the limit exactly where no page is heavy
-  pub within_heavy : (within_limit t (runs_of t m) ≡ true) ↔ (heavy_page t m ≡ Nowhere)
+  pub within_heavy : (within_limit t (runs_of t m) ≡ true) ↔ (heavy_page t m ≡ None)
   unfolding within_limit heavy_page page_count
   within_heavy = (
     λ e. first_to_none (count_to (node_count t) (has_mark m begins)) (λ p. ltb (limit_of t) (page_weight t m p))

@@ -14,8 +14,8 @@ use Rattle.model.specs.Table.{node_count, limit_of, weight_at}
 use Rattle.model.specs.Plan.{parent_at}
 use Rattle.model.specs.Runs.{Run, is_member, root_run, count_of, run_with, home_from, home_of, run_weight, within_limit}
 use Rattle.model.specs.Runs.{same_run, OrderApart, root_weight}
-use Rattle.model.specs.declared.Place.{Place}
-use Rattle.model.specs.declared.Place.TheVariants.{At, Nowhere}
+use Rattle.std.specs.declared.option.Option.{Option}
+use Rattle.std.specs.declared.option.Option.TheVariants.{Some, None}
 use Rattle.theory.specs.Bools.{both_true, and_true, same_true}
 use Rattle.theory.specs.Ranges.{Upto, sum_to_cong, sum_to_add, sum_to_none}
 use Rattle.theory.specs.Sums.{sum_to_only}
@@ -60,11 +60,11 @@ module _ {t : List ℕ} (s : SoundFacts t) (rs rs' : List Run) (h : HoldFacts t 
   pub same_run_with : (v : ℕ) → run_with t rs v ≡ run_with t rs' v
   same_run_with v = go (run_with t rs' v) refl
     where
-      go : (o : Place) → run_with t rs' v ≡ o → run_with t rs v ≡ run_with t rs' v
-      go Nowhere q = none_run_with t rs v (λ r m. run_with_none t rs' v q r (same.there r m)) ∙ sym q
-      go (At u) q =
+      go : (o : Option ℕ) → run_with t rs' v ≡ o → run_with t rs v ≡ run_with t rs' v
+      go None q = none_run_with t rs v (λ r m. run_with_none t rs' v q r (same.there r m)) ∙ sym q
+      go (Some u) q =
           let f : FoundRun t rs' v u = run_with_found t rs' v u q in
-          run_with_at s rs h v f.run (same.back f.run f.listed) f.member ∙ ap At f.first ∙ sym q
+          run_with_at s rs h v f.run (same.back f.run f.listed) f.member ∙ ap Some f.first ∙ sym q
 
   same_home_from : (f v : ℕ) → home_from f t rs v ≡ home_from f t rs' v
   unfolding home_from

@@ -9,8 +9,8 @@ use Rattle.model.specs.Basics.{pick, at_place, list_to}
 use Rattle.model.specs.Table.{node_count, next_at}
 use Rattle.model.specs.Plan.{prev_at, begins, continues, stays, mark_at, has_mark, in_run, good_mark, bad_mark}
 use Rattle.model.specs.Runs.{Run, run_with, runs_of}
-use Rattle.model.specs.declared.Place.{Place}
-use Rattle.model.specs.declared.Place.TheVariants.{At, Nowhere}
+use Rattle.std.specs.declared.option.Option.{Option}
+use Rattle.std.specs.declared.option.Option.TheVariants.{Some, None}
 use Rattle.theory.specs.Bools.{bool_cases, either_true}
 use Rattle.theory.specs.Ranges.{pick_true, pick_false, at_place_at, at_place_nowhere, list_to_cong, length-list_to}
 use Rattle.theory.specs.Ranges.{get_d_list_to}
@@ -37,35 +37,35 @@ marks_of t rs = list_to (node_count t) (λ v. mark_of_runs t rs v ∷ [])
 
 -- ---- Its marks
 
-mark_of_runs_at : (t : List ℕ) (rs : List Run) (v u : ℕ) → run_with t rs v ≡ At u → mark_of_runs t rs v ≡ pick (eqb u v) 1 2
+mark_of_runs_at : (t : List ℕ) (rs : List Run) (v u : ℕ) → run_with t rs v ≡ Some u → mark_of_runs t rs v ≡ pick (eqb u v) 1 2
 unfolding mark_of_runs
 mark_of_runs_at t rs v u e = at_place_at (run_with t rs v) u (λ u. pick (eqb u v) 1 2) 0 e
 
-mark_of_runs-first : (t : List ℕ) (rs : List Run) (v u : ℕ) → run_with t rs v ≡ At u → u ≡ v → mark_of_runs t rs v ≡ 1
+mark_of_runs-first : (t : List ℕ) (rs : List Run) (v u : ℕ) → run_with t rs v ≡ Some u → u ≡ v → mark_of_runs t rs v ≡ 1
 mark_of_runs-first t rs v u e q = mark_of_runs_at t rs v u e ∙ pick_true (eqb u v) 1 2 (eq-eqb u v q)
 
-mark_of_runs_other : (t : List ℕ) (rs : List Run) (v u : ℕ) → run_with t rs v ≡ At u → (u ≡ v → ⊥) → mark_of_runs t rs v ≡ 2
+mark_of_runs_other : (t : List ℕ) (rs : List Run) (v u : ℕ) → run_with t rs v ≡ Some u → (u ≡ v → ⊥) → mark_of_runs t rs v ≡ 2
 mark_of_runs_other t rs v u e q = mark_of_runs_at t rs v u e ∙ pick_false (eqb u v) 1 2 (ne_eqb u v q)
 
-mark_of_runs_none : (t : List ℕ) (rs : List Run) (v : ℕ) → run_with t rs v ≡ Nowhere → mark_of_runs t rs v ≡ 0
+mark_of_runs_none : (t : List ℕ) (rs : List Run) (v : ℕ) → run_with t rs v ≡ None → mark_of_runs t rs v ≡ 0
 unfolding mark_of_runs
 mark_of_runs_none t rs v e = at_place_nowhere (run_with t rs v) (λ u. pick (eqb u v) 1 2) 0 e
 
 -- what a node's mark says of its run
 data MarkCase (t : List ℕ) (rs : List Run) (v : ℕ) : Type 0 where
-  run_first : run_with t rs v ≡ At v → mark_of_runs t rs v ≡ 1 → MarkCase t rs v
-  run_later : (u : ℕ) → run_with t rs v ≡ At u → (u ≡ v → ⊥) → mark_of_runs t rs v ≡ 2 → MarkCase t rs v
-  run_none : run_with t rs v ≡ Nowhere → mark_of_runs t rs v ≡ 0 → MarkCase t rs v
+  run_first : run_with t rs v ≡ Some v → mark_of_runs t rs v ≡ 1 → MarkCase t rs v
+  run_later : (u : ℕ) → run_with t rs v ≡ Some u → (u ≡ v → ⊥) → mark_of_runs t rs v ≡ 2 → MarkCase t rs v
+  run_none : run_with t rs v ≡ None → mark_of_runs t rs v ≡ 0 → MarkCase t rs v
 
 mark_case : (t : List ℕ) (rs : List Run) (v : ℕ) → MarkCase t rs v
 mark_case t rs v = go (run_with t rs v) refl
   where
-    go : (o : Place) → run_with t rs v ≡ o → MarkCase t rs v
-    go Nowhere e = run_none e (mark_of_runs_none t rs v e)
-    go (At u) e = by (eqb u v) refl
+    go : (o : Option ℕ) → run_with t rs v ≡ o → MarkCase t rs v
+    go None e = run_none e (mark_of_runs_none t rs v e)
+    go (Some u) e = by (eqb u v) refl
       where
         by : (b : Bool) → eqb u v ≡ b → MarkCase t rs v
-        by true q = let same : u ≡ v = eqb-true u v q in run_first (e ∙ ap At same) (mark_of_runs-first t rs v u e same)
+        by true q = let same : u ≡ v = eqb-true u v q in run_first (e ∙ ap Some same) (mark_of_runs-first t rs v u e same)
         by false q = run_later u e (eqb-false u v q) (mark_of_runs_other t rs v u e (eqb-false u v q))
 
 pub marks_length : (t : List ℕ) (rs : List Run) → length (marks_of t rs) ≡ node_count t
@@ -173,7 +173,7 @@ module _ {t : List ℕ} (s : SoundFacts t) (rs : List Run) (h : HoldFacts t rs) 
               pick_true (has_mark (marks_of t rs) continues v) _ _ (mark_is v 2 low high k)
               ∙ rw (some, member_in_run found.run (prev_at t v) found.listed b.inside)
 
-  pub marks_good : bad_mark t (marks_of t rs) ≡ Nowhere
+  pub marks_good : bad_mark t (marks_of t rs) ≡ None
   marks_good = (bad_none t (marks_of t rs)).1 good_mark_lem
 
   -- ---- Its runs
@@ -268,7 +268,7 @@ module _ {t : List ℕ} (s : SoundFacts t) (rs : List Run) (h : HoldFacts t rs) 
 
 -- ---- The plan of a plan's runs
 
-module _ {t : List ℕ} (s : SoundFacts t) (m : List ℕ) (good : bad_mark t m ≡ Nowhere) where
+module _ {t : List ℕ} (s : SoundFacts t) (m : List ℕ) (good : bad_mark t m ≡ None) where
   -- a good mark that is neither 1 nor 2 is 0
   stays_zero : (v : ℕ) → 1 ≤ v → v ≤ node_count t → has_mark m begins v ≡ false → has_mark m continues v ≡ false
       → mark_at m v ≡ 0

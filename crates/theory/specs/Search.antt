@@ -3,14 +3,14 @@
 use Rattle.std.specs.Prelude.{◌≡◌, Bool, true, false, ℕ, suc, ◌+◌, ◌≤◌, ◌<◌}
 use Rattle.std.proofs.Common.{sym, ◌∙◌, arith, add-one}
 use Rattle.model.specs.Basics.{first_to}
-use Rattle.model.specs.declared.Place.TheVariants.{At, Nowhere}
+use Rattle.std.specs.declared.option.Option.TheVariants.{Some, None}
 use Rattle.theory.specs.Ranges.{when_false, first_to_further, first_to_nowhere, first_to-first}
 
-module _ (p : ℕ → Bool) (v : ℕ) (none : first_to v p ≡ Nowhere) where
-  pub search_on : p (v + 1) ≡ false → first_to (v + 1) p ≡ Nowhere
+module _ (p : ℕ → Bool) (v : ℕ) (none : first_to v p ≡ None) where
+  pub search_on : p (v + 1) ≡ false → first_to (v + 1) p ≡ None
   search_on h = rw add-one (first_to_further v p none ∙ when_false (p (suc v)) (suc v) (rw add-one at h))
 
-  pub search_found : (n : ℕ) → v < n → p (v + 1) ≡ true → first_to n p ≡ At (v + 1)
+  pub search_found : (n : ℕ) → v < n → p (v + 1) ≡ true → first_to n p ≡ Some (v + 1)
   search_found n l h =
       first_to-first n (v + 1) p
       (record {
@@ -20,5 +20,5 @@ module _ (p : ℕ → Bool) (v : ℕ) (none : first_to v p ≡ Nowhere) where
         before = λ u a b. first_to_nowhere v p none u a (omega arith);
       })
 
-  pub search_none : (n : ℕ) → v ≤ n → n ≤ v → Nowhere ≡ first_to n p
+  pub search_none : (n : ℕ) → v ≤ n → n ≤ v → None ≡ first_to n p
   search_none n a b = let e : v ≡ n = omega arith in sym (rw e at none)

@@ -13,7 +13,7 @@ use Rattle.model.specs.Refusals.{passes, head_checks, node_checks, weight_checks
 use Rattle.model.specs.Refusals.{asked, sound_form, accepted_tree}
 use Rattle.model.specs.Refusals.{short_table, bad_count, bad_limit, bad_length, no_label, bad_walk, heavy_node}
 use Rattle.model.specs.Demand.{Filed, FirstUnfiled}
-use Rattle.model.specs.declared.Place.TheVariants.{At, Nowhere}
+use Rattle.std.specs.declared.option.Option.TheVariants.{Some, None}
 use Rattle.theory.specs.Bools.{both_false}
 use Rattle.theory.specs.Ranges.{Upto, pick_true, pick_false, when_false, when_nowhere, at_nowhere, first_to_none}
 use Rattle.theory.specs.Ranges.{first_to_nowhere, first_to-first}
@@ -26,7 +26,7 @@ pub record SoundFacts (t : List ℕ) : Type 0 where
   pub limit_high : limit_of t ≤ max_limit
   pub bytes : length t ≡ table_bytes (node_count t)
   pub root_alone : next_at t 1 ≡ 0
-  pub walks : walk_from (2 * node_count t + 2) t (node_count t) 0 (1 ∷ []) ≡ Nowhere
+  pub walks : walk_from (2 * node_count t + 2) t (node_count t) 0 (1 ∷ []) ≡ None
 
 pub record AcceptedFacts (t : List ℕ) : Type 0 where
   pub sound : SoundFacts t
@@ -43,7 +43,7 @@ out_of_range n most e =
 in_range_lem : (n most : ℕ) → 1 ≤ n → n ≤ most → (eqb n 0 || ltb most n) ≡ false
 in_range_lem n most low high = rw (ne_eqb n 0 (λ z. omega arith), le-ltb most n high)
 
-walk_alone : (t : List ℕ) → walk_place t ≡ Nowhere → next_at t 1 ≡ 0
+walk_alone : (t : List ℕ) → walk_place t ≡ None → next_at t 1 ≡ 0
 unfolding walk_place
 walk_alone t e = go (eqb (next_at t 1) 0) refl
   where
@@ -52,13 +52,13 @@ walk_alone t e = go (eqb (next_at t 1) 0) refl
     go false q =
         absurd
         (at_nowhere 0
-        (sym (pick_false (eqb (next_at t 1) 0) (walk_from (2 * node_count t + 2) t (node_count t) 0 (1 ∷ [])) (At 0) q)
+        (sym (pick_false (eqb (next_at t 1) 0) (walk_from (2 * node_count t + 2) t (node_count t) 0 (1 ∷ [])) (Some 0) q)
         ∙ e))
 
 pub walk_is : (t : List ℕ) → next_at t 1 ≡ 0 → walk_place t ≡ walk_from (2 * node_count t + 2) t (node_count t) 0 (1 ∷ [])
 unfolding walk_place
 walk_is t z =
-    pick_true (eqb (next_at t 1) 0) (walk_from (2 * node_count t + 2) t (node_count t) 0 (1 ∷ [])) (At 0)
+    pick_true (eqb (next_at t 1) 0) (walk_from (2 * node_count t + 2) t (node_count t) 0 (1 ∷ [])) (Some 0)
     (eq-eqb (next_at t 1) 0 z)
 
 pub head_facts : (t : List ℕ) → passes (head_checks t) ≡ true
@@ -95,20 +95,20 @@ unfolding sound_form
 sound_facts t e = form_facts true t e
 
 -- 14: no label is 0, or node v is the first
-pub filed_nowhere : (t : List ℕ) → Filed t → (no_label t).place ≡ Nowhere
+pub filed_nowhere : (t : List ℕ) → Filed t → (no_label t).place ≡ None
 unfolding no_label
 filed_nowhere t f =
     first_to_none (node_count t) (λ v. eqb (label_at t v) 0)
     (λ v low high. ne_eqb (label_at t v) 0 (λ z. omega (arith, f v low high)))
 
-pub nowhere_filed : (t : List ℕ) → (no_label t).place ≡ Nowhere → Filed t
+pub nowhere_filed : (t : List ℕ) → (no_label t).place ≡ None → Filed t
 unfolding no_label
 nowhere_filed t none v low high =
     let some : label_at t v ≡ 0 → ⊥ =
     eqb-false (label_at t v) 0 (first_to_nowhere (node_count t) (λ u. eqb (label_at t u) 0) none v low high) in
     omega arith
 
-pub unfiled_first : (t : List ℕ) (v : ℕ) → FirstUnfiled t v → (no_label t).place ≡ At v
+pub unfiled_first : (t : List ℕ) (v : ℕ) → FirstUnfiled t v → (no_label t).place ≡ Some v
 unfolding no_label
 unfiled_first t v f =
     first_to-first (node_count t) v (λ u. eqb (label_at t u) 0)
@@ -123,16 +123,16 @@ pub facts_head : (t : List ℕ) → SoundFacts t → passes (head_checks t) ≡ 
 unfolding Pass head_checks short_table bad_count bad_limit bad_length
 facts_head t s = (pass_all (head_checks t)).1 (short, (count, (limit, (long, tt))))
   where
-    short : (short_table t).place ≡ Nowhere
+    short : (short_table t).place ≡ None
     short = when_false (ltb (length t) 4) 0 (le-ltb (length t) 4 (omega (arith, s.bytes)))
 
-    count : (bad_count t).place ≡ Nowhere
+    count : (bad_count t).place ≡ None
     count = when_false _ (node_count t) (in_range_lem (node_count t) max_nodes s.count_low s.count_high)
 
-    limit : (bad_limit t).place ≡ Nowhere
+    limit : (bad_limit t).place ≡ None
     limit = when_false _ (limit_of t) (in_range_lem (limit_of t) max_limit s.limit_low s.limit_high)
 
-    long : (bad_length t).place ≡ Nowhere
+    long : (bad_length t).place ≡ None
     long = when_false _ (table_bytes (node_count t)) (ap not (eq-eqb (length t) (table_bytes (node_count t)) s.bytes))
 
 pub facts_sound : (t : List ℕ) → SoundFacts t → Filed t → sound_form t ≡ true

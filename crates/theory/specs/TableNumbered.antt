@@ -7,8 +7,8 @@ use Rattle.std.proofs.Common.{arith, eq-or-lt_of_le, sym, ◌∙◌, ap, ⊎_eli
 use Rattle.std.proofs.lemmas.Bool.{not-false}
 use Rattle.model.specs.Table.{node_count, limit_of, weight_at, label_at, first_at, next_at, walk_from, Chain, end, node}
 use Rattle.model.specs.Table.{chain_from, tree_of}
-use Rattle.model.specs.declared.Place.{Place}
-use Rattle.model.specs.declared.Place.TheVariants.{At, Nowhere}
+use Rattle.std.specs.declared.option.Option.{Option}
+use Rattle.std.specs.declared.option.Option.TheVariants.{Some, None}
 use Rattle.theory.specs.Bools.{bool_cases, both_true}
 use Rattle.theory.specs.PlanShape.{size, EachWithin}
 use Rattle.theory.specs.Ranges.{pick_true, pick_false, when_false, when_nowhere, at_nowhere}
@@ -74,7 +74,7 @@ pending_node : {t : List ℕ} {m a b e : ℕ} {vs : List ℕ} → a ≡ first_at
     → Pending t (suc m) (a ∷ b ∷ vs) e → Pending t m (suc m ∷ vs) e
 pending_node p q (more k (more s r)) = more (some (rw p at k) (rw q at s)) r
 
-walk_pending : (f : ℕ) (t : List ℕ) (n met : ℕ) (vs : List ℕ) → walk_from f t n met vs ≡ Nowhere → Pending t met vs n
+walk_pending : (f : ℕ) (t : List ℕ) (n met : ℕ) (vs : List ℕ) → walk_from f t n met vs ≡ None → Pending t met vs n
 unfolding walk_from
 walk_pending zero t n met vs e = absurd (at_nowhere met e)
 walk_pending (suc f) t n met [] e =
@@ -83,20 +83,20 @@ walk_pending (suc f) t n met (zero ∷ vs) e = more none (walk_pending f t n met
 walk_pending (suc f) t n met (suc v ∷ vs) e =
     let test : Bool = eqb v met && ltb met n in
     let links : List ℕ = first_at t (suc v) ∷ next_at t (suc v) ∷ vs in
-    let further : Place = walk_from f t n (suc met) links in
+    let further : Option ℕ = walk_from f t n (suc met) links in
     ⊎_elim
     (λ q.
     let same : v ≡ met = eqb-true v met (both_true (eqb v met) (ltb met n) q).0 in
     let rest : Pending t (suc met) links n =
-    walk_pending f t n (suc met) links (sym (pick_true test further (At met) q) ∙ e) in
+    walk_pending f t n (suc met) links (sym (pick_true test further (Some met) q) ∙ e) in
     rw same (pending_node (ap (λ u. first_at t (suc u)) same) (ap (λ u. next_at t (suc u)) same) rest))
-    (λ q. absurd (at_nowhere met (sym (pick_false test further (At met) q) ∙ e))) (bool_cases test)
+    (λ q. absurd (at_nowhere met (sym (pick_false test further (Some met) q) ∙ e))) (bool_cases test)
 
 pending_one : {t : List ℕ} {m v e : ℕ} → Pending t m (v ∷ []) e → (c : Chain) × Numbered t m v c e
 pending_one (more {c = c} r done) = (c, r)
 
 -- a walk that does not fail numbers the nodes
-walk_numbered : (f : ℕ) (t : List ℕ) (n met v : ℕ) → walk_from f t n met (v ∷ []) ≡ Nowhere
+walk_numbered : (f : ℕ) (t : List ℕ) (n met v : ℕ) → walk_from f t n met (v ∷ []) ≡ None
     → (c : Chain) × Numbered t met v c n
 walk_numbered f t n met v e = pending_one (walk_pending f t n met (v ∷ []) e)
 
@@ -114,12 +114,12 @@ walk_over {t} (some {m = m} {e₁ = e₁} {e₂ = e₂} {kids = kids} {next = ne
     let low : m < n = omega (arith, numbered_le k, numbered_le s) in
     let test : (eqb m m && ltb m n) ≡ true = rw (eq-eqb m m refl, lt-ltb m n low) in
     rw same
-    (pick_true (eqb m m && ltb m n) (walk_from h' t n (suc m) (first_at t (suc m) ∷ next_at t (suc m) ∷ vs)) (At m) test
+    (pick_true (eqb m m && ltb m n) (walk_from h' t n (suc m) (first_at t (suc m) ∷ next_at t (suc m) ∷ vs)) (Some m) test
     ∙ walk_over k n h h' (next_at t (suc m) ∷ vs) (omega (arith, numbered_le s)) refl
     ∙ walk_over s n f h vs high refl)
 
 pub numbered_walk : {t : List ℕ} {v n : ℕ} {c : Chain} → Numbered t 0 v c n
-    → walk_from (2 * n + 2) t n 0 (v ∷ []) ≡ Nowhere
+    → walk_from (2 * n + 2) t n 0 (v ∷ []) ≡ None
 unfolding walk_from
 numbered_walk {t} {v} {n} {c} r =
     walk_over r n 1 (2 * n + 2) [] (omega arith) (omega (arith, numbered_size r))
