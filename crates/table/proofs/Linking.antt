@@ -16,13 +16,13 @@ use Rattle.theory.specs.TableLinks.{prev_at_less, prev_at_next, next_prev, next_
 use Rattle.theory.specs.Lists.{zeros}
 use Rattle.theory.specs.SiblingsBack.{Earlier, SiblingsLinked}
 
--- the links from the nodes 1 to v are kept
+-- the links from the nodes before v are kept
 pub record Linking (t : List ℕ) (v : ℕ) (prevs : List ℕ) : Type 0 where
   pub long : length prevs ≡ slots
-  pub seen : (u : ℕ) → 1 ≤ u → u ≤ node_count t → prev_at t u ≤ v → get_or prevs u 0 ≡ prev_at t u
+  pub seen : (u : ℕ) → 1 ≤ u → u ≤ node_count t → prev_at t u < v → get_or prevs u 0 ≡ prev_at t u
   pub earlier : Earlier prevs
 
-pub linking_start : (t : List ℕ) → Linking t 0 (replicate slots 0)
+pub linking_start : (t : List ℕ) → Linking t 1 (replicate slots 0)
 linking_start t =
     record {
       long = length-replicate {A = ℕ} slots 0;
@@ -30,13 +30,12 @@ linking_start t =
       earlier = λ u low. omega (arith, zeros slots u);
     }
 
-module _ {t : List ℕ} (a : AcceptedFacts t) where
-  pub link_fits : (v : ℕ) → 1 ≤ v → v ≤ node_count t → next_at t v < slots
-  link_fits v low high = omega (arith, next_le a.sound v low high, a.sound.count_high)
+module _ {t : List ℕ} (a : AcceptedFacts t) (v : ℕ) (low_v : 1 ≤ v) (high_v : v ≤ node_count t) where
+  pub link_fits : next_at t v < slots
+  link_fits = omega (arith, next_le a.sound v low_v high_v, a.sound.count_high)
 
-  pub linking_turn : (v x : ℕ) (prevs : List ℕ) → v < node_count t → x ≡ next_at t (v + 1) → Linking t v prevs
-      → Linking t (v + 1) (set prevs x (v + 1))
-  linking_turn v x prevs less e l =
+  pub linking_turn : (x : ℕ) (prevs : List ℕ) → x ≡ next_at t v → Linking t v prevs → Linking t (v + 1) (set prevs x v)
+  linking_turn x prevs e l =
       record {
         long = simp length-set l.long;
         seen = λ u low high h. seen u low high h (eqb u x) refl;
@@ -44,30 +43,30 @@ module _ {t : List ℕ} (a : AcceptedFacts t) where
       }
     where
       fits : x < length prevs
-      fits = omega (arith, l.long, link_fits (v + 1) (omega arith) (omega arith))
+      fits = omega (arith, l.long, link_fits)
 
-      same : (u : ℕ) → u ≡ x → get_or (set prevs x (v + 1)) u 0 ≡ v + 1
-      same u q = rw q (get_or-set_same prevs x (v + 1) 0 fits)
+      same : (u : ℕ) → u ≡ x → get_or (set prevs x v) u 0 ≡ v
+      same u q = rw q (get_or-set_same prevs x v 0 fits)
 
-      seen : (u : ℕ) → 1 ≤ u → u ≤ node_count t → prev_at t u ≤ v + 1 → (b : Bool) → eqb u x ≡ b
-          → get_or (set prevs x (v + 1)) u 0 ≡ prev_at t u
+      seen : (u : ℕ) → 1 ≤ u → u ≤ node_count t → prev_at t u < v + 1 → (b : Bool) → eqb u x ≡ b
+          → get_or (set prevs x v) u 0 ≡ prev_at t u
       seen u low high h true q =
           let is : u ≡ x = eqb-true u x q in
-          same u is ∙ sym (next_prev a.sound (v + 1) u (omega arith) (omega arith) low (sym (is ∙ e)))
+          same u is ∙ sym (next_prev a.sound v u low_v high_v low (sym (is ∙ e)))
       seen u low high h false q =
           let other : u ≡ x → ⊥ = eqb-false u x q in
-          let not_this : prev_at t u ≡ v + 1 → ⊥ =
+          let not_this : prev_at t u ≡ v → ⊥ =
           λ z. other (sym (prev_at_next t u (omega arith)) ∙ ap (next_at t) z ∙ sym e) in
-          get_or-set_other prevs x u (v + 1) 0 other ∙ l.seen u low high (omega arith)
+          get_or-set_other prevs x u v 0 other ∙ l.seen u low high (omega arith)
 
-      early : (u : ℕ) → 1 ≤ u → (b : Bool) → eqb u x ≡ b → get_or (set prevs x (v + 1)) u 0 < u
+      early : (u : ℕ) → 1 ≤ u → (b : Bool) → eqb u x ≡ b → get_or (set prevs x v) u 0 < u
       early u low true q =
           let is : u ≡ x = eqb-true u x q in
-          omega (arith, same u is, next_later a.sound (v + 1) (omega arith) (omega arith) (omega arith))
-      early u low false q = omega (arith, get_or-set_other prevs x u (v + 1) 0 (eqb-false u x q), l.earlier u low)
+          omega (arith, same u is, next_later a.sound v low_v high_v (omega arith))
+      early u low false q = omega (arith, get_or-set_other prevs x u v 0 (eqb-false u x q), l.earlier u low)
 
 -- and 0 has none before it
-pub linking_end : {t : List ℕ} (v : ℕ) (prevs : List ℕ) → node_count t ≤ v → Linking t v prevs
+pub linking_end : {t : List ℕ} (v : ℕ) (prevs : List ℕ) → node_count t < v → Linking t v prevs
     → SiblingsLinked t (set prevs 0 0)
 linking_end {t} v prevs high l =
     record {

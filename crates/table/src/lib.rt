@@ -5,15 +5,17 @@
 pub mod links;
 mod walk;
 
-ghost use Rattle.std.specs.Prelude.{◌≡◌, eqb, ltb, ◌||◌};
-ghost use Rattle.model.specs.Basics.{pick, first_to, when, at_place};
-ghost use Rattle.model.specs.Table.{table_bytes, weight_at, label_at};
-ghost use Rattle.model.specs.Refusals.{refused, accepted, head_checks, first_of, read_tree};
+ghost use Rattle.std.specs.Prelude.{◌≡◌, ◌≤◌, eqb, ltb, ◌||◌, Bool, ℕ, IfOk};
+ghost use Rattle.model.specs.Basics.{first_to};
+ghost use Rattle.model.specs.Table.{table_bytes};
+ghost use Rattle.model.specs.Refusals.{accepted, head_checks, asked, no_label, heavy_node, first_of, read_tree};
+ghost use Rattle.model.specs.Refusals.{tree_told};
 ghost use Rattle.model.specs.Demand.{WeightPromise};
-ghost use Rattle.model.specs.declared.Place.TheVariants.{Nowhere};
 ghost use Rattle.theory.specs.JudgeAnswers.{tree_answer};
+ghost use Rattle.theory.specs.TableFacts.{AcceptedFacts};
+ghost use Rattle.table.specs.Search.{IsTestTo};
 
-use model::{Answer, Beside, Place};
+use model::Refusal;
 use walk::walk_place;
 use words::read::{label_at, limit_of, node_count, weight_at};
 
@@ -26,72 +28,31 @@ pub const MAX_LIMIT: u16 = 1024;
 // A place for each node or page by number, and one for 0.
 pub const SLOTS: usize = MAX_NODES as usize + 1;
 
-// A refusal with no verdict beside it.
-pub fn refuse(number: u32, place: u32) -> Answer
-    ensures { result ≡ refused number place }
-{
-    Answer {
-        number,
-        place,
-        beside: Beside::Nothing,
-    }
+// A table that the tree reader accepted.
+#[derive(Clone, Copy)]
+pub struct Tree<'a> {
+    pub table: &'a [u8],
+    ghost accepted: { AcceptedFacts table.now },
 }
 
-// The first node with label 0.
-fn first_unlabelled(table: &[u8], nodes: u16) -> Place
-    ensures { result ≡ first_to nodes (λ v. eqb (label_at table.now v) 0) }
+// The first of the numbers from 1 on, up to the last, that passes a test.
+pub fn first_to<F: Fn(u16) -> bool>(last: u16, passes: F) -> Option<u16>
+    requires { (v : ℕ) → 1 ≤ v → v ≤ last → F.pre passes v }
+    ensures { (test : ℕ → Bool) → IsTestTo last (F.post passes) test → result ≡ first_to last test }
 {
-    let mut node: u16 = 0;
-    while node < nodes {
-        node += 1;
-        if label_at(table, node) == 0 {
-            return Place::At(node as u32);
+    for v in 1..=last {
+        if passes(v) {
+            return Some(v);
         }
     }
-    Place::Nowhere
-}
-
-// The first node with label 0, where a tree is to be filed.
-fn first_unfiled(table: &[u8], nodes: u16, filed: bool) -> Place
-    ensures { result ≡ pick filed (first_to nodes (λ v. eqb (label_at table.now v) 0)) Nowhere }
-{
-    if filed {
-        first_unlabelled(table, nodes)
-    } else {
-        Place::Nowhere
-    }
-}
-
-// The first node that outweighs the limit.
-fn first_heavier(table: &[u8], nodes: u16, limit: u16) -> Place
-    ensures { result ≡ first_to nodes (λ v. ltb limit (weight_at table.now v)) }
-{
-    let mut v: u16 = 0;
-    while v < nodes {
-        v += 1;
-        if limit < weight_at(table, v) {
-            return Place::At(v as u32);
-        }
-    }
-    Place::Nowhere
-}
-
-// A place where a condition holds.
-pub fn place_if(applies: bool, place: u32) -> Place
-    ensures { result ≡ when applies place }
-{
-    if applies {
-        Place::At(place)
-    } else {
-        Place::Nowhere
-    }
+    None
 }
 
 // A head word that is 0 or over its bound.
-fn outside(word: u16, most: u16) -> Place
-    ensures { result ≡ when (eqb word 0 || ltb most word) word }
+fn is_outside(word: u16, most: u16) -> bool
+    ensures { result ≡ (eqb word 0 || ltb most word) }
 {
-    place_if((word == 0) | (most < word), word as u32)
+    word == 0 || most < word
 }
 
 // How many bytes the table of so many nodes has.
@@ -101,64 +62,76 @@ pub fn table_bytes(nodes: u16) -> u32
     4 + 8 * (nodes as u32)
 }
 
-// Nothing is refused, and there is no verdict.
-pub fn accept() -> Answer
-    ensures { result ≡ accepted }
-{
-    Answer {
-        number: 0,
-        place: 0,
-        beside: Beside::Nothing,
-    }
-}
-
-// The refusal of a check that applies, or else the answer of the checks after it.
-pub fn earlier(number: u32, place: Place, rest: Answer) -> Answer
-    ensures { result ≡ at_place place (refused number) rest }
-{
-    match place {
-        Place::At(p) => refuse(number, p),
-        Place::Nowhere => rest,
-    }
-}
-
 // 1 to 4: the head and the length.
-fn read_head(table: &[u8]) -> Answer
-    ensures { result ≡ first_of (head_checks table.now) accepted }
+#[tactic(auto, using(crate::proofs::Told::head_parts), unfolding(model::specs::Basics::when, model::specs::Basics::at_place))]
+fn read_head(table: &[u8]) -> Result<(), Refusal>
+    ensures { tree_told result ≡ first_of (head_checks table.now) accepted }
 {
     let nodes = node_count(table);
+    let limit = limit_of(table);
     let size = table_bytes(nodes);
-    let length = place_if(table.len() != size as usize, size);
-    let limit = outside(limit_of(table), MAX_LIMIT);
-    let count = outside(nodes, MAX_NODES);
-    let short = place_if(table.len() < 4, 0);
-    earlier(
-        1,
-        short,
-        earlier(2, count, earlier(3, limit, earlier(4, length, accept()))),
-    )
+    if table.len() < 4 {
+        return Err(Refusal::ShortTable);
+    }
+    if is_outside(nodes, MAX_NODES) {
+        return Err(Refusal::BadCount(nodes));
+    }
+    if is_outside(limit, MAX_LIMIT) {
+        return Err(Refusal::BadLimit(limit));
+    }
+    if table.len() != size as usize {
+        return Err(Refusal::BadLength(size));
+    }
+    Ok(())
+}
+
+// The first node with label 0, where a tree is to be filed.
+#[tactic(auto, unfolding(model::specs::Refusals::asked, model::specs::Refusals::no_label, model::specs::Basics::pick))]
+fn first_unfiled(table: &[u8], filed: bool) -> Option<u16>
+    ensures { result ≡ (asked filed (no_label table.now)).place }
+{
+    if filed {
+        first_to(node_count(table), |v| label_at(table, v) == 0)
+    } else {
+        None
+    }
+}
+
+// The first node that outweighs the limit.
+#[tactic(auto, unfolding(model::specs::Refusals::heavy_node))]
+fn first_heavy(table: &[u8]) -> Option<u16>
+    ensures { result ≡ (heavy_node table.now).place }
+{
+    let limit = limit_of(table);
+    first_to(node_count(table), |v| limit < weight_at(table, v))
 }
 
 // The refusals 1 to 7 but 5, with 14 or, for trees told by film that may be older, without.
-pub fn check_tree(table: &[u8], filed: bool) -> Answer
-    ensures { result ≡ tree_answer filed table.now }
+#[tactic(auto, using(crate::proofs::Told::tree_told), unfolding(model::specs::Basics::at_place))]
+pub fn check_tree(table: &[u8], filed: bool) -> Result<Tree, Refusal>
+    ensures told { tree_told result ≡ tree_answer filed table.now }
+    ensures same { IfOk result (λ tree. tree.table.now ≡ table.now) }
 {
-    let head = read_head(table);
-    if head.number != 0 {
-        return head;
+    read_head(table)?;
+    if let Some(v) = first_unfiled(table, filed) {
+        return Err(Refusal::NoLabel(v));
     }
-    let nodes = node_count(table);
-    let heavy = first_heavier(table, nodes, limit_of(table));
-    let walk = walk_place(table, nodes);
-    let unfiled = first_unfiled(table, nodes, filed);
-    earlier(14, unfiled, earlier(6, walk, earlier(7, heavy, accept())))
+    if let Some(met) = walk_place(table) {
+        return Err(Refusal::BadWalk(met));
+    }
+    if let Some(v) = first_heavy(table) {
+        return Err(Refusal::HeavyNode(v));
+    }
+    Ok(Tree { table })
 }
 
 // Entry: the tree reader, with the refusals 1 to 7 but 5, and 14. 7 means that no sequence of sibling runs holds the
 // tree.
-pub fn read_tree(table: &[u8]) -> Answer
-    ensures value { result ≡ read_tree table.now }
-    ensures weight_promise { WeightPromise table.now result }
+#[tactic(auto, using(theory::specs::JudgeAnswers::with_labels, theory::specs::PromiseWeight::read_weight))]
+pub fn read_tree(table: &[u8]) -> Result<Tree, Refusal>
+    ensures value { tree_told result ≡ read_tree table.now }
+    ensures weight_promise { WeightPromise table.now (tree_told result) }
+    ensures same { IfOk result (λ tree. tree.table.now ≡ table.now) }
 {
     check_tree(table, true)
 }

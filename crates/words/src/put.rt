@@ -12,15 +12,18 @@ fn put_byte(out: &mut [u8], i: usize, b: u8)
 }
 
 // A word: high byte first.
+#[tactic(auto, unfolding(theory::specs::Put::put_word))]
 pub fn put_word(out: &mut [u8], i: u32, w: u16)
     ensures { out.new ≡ put_word out.old i w }
 {
     let at = 2 * (i as usize);
-    put_byte(out, at, (w / 256) as u8);
-    put_byte(out, at + 1, (w % 256) as u8);
+    let [high, low] = w.to_be_bytes();
+    put_byte(out, at, high);
+    put_byte(out, at + 1, low);
 }
 
 // Four words, from word i on.
+#[tactic(auto, unfolding(theory::specs::Put::put_record))]
 pub fn put_record(out: &mut [u8], i: u32, a: u16, b: u16, c: u16, d: u16)
     requires { i + 3 < 4294967296 }
     ensures { out.new ≡ put_record out.old i a b c d }
@@ -36,10 +39,7 @@ pub fn put_text(out: &mut [u8], at: usize, text: &[u8]) -> usize
     requires { at + length text.now ≤ length out.old }
     ensures { Appended out.old at text.now out.new result }
 {
-    let mut i: usize = 0;
-    while i < text.len() {
-        out[at + i] = text[i];
-        i += 1;
-    }
-    at + text.len()
+    let end = at + text.len();
+    out[at..end].copy_from_slice(text);
+    end
 }

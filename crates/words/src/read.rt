@@ -5,21 +5,16 @@ ghost use Rattle.model.specs.Table.{word_at, node_count, limit_of, field_at, wei
 fn byte_at(bytes: &[u8], i: usize) -> u8
     ensures { result ≡ get_or bytes.now i 0 }
 {
-    if i < bytes.len() { bytes[i] } else { 0 }
+    bytes.get(i).copied().unwrap_or(0)
 }
 
 // A word: 16 bits, high byte first.
-fn word_of(high: u8, low: u8) -> u16
-    ensures { result ≡ high * 256 + low }
-{
-    (high as u16) * 256 + (low as u16)
-}
-
+#[tactic(auto, unfolding(model::specs::Table::word_at))]
 pub fn word_at(bytes: &[u8], i: u32) -> u16
     ensures { result ≡ word_at bytes.now i }
 {
     let at = 2 * (i as usize);
-    word_of(byte_at(bytes, at), byte_at(bytes, at + 1))
+    u16::from_be_bytes([byte_at(bytes, at), byte_at(bytes, at + 1)])
 }
 
 pub fn node_count(table: &[u8]) -> u16
@@ -35,10 +30,11 @@ pub fn limit_of(table: &[u8]) -> u16
 }
 
 // Word f of node v's record.
+#[tactic(auto, unfolding(model::specs::Table::field_at))]
 pub fn field_at(table: &[u8], v: u16, f: u8) -> u16
     ensures { result ≡ field_at table.now v f }
 {
-    let before = if v == 0 { 0 } else { v - 1 };
+    let before = v.saturating_sub(1);
     word_at(table, 2 + 4 * (before as u32) + (f as u32))
 }
 

@@ -1,18 +1,19 @@
-use Rattle.std.proofs.Common.{ℕ, ◌+◌, ◌*◌, [], ◌∷◌, sym, ap, ◌∙◌, eqb, eq-eqb, ne_eqb}
-use Rattle.model.specs.Table.{next_at, walk_from, walk_place}
-use Rattle.theory.specs.Ranges.{pick_true, pick_false}
+use Rattle.std.proofs.Common.{ℕ, ◌-◌, get_or, take, arith, length-set}
+use Rattle.table.proofs.Pending.{turn_met, stack_top, stack_pushed}
 use Rattle.table.proofs.walk.walk_place.Goals as goal
 
-pub returns-then-next_at-eq0 : goal.returns-then-next_at-eq0
-unfolding walk_place
-returns-then-next_at-eq0 c =
+pub loop-height-preserved-then-v-ne0 : goal.loop-height-preserved-then-v-ne0
+loop-height-preserved-then-v-ne0 c =
     let t = c.args.table.now in
-    c.walk_from_root.ensures
-    ∙ ap (λ (n : ℕ). walk_from (2 * n + 2) t n 0 (1 ∷ [])) c.requires.0
-    ∙ sym (pick_true (eqb (next_at t 1) 0) _ _ (eq-eqb _ 0 (sym c.next_at.ensures ∙ c.if-next_at-eq0.true)))
-
-pub returns-else-next_at-eq0 : goal.returns-else-next_at-eq0
-unfolding walk_place
-returns-else-next_at-eq0 c =
-    let t = c.args.table.now in
-    sym (pick_false (eqb (next_at t 1) 0) _ _ (ne_eqb _ 0 (λ e. c.if-next_at-eq0.false (c.next_at.ensures ∙ e))))
+    let l = c.loop-height in
+    let v : ℕ = get_or l.pending (l.height - 1) 0 in
+    let s = take (l.height - 1) l.pending in
+    let top = stack_top l.pending l.height (omega arith) (omega arith) in
+    let met = turn_met t c.node_count-nodes.result l.met s v (omega arith) (omega arith) in
+    let pushed = stack_pushed l.pending (l.height - 1) c.next_at-then-v-ne0.result c.first_at.result (omega arith) in
+    record {
+      long = simp length-set l.invariant.long;
+      low = omega arith;
+      fits = omega arith;
+      walks = cc (l.invariant.walks, top, met, pushed, c.next_at-then-v-ne0.ensures, c.first_at.ensures);
+    }
