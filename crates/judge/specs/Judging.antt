@@ -4,11 +4,11 @@
 use Rattle.std.specs.Prelude.{ℕ, Bool, true, ◌≡◌, List, length}
 use Rattle.std.proofs.Common.{sym, ◌∙◌, ap}
 use Rattle.model.specs.Table.{node_count}
-use Rattle.model.specs.Refusals.{tree_checks, passes, judge_by}
-use Rattle.model.specs.declared.Answer.{Answer}
+use Rattle.model.specs.Refusals.{Answer, tree_checks, passes, judge_by}
 use Rattle.theory.specs.PlanFeasible.{with_judged}
 use Rattle.theory.specs.JudgedEntries.{judge_passes}
-use Rattle.layout.specs.Rows.{Layout, IsLayout, FeasibleLayout, feasible_layout}
+use Rattle.layout.specs.declared.Layout.{Layout}
+use Rattle.layout.specs.Rows.{IsLayout, FeasibleLayout, feasible_layout}
 
 -- the tree passes and there is a mark a node, or else the answer r is the judge's
 pub record BeforePlan (filed : Bool) (t m : List ℕ) (r : Answer) : Type 0 where

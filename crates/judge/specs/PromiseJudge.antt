@@ -16,9 +16,9 @@ use Rattle.model.specs.Refusals.{mark_refused, page_refused, head_checks, node_c
 use Rattle.model.specs.Refusals.{found_checks, mark_checks, judge_checks, accepted_tree, feasible_plan, answer_of}
 use Rattle.model.specs.Refusals.{plain_rules, first_of, judge_plan}
 use Rattle.model.specs.Demand.{HeldExactly, PlanOf}
-use Rattle.model.specs.declared.Answer.{Answer}
+use Rattle.model.specs.Refusals.{Answer}
 use Rattle.model.specs.declared.Cause.TheVariants.{BadMark, HeavyPage}
-use Rattle.model.specs.declared.Place.TheVariants.{Nowhere}
+use Rattle.std.specs.declared.option.Option.TheVariants.{None}
 use Rattle.model.specs.declared.Verdict.{Verdict}
 use Rattle.model.specs.declared.Verdict.TheVariants.{Feasible, Failed}
 use Rattle.theory.specs.Bools.{never_true}
@@ -63,7 +63,7 @@ module _ (t m : List ℕ) where
   before_eleven p = refl
 
   -- a plan in which nothing is found has 0
-  judged_number : bad_mark t m ≡ Nowhere → heavy_page t m ≡ Nowhere → (answer_of (verdict_of t m)).number ≡ 0
+  judged_number : bad_mark t m ≡ None → heavy_page t m ≡ None → (answer_of (verdict_of t m)).number ≡ 0
   unfolding verdict_of
   judged_number good none =
       ap (λ (v : Verdict). (answer_of v).number)
@@ -72,7 +72,7 @@ module _ (t m : List ℕ) where
 
   -- so where it is given, the tree is accepted, no mark is bad, and a page is heavy
   found_heavy : (judge_plan t m).number ≡ 11
-      → AcceptedFacts t × (bad_mark t m ≡ Nowhere) × (heavy_page t m ≡ Nowhere → ⊥)
+      → AcceptedFacts t × (bad_mark t m ≡ None) × (heavy_page t m ≡ None → ⊥)
   unfolding judge_plan judge_checks mark_checks found_checks first_of Pass mark_refused page_refused
   found_heavy e =
       let given : Answer = answer_of (verdict_of t m) in
@@ -82,7 +82,7 @@ module _ (t m : List ℕ) where
       let marks =
       never_first 11 (bad_marks (node_count t) m ∷ mark_refused t m ∷ []) (first_of (page_refused t m ∷ []) given)
       before_eleven tree.1 in
-      let good : bad_mark t m ≡ Nowhere =
+      let good : bad_mark t m ≡ None =
       ((pass_all (bad_marks (node_count t) m ∷ mark_refused t m ∷ [])).0 marks.0).1.0 in (
         passed_facts true t tree.0,
         good,
@@ -114,7 +114,7 @@ module _ (t : List ℕ) (tree : accepted_tree t ≡ true) where
     verdict = sym (judge_verdict plain_rules t n tree long)
 
     -- a bad mark is answered with 10
-    marked : ((judge_plan t n).number ≡ 10 → ⊥) → bad_mark t n ≡ Nowhere
+    marked : ((judge_plan t n).number ≡ 10 → ⊥) → bad_mark t n ≡ None
     unfolding verdict_of
     marked other =
         ⊎_elim
@@ -123,7 +123,7 @@ module _ (t : List ℕ) (tree : accepted_tree t ≡ true) where
         (λ none. none) (place_cases (bad_mark t n))
 
     -- and a heavy page with 11, where no mark is bad
-    heavier : bad_mark t n ≡ Nowhere → (heavy_page t n ≡ Nowhere → ⊥) → (judge_plan t n).number ≡ 11
+    heavier : bad_mark t n ≡ None → (heavy_page t n ≡ None → ⊥) → (judge_plan t n).number ≡ 11
     unfolding verdict_of
     heavier good other =
         ⊎_elim

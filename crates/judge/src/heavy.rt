@@ -3,20 +3,16 @@ ghost use Rattle.std.specs.Prelude.{◌≡◌, ◌<◌, ltb, get_or};
 ghost use Rattle.model.specs.Basics.{first_to};
 ghost use Rattle.model.specs.Table.{slots};
 
-use model::Place;
-use table::SLOTS;
+use layout::Layout;
+use table::first_to;
 
 // The first page that weighs over the limit.
-pub fn first_heavy(weights: &[u32; SLOTS], pages: u16, limit: u16) -> Place
-    requires { pages < slots }
-    ensures { result ≡ first_to pages (λ p. ltb limit (get_or weights.now p 0)) }
+pub fn first_heavy(layout: &Layout, limit: u16) -> Option<u16>
+    requires { layout.now.pages < slots }
+    ensures { result ≡ first_to layout.now.pages (λ p. ltb limit (get_or layout.now.weights p 0)) }
 {
-    let mut p: u16 = 0;
-    while p < pages {
-        p += 1;
-        if (limit as u32) < weights[p as usize] {
-            return Place::At(p as u32);
-        }
-    }
-    Place::Nowhere
+    first_to(
+        layout.pages,
+        |page| (limit as u32) < layout.weights[page as usize],
+    )
 }

@@ -1,14 +1,15 @@
--- What the arrays of a layout hold, what the pass over a plan finds, whatever the judge says of it, and what is known
--- of the layout of a feasible plan; and the test of a mark by numbers.
--- Defines good_case, Layout, layout_of, Cleared, IsLayout, LightPages, FeasibleLayout. Proves feasible_layout. Assumes
+-- What a layout holds, what the pass over a plan finds, whatever the judge says of it, and what is known of the layout of
+-- a feasible plan; and the test of a mark by numbers.
+-- Defines good_case, Cleared, IsLayout, LightPages, FeasibleLayout. Proves feasible_layout. Assumes
 -- nothing.
-use Rattle.std.specs.Prelude.{ℕ, ◌≤◌, ◌<◌, ◌≡◌, Bool, not, ◌&&◌, ◌||◌, List, [], get_or, replicate, eqb}
+use Rattle.std.specs.Prelude.{ℕ, ◌≤◌, ◌<◌, ◌≡◌, Bool, not, ◌&&◌, ◌||◌, List, get_or, replicate, eqb}
 use Rattle.std.proofs.Common.{arith}
 use Rattle.model.specs.Basics.{pick}
 use Rattle.model.specs.Table.{max_nodes, max_limit, slots, node_count, limit_of}
 use Rattle.model.specs.Plan.{parent_at, page_of, page_weight, page_count, bad_mark}
 use Rattle.model.specs.Runs.{page_run}
-use Rattle.model.specs.declared.Place.TheVariants.{Nowhere}
+use Rattle.std.specs.declared.option.Option.TheVariants.{None}
+use Rattle.layout.specs.declared.Layout.{Layout}
 use Rattle.theory.specs.Ranges.{Upto}
 use Rattle.theory.specs.Slots.{Row}
 use Rattle.theory.specs.JudgeAnswers.{page_count_le}
@@ -20,37 +21,25 @@ good_case v mark before prior =
     pick (eqb v 1) (eqb mark 1)
     (pick (eqb mark 2) (not (eqb before 0) && (eqb prior 1 || eqb prior 2)) (eqb mark 0 || eqb mark 1))
 
--- by node its parent and its page; by page its first node, the last sibling of its run, and its weight; how many pages
-pub record Layout : Type 0 where
-  pub parents : List ℕ
-  pub page : List ℕ
-  pub firsts : List ℕ
-  pub lasts : List ℕ
-  pub weights : List ℕ
-  pub pages : ℕ
-
--- as the arrays hold it: the first four in rows
-abbrev pub layout_of : List (List ℕ) → List ℕ → ℕ → Layout
-layout_of rows weights pages =
-    record {
-      parents = get_or rows 0 [];
-      page = get_or rows 1 [];
-      firsts = get_or rows 2 [];
-      lasts = get_or rows 3 [];
-      weights = weights;
-      pages = pages;
+-- the layout as it is made
+abbrev pub Cleared : Layout → Type 0
+Cleared l =
+    l
+    ≡ record {
+      parents = replicate slots 0;
+      page = replicate slots 0;
+      firsts = replicate slots 0;
+      lasts = replicate slots 0;
+      weights = replicate slots 0;
+      pages = 0;
     }
-
--- the arrays as they are made
-abbrev pub Cleared : List (List ℕ) → List ℕ → Type 0
-Cleared rows weights = (rows ≡ replicate 4 (replicate slots 0)) × (weights ≡ replicate slots 0)
 
 -- what the plan m makes of the tree t
 pub record IsLayout (t m : List ℕ) (r : Layout) : Type 0 where
   pub parents_are : Row (node_count t) (parent_at t) r.parents
   pub page_is : Row (node_count t) (page_of t m) r.page
-  pub firsts_are : bad_mark t m ≡ Nowhere → Row (page_count t m) (λ p. (page_run t m p).first) r.firsts
-  pub lasts_are : bad_mark t m ≡ Nowhere → Row (page_count t m) (λ p. (page_run t m p).last) r.lasts
+  pub firsts_are : bad_mark t m ≡ None → Row (page_count t m) (λ p. (page_run t m p).first) r.firsts
+  pub lasts_are : bad_mark t m ≡ None → Row (page_count t m) (λ p. (page_run t m p).last) r.lasts
   pub weights_are : (p : ℕ) → p < slots → get_or r.weights p 0 ≡ page_weight t m p
   pub pages_are : r.pages ≡ page_count t m
 

@@ -1,78 +1,96 @@
 // What a plan makes of a tree: the parent and the page of each node, the weight and the run of each page, and the first
 // mark that is not allowed.
-ghost use Rattle.std.specs.Prelude.{◌≡◌, not, eqb};
-ghost use Rattle.model.specs.Basics.{pick, when};
+ghost use Rattle.std.specs.Prelude.{◌≡◌, ◌≤◌, ◌<◌, ◌+◌, ◌-◌, ◌||◌, get_or, set, eqb};
+ghost use Rattle.model.specs.Basics.{pick};
+ghost use Rattle.model.specs.Table.{slots};
 ghost use Rattle.model.specs.Plan.{bad_mark};
-ghost use Rattle.theory.specs.TableFacts.{AcceptedFacts};
-ghost use Rattle.layout.specs.Rows.{Cleared, IsLayout, layout_of};
+ghost use Rattle.layout.specs.Rows.{Cleared, IsLayout};
 
+use crate::Layout;
 use crate::marks::{is_good, mark_at};
-use table::SLOTS;
+use table::{SLOTS, Tree};
 use words::read::{next_at, node_count, weight_at};
 
-// What a plan makes of a tree is left in rows: by node its parent and its page; by page its first node and the last
-// sibling of its run.
-pub const PARENTS: usize = 0;
+impl Layout {
+    // The parent of node v: that of the sibling before it, or else the node just before it.
+    #[tactic(auto, unfolding(model::specs::Basics::pick))]
+    fn parent_after(&self, v: u16, sibling: u16) -> u16
+        requires node { 1 ≤ v }
+        requires slot { sibling < slots }
+        ensures { result ≡ pick (eqb sibling 0) (v - 1) (get_or self.now.parents sibling 0) }
+    {
+        if sibling == 0 {
+            v - 1
+        } else {
+            self.parents[sibling as usize]
+        }
+    }
 
-pub const PAGE: usize = 1;
+    // The page of a node: a 1 is on the page opened last, a 2 on that of the sibling before it, a 0 on its parent's.
+    #[tactic(auto, unfolding(model::specs::Basics::pick))]
+    fn page_after(&self, mark: u8, sibling: u16, parent: u16) -> u16
+        requires back { sibling < slots }
+        requires up { parent < slots }
+        ensures { result ≡ pick (eqb mark 1) self.now.pages
+            (get_or self.now.page (pick (eqb mark 2) sibling parent) 0) }
+    {
+        match mark {
+            1 => self.pages,
+            2 => self.page[sibling as usize],
+            _ => self.page[parent as usize],
+        }
+    }
 
-pub const FIRSTS: usize = 2;
-
-pub const LASTS: usize = 3;
-
-pub const ROWS: usize = 4;
-
-// What the pass counts: the pages, and the first node whose mark is bad, or 0.
-#[derive(Drop)]
-pub struct Laid {
-    pub pages: u16,
-    pub bad: u16,
+    // Puts node v on a page. A 1 is its first node, and the last 1 or 2 is the last sibling of its run.
+    #[tactic(auto, unfolding(model::specs::Basics::pick))]
+    fn put(&mut self, v: u16, mark: u8, page: u16, weight: u16)
+        requires node { v < slots }
+        requires slot { page < slots }
+        requires light { get_or self.old.weights page 0 + weight < 4294967296 }
+        ensures { self.new ≡ record {
+          parents = self.old.parents;
+          page = set self.old.page v page;
+          firsts = set self.old.firsts page (pick (eqb mark 1) v (get_or self.old.firsts page 0));
+          lasts = set self.old.lasts page (pick (eqb mark 1 || eqb mark 2) v (get_or self.old.lasts page 0));
+          weights = set self.old.weights page (get_or self.old.weights page 0 + weight);
+          pages = self.old.pages;
+        } }
+    {
+        let slot = page as usize;
+        self.page[v as usize] = page;
+        if mark == 1 {
+            self.firsts[slot] = v;
+        }
+        if mark == 1 || mark == 2 {
+            self.lasts[slot] = v;
+        }
+        self.weights[slot] += weight as u32;
+    }
 }
 
-fn choose(test: bool, yes: u16, no: u16) -> u16
-    ensures { result ≡ pick test yes no }
+// One pass in node order, which fills the layout, and finds the first bad mark. A node with no sibling before it comes
+// just after its parent. A 1 opens the next page and is its first node, a 2 joins the page of the sibling before it,
+// and a 0 its parent's; the node's weight is added to that page. Siblings come in rising order, so the last 1 or 2 on
+// a page is the last sibling of its run.
+pub fn lay_pages(tree: Tree, marks: &[u8], layout: &mut Layout) -> Option<u16>
+    requires { Cleared layout.old }
+    ensures layout { IsLayout tree.entry.table.now marks.now layout.new }
+    ensures bad_value { result ≡ bad_mark tree.entry.table.now marks.now }
 {
-    if test { yes } else { no }
-}
-
-// One pass in node order, which fills the rows and, by page, the weights. A node with no sibling before it comes just
-// after its parent. A 1 opens the next page and is its first node, a 2 joins the page of the sibling before it, and a 0
-// its parent's; the node's weight is added to that page. Siblings come in rising order, so the last 1 or 2 on a page is
-// the last sibling of its run.
-pub fn lay_pages(
-    table: &[u8],
-    marks: &[u8],
-    rows: &mut [[u16; SLOTS]; ROWS],
-    weights: &mut [u32; SLOTS],
-) -> Laid
-    requires { AcceptedFacts table.now × Cleared rows.old weights.old }
-    ensures layout { IsLayout table.now marks.now
-        (layout_of rows.new weights.new result.pages) }
-    ensures bad_value { when (not (eqb result.bad 0)) result.bad ≡ bad_mark table.now marks.now }
-{
-    let nodes = node_count(table);
+    let table = tree.table;
     let mut before = [0u16; SLOTS];
-    let mut pages: u16 = 0;
-    let mut bad: u16 = 0;
-    let mut v: u16 = 0;
-    while v < nodes {
-        v += 1;
-        let i = v as usize;
+    let mut bad = None;
+    for v in 1..=node_count(table) {
         let mark = mark_at(marks, v);
-        let u = before[i];
-        let good = is_good(v, mark, u, mark_at(marks, u));
-        bad = choose((bad == 0) & !good, v, bad);
-        let parent = choose(u == 0, v - 1, rows[PARENTS][u as usize]);
-        rows[PARENTS][i] = parent;
-        pages = choose(mark == 1, pages + 1, pages);
-        let home = choose(mark == 2, u, parent);
-        let p = choose(mark == 1, pages, rows[PAGE][home as usize]);
-        rows[PAGE][i] = p;
-        let q = p as usize;
-        rows[FIRSTS][q] = choose(mark == 1, v, rows[FIRSTS][q]);
-        rows[LASTS][q] = choose((mark == 1) | (mark == 2), v, rows[LASTS][q]);
-        weights[q] = weights[q] + (weight_at(table, v) as u32);
+        let sibling = before[v as usize];
+        let good = is_good(v, mark, sibling, mark_at(marks, sibling));
+        bad = bad.or((!good).then_some(v));
+        let parent = layout.parent_after(v, sibling);
+        layout.parents[v as usize] = parent;
+        layout.pages += u16::from(mark == 1);
+        let page = layout.page_after(mark, sibling, parent);
+        layout.put(v, mark, page, weight_at(table, v));
         before[next_at(table, v) as usize] = v;
     }
-    Laid { pages, bad }
+    bad
 }

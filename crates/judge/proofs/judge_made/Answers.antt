@@ -1,49 +1,64 @@
-use Rattle.std.proofs.Common.{◌≡◌, ℕ, ap, ◌∙◌, arith, List, get_or, ltb}
-use Rattle.std.proofs.Math.Path.{ap₂}
-use Rattle.model.specs.Basics.{at_place, first_to}
+use Rattle.std.proofs.Common.{◌≡◌, ℕ, sym, ap, ap₂, ◌∙◌, arith, List, get_or, ltb}
+use Rattle.std.specs.declared.option.Option.{Option}
+use Rattle.std.specs.declared.option.Option.TheVariants.{Some, None}
+use Rattle.model.specs.Basics.{first_to}
 use Rattle.model.specs.Table.{limit_of}
-use Rattle.model.specs.Plan.{heavy_page, page_count, page_weight}
-use Rattle.model.specs.Refusals.{answer_of, found_checks, mark_refused, page_refused, first_of}
-use Rattle.model.specs.declared.Answer.{Answer}
-use Rattle.model.specs.declared.Place.{Place}
-use Rattle.model.specs.declared.Cause.TheVariants.{BadMark, HeavyPage}
-use Rattle.model.specs.declared.Verdict.TheVariants.{Feasible, Failed}
-use Rattle.theory.specs.Ranges.{first_to_cong}
+use Rattle.model.specs.Plan.{bad_mark, heavy_page, page_count, page_weight, verdict_of}
+use Rattle.model.specs.declared.Verdict.TheVariants.{Feasible}
+use Rattle.theory.specs.Ranges.{at_place_at, at_place_nowhere, first_to_cong}
 use Rattle.theory.specs.TableFacts.{AcceptedFacts}
-use Rattle.theory.specs.JudgeAnswers.{found_verdict, page_count_le}
-use Rattle.layout.specs.Rows.{Layout, IsLayout}
+use Rattle.theory.specs.JudgeAnswers.{page_count_le}
+use Rattle.layout.specs.declared.Layout.{Layout}
+use Rattle.layout.specs.Rows.{IsLayout}
 use Rattle.judge.proofs.judge_made.Goals as goal
 
--- the first heavy page by the arrays is the plan's
-heavy_is : {t : List ℕ} → AcceptedFacts t → (m : List ℕ) (r : Layout) (limit : ℕ) (o : Place) → IsLayout t m r
-    → o ≡ first_to r.pages (λ p. ltb limit (get_or r.weights p 0)) → limit ≡ limit_of t → o ≡ heavy_page t m
+-- the first heavy page by the layout is the plan's
+heavy_is : {t m : List ℕ} {r : Layout} {limit : ℕ} {o : Option ℕ} → AcceptedFacts t → IsLayout t m r
+    → o ≡ first_to r.pages (λ p. ltb limit (get_or r.weights p 0)) → limit ≡ limit_of t → heavy_page t m ≡ o
 unfolding heavy_page
-heavy_is {t} a m r limit o laid e d =
-    e
+heavy_is {t} {m} {r} {limit} {o} a laid e d =
+    sym
+    (e
     ∙ ap₂ (λ (n k : ℕ). first_to n (λ p. ltb k (get_or r.weights p 0))) laid.pages_are d
     ∙ first_to_cong (page_count t m) (λ p. ltb (limit_of t) (get_or r.weights p 0))
     (λ p. ltb (limit_of t) (page_weight t m p))
-    (λ p low high. ap (ltb (limit_of t)) (laid.weights_are p (omega (arith, page_count_le t m, a.sound.count_high))))
+    (λ p low high. ap (ltb (limit_of t)) (laid.weights_are p (omega (arith, page_count_le t m, a.sound.count_high)))))
 
 pub first_heavy-heavy-requires : goal.first_heavy-heavy-requires
 first_heavy-heavy-requires c =
     omega (
       arith,
-      c.lay_pages-laid.ensures.layout.pages_are,
-      page_count_le c.args.table.now c.args.marks.now,
-      c.requires.0.sound.count_high,
+      c.lay_pages-bad.ensures.layout.pages_are,
+      page_count_le c.args.tree.table.now c.args.marks.now,
+      c.args.tree.accepted.sound.count_high,
     )
 
-pub returns-clause-answer_value : goal.returns-clause-answer_value
-unfolding first_of found_checks mark_refused page_refused
-returns-clause-answer_value c =
-    let t = c.args.table.now in
+pub returns-in-Some-default-clause-value : goal.returns-in-Some-default-clause-value
+unfolding verdict_of
+returns-in-Some-default-clause-value c =
+    let t = c.args.tree.table.now in
     let m = c.args.marks.now in
-    let layout = c.lay_pages-laid.ensures.layout in
-    let heavy = heavy_is c.requires.0 m _ _ _ layout c.first_heavy-heavy.ensures c.limit_of.ensures in
-    c.find_answer-answer.ensures
-    ∙ ap₂ (λ (o : Place) (r : Answer). at_place o (λ u. answer_of (Failed (BadMark u))) r)
-    (c.place_if-bad.ensures ∙ c.lay_pages-laid.ensures.bad_value)
-    (ap₂ (λ (o : Place) (r : Answer). at_place o (λ p. answer_of (Failed (HeavyPage p))) r) heavy
-    (ap₂ (λ (p r : ℕ). answer_of (Feasible p r)) layout.pages_are (layout.weights_are 1 (omega arith))))
-    ∙ found_verdict t m
+    let bad : bad_mark t m ≡ Some c.in-Some-default.node = cc c.lay_pages-bad.ensures.bad_value in
+    sym (at_place_at _ _ _ _ bad)
+
+pub returns-in-None-Some-clause-value : goal.returns-in-None-Some-clause-value
+unfolding verdict_of
+returns-in-None-Some-clause-value c =
+    let t = c.args.tree.table.now in
+    let m = c.args.marks.now in
+    let good : bad_mark t m ≡ None = cc c.lay_pages-bad.ensures.bad_value in
+    let first = heavy_is c.args.tree.accepted c.lay_pages-bad.ensures.layout c.first_heavy-heavy.ensures c.limit_of.ensures in
+    let heavy : heavy_page t m ≡ Some c.in-None-Some.page = cc first in
+    sym (at_place_nowhere _ _ _ good ∙ at_place_at _ _ _ _ heavy)
+
+pub returns-in-None-None-clause-value : goal.returns-in-None-None-clause-value
+unfolding verdict_of
+returns-in-None-None-clause-value c =
+    let t = c.args.tree.table.now in
+    let m = c.args.marks.now in
+    let layout = c.lay_pages-bad.ensures.layout in
+    let good : bad_mark t m ≡ None = cc c.lay_pages-bad.ensures.bad_value in
+    let first = heavy_is c.args.tree.accepted layout c.first_heavy-heavy.ensures c.limit_of.ensures in
+    let light : heavy_page t m ≡ None = cc first in
+    ap₂ (λ (p r : ℕ). Feasible p r) layout.pages_are (layout.weights_are 1 (omega arith))
+    ∙ sym (at_place_nowhere _ _ _ good ∙ at_place_nowhere _ _ _ light)
