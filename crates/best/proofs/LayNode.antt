@@ -2,14 +2,12 @@
 -- Proves walk_from, walk_reads, walk_stay, walk_ready, walk_run, walk_less and walk_end. Assumes nothing.
 use Prim.Native.Nat.{ℕ, zero, suc, ◌+◌, ◌-◌, ◌*◌, ◌≤◌, ◌<◌}
 use mathlib.Core.Path.{◌≡◌, refl, sym, ◌∙◌, ap, ap₂}
-use mathlib.Core.Bool.{Bool, true, false}
+use mathlib.Core.Bool.{Bool, true, false, false≢true}
 use mathlib.Core.List.{List, [], ◌∷◌, ◌++◌, append_assoc, append-nil}
 use mathlib.Core.Logic.{inl, inr}
 use native.Mathlib.Omega.{arith}
 use native.Mathlib.Nat.{mul-le-mul}
 use lib.ListN.{length, get_or, set, drop, length-drop, length-set}
-use lib.Dec.{eqb}
-use borrow.Author.Tests.{eqb-true}
 use Rattle.model.specs.Basics.{pick}
 use Rattle.model.specs.Table.{max_nodes, max_limit, slots, node_count, limit_of, weight_at}
 use Rattle.model.specs.Plan.{parent_at}
@@ -25,6 +23,7 @@ use Rattle.best.specs.LayChosen.{chosen_in, choices_for, LaidRun}
 use Rattle.best.specs.LayContracts.{run_choices_back, SecondsGain, RunReady, RunDone, start_of, NodeReady, NodeDone}
 use Rattle.best.proofs.LayRuns.{children-nth_prev, children_nodes, nth_prev_add, AllNodes, laid_none, laid_one}
 use Rattle.best.proofs.LayRuns.{laid_then, seconds_gain_set}
+use Rattle.columns.specs.declared.nodes.Nodes.{Nodes}
 
 -- ---- An entry's choices from the length of the run that won
 
@@ -74,22 +73,22 @@ choices_all t prevs ch v before none (suc n) u (inr q) e are_nodes =
 -- ---- One child or one run a turn
 
 -- the start of node v's plan
-abbrev node_start : List ℕ → ℕ → List ℕ → List ℕ → ℕ
-node_start t v rests seconds = start_of (limit_of t) (weight_at t v) (get_or rests v 0) (eqb (get_or seconds v 0) 1)
+abbrev node_start : List ℕ → ℕ → Nodes → List Bool → ℕ
+node_start t v nodes seconds = start_of (limit_of t) (weight_at t v) (get_or nodes.rests v 0) (get_or seconds v false)
 
 -- `child` comes before those that were walked; what is left is chosen from the start on
-pub record Walking (t : List ℕ) (v : ℕ) (rests gains prevs lasts marks seconds marks' seconds' : List ℕ)
-    (start child : ℕ) : Type 0 where
+pub record Walking (t : List ℕ) (v : ℕ) (nodes : Nodes) (marks : List ℕ) (seconds : List Bool) (marks' : List ℕ)
+    (seconds' : List Bool) (start child : ℕ) : Type 0 where
   pub walked : ℕ
   pub choices : List Choice
-  pub at : child ≡ nth_prev prevs walked (get_or lasts v 0)
-  pub within : walked ≤ length (children_in rests gains prevs (get_or lasts v 0))
-  pub laid : LaidRun prevs walked (get_or lasts v 0) choices marks seconds marks' seconds'
-  pub rest : choices ++ (entry_at (limit_of t) (children_in rests gains prevs child) start).choices
-      ≡ (entry_at (limit_of t) (children_in rests gains prevs (get_or lasts v 0)) (node_start t v rests seconds)).choices
+  pub at : child ≡ nth_prev nodes.prevs walked (get_or nodes.lasts v 0)
+  pub within : walked ≤ length (children_in nodes (get_or nodes.lasts v 0))
+  pub laid : LaidRun nodes.prevs walked (get_or nodes.lasts v 0) choices marks seconds marks' seconds'
+  pub rest : choices ++ (entry_at (limit_of t) (children_in nodes child) start).choices
+      ≡ (entry_at (limit_of t) (children_in nodes (get_or nodes.lasts v 0)) (node_start t v nodes seconds)).choices
   pub low : weight_at t v ≤ start
   pub high : start ≤ limit_of t
-  pub seconds_gain : SecondsGain gains seconds'
+  pub seconds_gain : SecondsGain nodes.gains seconds'
   pub wide : length seconds' ≡ slots
 
 -- there is a child, and len is the length of the run that won at the start, 0 where the child stays
@@ -98,17 +97,17 @@ pub record Found (t xs : List ℕ) (K start child len : ℕ) : Type 0 where
   pub some : child ≡ 0 → ⊥
   pub run_is : len ≡ get_or xs (block_at K child + (K + 1) + start) 0
 
-module _ {t : List ℕ} {v : ℕ} {rests gains prevs lasts xs marks seconds : List ℕ}
-    (node : NodeReady t v rests gains prevs lasts xs marks seconds) where
+module _ {t : List ℕ} {v : ℕ} {nodes : Nodes} {xs marks : List ℕ} {seconds : List Bool}
+    (node : NodeReady t v nodes xs marks seconds) where
   abbrev children : ℕ → List Child
-  children u = children_in rests gains prevs u
+  children u = children_in nodes u
 
   abbrev limit : ℕ
   limit = limit_of t
 
   -- v's last child
   abbrev last : ℕ
-  last = get_or lasts v 0
+  last = get_or nodes.lasts v 0
 
   pub limit_small : limit ≤ max_limit
   limit_small = node.ready.accepted.sound.limit_high
@@ -116,25 +115,25 @@ module _ {t : List ℕ} {v : ℕ} {rests gains prevs lasts xs marks seconds : Li
   pub nodes_small : node_count t ≤ max_nodes
   nodes_small = node.ready.accepted.sound.count_high
 
-  start_within : (b : Bool) → eqb (get_or seconds v 0) 1 ≡ b
-      → (weight_at t v ≤ start_of limit (weight_at t v) (get_or rests v 0) b)
-      × (start_of limit (weight_at t v) (get_or rests v 0) b ≤ limit)
+  start_within : (b : Bool) → get_or seconds v false ≡ b
+      → (weight_at t v ≤ start_of limit (weight_at t v) (get_or nodes.rests v 0) b)
+      × (start_of limit (weight_at t v) (get_or nodes.rests v 0) b ≤ limit)
   unfolding pick second_start
   start_within true e =
-      let s = node.second (node.seconds_gain v (eqb-true (get_or seconds v 0) 1 e)) in
+      let s = node.second (node.seconds_gain v e) in
       (omega arith, s)
   start_within false e = (omega arith, node.ready.accepted.light v node.low node.high)
 
-  walk_start : Walking t v rests gains prevs lasts marks seconds marks seconds (node_start t v rests seconds) last
+  walk_start : Walking t v nodes marks seconds marks seconds (node_start t v nodes seconds) last
   unfolding nth_prev
   walk_start =
-      let s = start_within (eqb (get_or seconds v 0) 1) refl in
+      let s = start_within (get_or seconds v false) refl in
       record {
         walked = 0;
         choices = [];
         at = refl;
         within = omega arith;
-        laid = laid_none prevs last marks seconds;
+        laid = laid_none nodes.prevs last marks seconds;
         rest = refl;
         low = s.0;
         high = s.1;
@@ -144,14 +143,14 @@ module _ {t : List ℕ} {v : ℕ} {rests gains prevs lasts xs marks seconds : Li
 
   -- from the start as it is found
   pub walk_from : (K start : ℕ) → K ≡ limit
-      → start ≡ start_of K (weight_at t v) (get_or rests v 0) (eqb (get_or seconds v 0) 1)
-      → Walking t v rests gains prevs lasts marks seconds marks seconds start last
+      → start ≡ start_of K (weight_at t v) (get_or nodes.rests v 0) (get_or seconds v false)
+      → Walking t v nodes marks seconds marks seconds start last
   walk_from K start e f = rw (f, e) walk_start
 
-  module _ {marks' seconds' : List ℕ} {start child : ℕ}
-      (w : Walking t v rests gains prevs lasts marks seconds marks' seconds' start child) where
+  module _ {marks' : List ℕ} {seconds' : List Bool} {start child : ℕ}
+      (w : Walking t v nodes marks seconds marks' seconds' start child) where
     walk_child : ChildOrNone t v child
-    walk_child = rw w.at (child-nth_prev t prevs node.ready.before node.ready.none v w.walked last
+    walk_child = rw w.at (child-nth_prev t nodes.prevs node.ready.before node.ready.none v w.walked last
         node.last_child)
 
     pub walk_high : child ≤ node_count t
@@ -173,13 +172,13 @@ module _ {t : List ℕ} {v : ℕ} {rests gains prevs lasts xs marks seconds : Li
         (omega (arith, walk_high, nodes_small)) (omega (arith, limit_small)) in
         omega (arith, here, e, most, w.high, limit_small)
 
-    are_nodes : (k : ℕ) → w.walked + k ≤ length (children last) → AllNodes prevs (w.walked + k) last
-    are_nodes k h j l = children_nodes rests gains prevs node.ready.earlier j last (omega arith)
+    are_nodes : (k : ℕ) → w.walked + k ≤ length (children last) → AllNodes nodes.prevs (w.walked + k) last
+    are_nodes k h j l = children_nodes nodes node.ready.earlier j last (omega arith)
 
     left_long : length (children child) + w.walked ≡ length (children last)
     left_long =
         let e : children child ≡ drop w.walked (children last) =
-        ap children w.at ∙ children-nth_prev rests gains prevs node.ready.earlier w.walked last w.within in
+        ap children w.at ∙ children-nth_prev nodes node.ready.earlier w.walked last w.within in
         omega (arith, ap length e, length-drop w.walked (children last), w.within)
 
     module _ {K len : ℕ} (found : Found t xs K start child len) where
@@ -193,8 +192,8 @@ module _ {t : List ℕ} {v : ℕ} {rests gains prevs lasts xs marks seconds : Li
           (cell_at limit (children child) start)
       agrees =
           cell_entry limit (omega (arith, limit_small)) (children child) start w.high
-          (children_good limit rests gains prevs node.ready.good child)
-          (omega (arith, children_length rests gains prevs node.ready.earlier child, walk_high, nodes_small))
+          (children_good limit nodes node.ready.good child)
+          (omega (arith, children_length nodes node.ready.earlier child, walk_high, nodes_small))
 
       len_is : (cell_at limit (children child) start).run ≡ len
       len_is =
@@ -210,45 +209,47 @@ module _ {t : List ℕ} {v : ℕ} {rests gains prevs lasts xs marks seconds : Li
       length_fits : LengthFits limit start (children child) len
       length_fits = rw len_is at agrees.length_fits
 
-      shape : children child ≡ child_in rests gains child ∷ children (get_or prevs child 0)
-      shape = children_cons rests gains prevs node.ready.earlier child one
+      shape : children child ≡ child_in nodes child ∷ children (get_or nodes.prevs child 0)
+      shape = children_cons nodes node.ready.earlier child one
 
-      pub prev_less : get_or prevs child 0 < child
+      pub prev_less : get_or nodes.prevs child 0 < child
       prev_less = node.ready.earlier child one
 
       module _ (zeroed : len ≡ 0) where
-        pub stay_fits : start + get_or rests child 0 ≤ limit
+        pub stay_fits : start + get_or nodes.rests child 0 ≤ limit
         stay_fits =
-            stay_within limit start (child_in rests gains child) (children (get_or prevs child 0))
+            stay_within limit start (child_in nodes child) (children (get_or nodes.prevs child 0))
             (rw (zeroed, shape) at length_fits)
 
-        pub walk_stay : Walking t v rests gains prevs lasts marks seconds (set marks' (child - 1) 0)
-            (set seconds' child 0) (start + get_or rests child 0) (get_or prevs child 0)
+        pub walk_stay : (mark : ℕ) → mark ≡ 0
+            → Walking t v nodes marks seconds (set marks' (child - 1) mark)
+            (set seconds' child false) (start + get_or nodes.rests child 0) (get_or nodes.prevs child 0)
         unfolding nth_prev
-        walk_stay =
+        walk_stay mark e =
             let more : w.walked + 1 ≡ suc w.walked = omega arith in
-            let X : List Choice = (entry_at limit (children (get_or prevs child 0)) (start + get_or rests child 0)).choices in
+            let X : List Choice = (entry_at limit (children (get_or nodes.prevs child 0)) (start + get_or nodes.rests child 0)).choices in
             let here : stay_choice ∷ X ≡ (entry_at limit (children child) start).choices =
             sym
             (chosen
             ∙ ap₂ (λ r ks. rebuilt limit r ks start) zeroed shape
-            ∙ rebuilt_stay limit start (child_in rests gains child) (children (get_or prevs child 0))) in
+            ∙ rebuilt_stay limit start (child_in nodes child) (children (get_or nodes.prevs child 0))) in
             let short : child < length seconds' = omega (arith, walk_high, nodes_small, w.wide) in
             let fits : w.walked + 1 ≤ length (children last) = omega (arith, left_long, ap length shape) in
+            rw e
             record {
               walked = w.walked + 1;
               choices = w.choices ++ (stay_choice ∷ []);
-              at = ap (λ u. get_or prevs u 0) w.at ∙ sym (ap (λ k. nth_prev prevs k last) more);
+              at = ap (λ u. get_or nodes.prevs u 0) w.at ∙ sym (ap (λ k. nth_prev nodes.prevs k last) more);
               within = fits;
               laid =
                   laid_then node.ready.earlier (are_nodes 1 fits) w.at w.laid
-                  (laid_one prevs child marks' seconds' 0 0 one
+                  (laid_one nodes.prevs child marks' seconds' 0 false one
                   (omega (arith, walk_high, node.long, w.laid.long)) short);
               rest = append_assoc w.choices (stay_choice ∷ []) X ∙ ap (λ l. w.choices ++ l) here ∙ w.rest;
               low = omega (arith, w.low);
               high = stay_fits;
-              seconds_gain = seconds_gain_set gains seconds' child 0 short w.seconds_gain
-                  (λ e. absurd (omega arith));
+              seconds_gain = seconds_gain_set nodes.gains seconds' child false short w.seconds_gain
+                  (λ e. absurd (false≢true e));
               wide = simp length-set w.wide;
             }
 
@@ -256,7 +257,7 @@ module _ {t : List ℕ} {v : ℕ} {rests gains prevs lasts xs marks seconds : Li
         run_within : len ≤ length (children child)
         run_within = length_within limit start len (children child) length_fits run
 
-        pub walk_ready : RunReady K child len rests gains prevs marks' seconds'
+        pub walk_ready : RunReady K child len nodes marks' seconds'
         walk_ready =
             rw found.limit_is
             record {
@@ -271,26 +272,26 @@ module _ {t : List ℕ} {v : ℕ} {rests gains prevs lasts xs marks seconds : Li
               seconds_gain = w.seconds_gain;
             }
 
-        module _ {marks'' seconds'' : List ℕ} {r : ℕ}
-            (given : RunDone K child len rests gains prevs marks' seconds' marks'' seconds'' r) where
-          done : RunDone limit child len rests gains prevs marks' seconds' marks'' seconds'' r
+        module _ {marks'' : List ℕ} {seconds'' : List Bool} {r : ℕ}
+            (given : RunDone K child len nodes marks' seconds' marks'' seconds'' r) where
+          done : RunDone limit child len nodes marks' seconds' marks'' seconds'' r
           done = rw found.limit_is at given
 
           pub walk_less : r < child
           walk_less =
               let e : len ≡ suc (len - 1) = omega arith in
-              let l : nth_prev prevs (len - 1) (get_or prevs child 0) ≤ get_or prevs child 0 =
-              nth_prev_le prevs node.ready.earlier node.ready.none (len - 1) (get_or prevs child 0) in
-              let r-is = done.next ∙ ap (λ k. nth_prev prevs k child) e ∙ nth_prev_shift prevs (len - 1) child in
+              let l : nth_prev nodes.prevs (len - 1) (get_or nodes.prevs child 0) ≤ get_or nodes.prevs child 0 =
+              nth_prev_le nodes.prevs node.ready.earlier node.ready.none (len - 1) (get_or nodes.prevs child 0) in
+              let r-is = done.next ∙ ap (λ k. nth_prev nodes.prevs k child) e ∙ nth_prev_shift nodes.prevs (len - 1) child in
               omega (arith, r-is, l, prev_less)
 
-          pub walk_run : Walking t v rests gains prevs lasts marks seconds marks'' seconds'' start r
+          pub walk_run : Walking t v nodes marks seconds marks'' seconds'' start r
           walk_run =
               let X : List Choice = (entry_at limit (children r) start).choices in
               let before : drop len (children child) ≡ children r =
               sym
               (ap children done.next
-              ∙ children-nth_prev rests gains prevs node.ready.earlier len child run_within) in
+              ∙ children-nth_prev nodes node.ready.earlier len child run_within) in
               let here : run_choices_back limit len (children child) ++ X
               ≡ (entry_at limit (children child) start).choices =
               sym
@@ -301,7 +302,7 @@ module _ {t : List ℕ} {v : ℕ} {rests gains prevs lasts xs marks seconds : Li
               record {
                 walked = w.walked + len;
                 choices = w.choices ++ run_choices_back limit len (children child);
-                at = done.next ∙ ap (nth_prev prevs len) w.at ∙ nth_prev_add prevs w.walked len last;
+                at = done.next ∙ ap (nth_prev nodes.prevs len) w.at ∙ nth_prev_add nodes.prevs w.walked len last;
                 within = fits;
                 laid = laid_then node.ready.earlier (are_nodes len fits) w.at w.laid done.laid;
                 rest = append_assoc w.choices (run_choices_back limit len (children child)) X
@@ -312,17 +313,17 @@ module _ {t : List ℕ} {v : ℕ} {rests gains prevs lasts xs marks seconds : Li
                 wide = done.wide;
               }
 
-    pub walk_end : child ≡ 0 → NodeDone t v rests gains prevs lasts marks seconds marks' seconds'
+    pub walk_end : child ≡ 0 → NodeDone t v nodes marks seconds marks' seconds'
     walk_end z =
         let none : (entry_at limit (children child) start).choices ≡ [] =
         ap (λ ks. (entry_at limit ks start).choices)
-        (ap children z ∙ children_none rests gains prevs node.ready.earlier)
+        (ap children z ∙ children_none nodes node.ready.earlier)
         ∙ no_choices limit start in
-        let all : choices_for prevs (chosen_in marks' seconds') w.walked last
+        let all : choices_for nodes.prevs (chosen_in marks' seconds') w.walked last
         ≡ siblings_back t (chosen_in marks' seconds') last =
-        choices_all t prevs (chosen_in marks' seconds') v node.ready.before node.ready.none w.walked last
+        choices_all t nodes.prevs (chosen_in marks' seconds') v node.ready.before node.ready.none w.walked last
         node.last_child (sym w.at ∙ z)
-        (λ j l. children_nodes rests gains prevs node.ready.earlier j last (omega (arith, w.within))) in
+        (λ j l. children_nodes nodes node.ready.earlier j last (omega (arith, w.within))) in
         record {
           long = w.laid.long;
           wide = w.wide;
@@ -330,11 +331,11 @@ module _ {t : List ℕ} {v : ℕ} {rests gains prevs lasts xs marks seconds : Li
           chosen = sym all ∙ w.laid.chosen ∙ sym (append-nil w.choices) ∙ ap (λ l. w.choices ++ l) (sym none)
               ∙ w.rest;
           others = λ u low h. w.laid.others u low
-              (λ i l e. h (parent u low i (child-nth_prev t prevs node.ready.before node.ready.none v i last
+              (λ i l e. h (parent u low i (child-nth_prev t nodes.prevs node.ready.before node.ready.none v i last
               node.last_child) e));
         }
       where
-        parent : (u : ℕ) → 1 ≤ u → (i : ℕ) → ChildOrNone t v (nth_prev prevs i last) → u ≡ nth_prev prevs i last
+        parent : (u : ℕ) → 1 ≤ u → (i : ℕ) → ChildOrNone t v (nth_prev nodes.prevs i last) → u ≡ nth_prev nodes.prevs i last
             → parent_at t u ≡ v
         parent u low i (inl y) e = absurd (omega arith)
         parent u low i (inr q) e = rw e q.2

@@ -16,38 +16,39 @@ use Rattle.columns.specs.CellsArrays.{children_in, children_none, children_cons}
 use Rattle.columns.specs.CellsRun.{nth_prev, nth_prev_shift}
 use Rattle.best.specs.LayChosen.{chosen_in, choices_for, choices_for_same, choices_for_more, LaidRun}
 use Rattle.best.specs.LayContracts.{SecondsGain}
+use Rattle.columns.specs.declared.nodes.Nodes.{Nodes}
 
 -- ---- Siblings before a node
 
-module _ (rests gains prevs : List ℕ) (earlier : Earlier prevs) where
+module _ (nodes : Nodes) (earlier : Earlier nodes.prevs) where
   -- there is a child
-  pub children_low : (c : ℕ) → 1 ≤ length (children_in rests gains prevs c) → 1 ≤ c
+  pub children_low : (c : ℕ) → 1 ≤ length (children_in nodes c) → 1 ≤ c
   children_low c h = go (eqb c 0) refl
     where
       go : (b : Bool) → eqb c 0 ≡ b → 1 ≤ c
       go true e =
           let z : c ≡ 0 = eqb-true c 0 e in
-          let none : children_in rests gains prevs c ≡ [] =
-          ap (children_in rests gains prevs) z ∙ children_none rests gains prevs earlier in
+          let none : children_in nodes c ≡ [] =
+          ap (children_in nodes) z ∙ children_none nodes earlier in
           absurd (omega (arith, ap length none))
       go false e = let d : c ≡ 0 → ⊥ = eqb-false c 0 e in omega arith
 
   -- the children up to the n-th sibling before c
-  pub children-nth_prev : (n c : ℕ) → n ≤ length (children_in rests gains prevs c)
-      → children_in rests gains prevs (nth_prev prevs n c) ≡ drop n (children_in rests gains prevs c)
+  pub children-nth_prev : (n c : ℕ) → n ≤ length (children_in nodes c)
+      → children_in nodes (nth_prev nodes.prevs n c) ≡ drop n (children_in nodes c)
   unfolding nth_prev
   children-nth_prev zero c h = refl
   children-nth_prev (suc n) c h =
-      let shape = children_cons rests gains prevs earlier c (children_low c (omega arith)) in
-      ap (children_in rests gains prevs) (nth_prev_shift prevs n c)
-      ∙ children-nth_prev n (get_or prevs c 0) (omega (arith, ap length shape))
+      let shape = children_cons nodes earlier c (children_low c (omega arith)) in
+      ap (children_in nodes) (nth_prev_shift nodes.prevs n c)
+      ∙ children-nth_prev n (get_or nodes.prevs c 0) (omega (arith, ap length shape))
       ∙ sym (ap (drop (suc n)) shape)
 
   -- each of them is a node
-  pub children_nodes : (n c : ℕ) → n < length (children_in rests gains prevs c) → 1 ≤ nth_prev prevs n c
+  pub children_nodes : (n c : ℕ) → n < length (children_in nodes c) → 1 ≤ nth_prev nodes.prevs n c
   children_nodes n c h =
-      children_low (nth_prev prevs n c)
-      (omega (arith, ap length (children-nth_prev n c (omega arith)), length-drop n (children_in rests gains prevs c)))
+      children_low (nth_prev nodes.prevs n c)
+      (omega (arith, ap length (children-nth_prev n c (omega arith)), length-drop n (children_in nodes c)))
 
 -- so many siblings back, and more
 pub nth_prev_add : (prevs : List ℕ) (n j c : ℕ) → nth_prev prevs j (nth_prev prevs n c) ≡ nth_prev prevs (n + j) c
@@ -80,37 +81,37 @@ nth_prev_less prevs earlier m c are_nodes (suc n) i h l =
 
 -- ---- Laid runs
 
-pub laid_none : (prevs : List ℕ) (c : ℕ) (marks seconds : List ℕ) → LaidRun prevs 0 c [] marks seconds marks seconds
+pub laid_none : (prevs : List ℕ) (c : ℕ) (marks : List ℕ) (seconds : List Bool) → LaidRun prevs 0 c [] marks seconds marks seconds
 unfolding choices_for
 laid_none prevs c marks seconds = record { long = refl; chosen = refl; others = λ u p q. refl }
 
 -- one node
-pub laid_one : (prevs : List ℕ) (c : ℕ) (marks seconds : List ℕ) (mark second : ℕ) → 1 ≤ c → c ≤ length marks
+pub laid_one : (prevs : List ℕ) (c : ℕ) (marks : List ℕ) (seconds : List Bool) (mark : ℕ) (second : Bool) → 1 ≤ c → c ≤ length marks
     → c < length seconds
-    → LaidRun prevs 1 c (record { mark = mark; second = eqb second 1 } ∷ []) marks seconds (set marks (c - 1) mark)
+    → LaidRun prevs 1 c (record { mark = mark; second = second } ∷ []) marks seconds (set marks (c - 1) mark)
     (set seconds c second)
 unfolding choices_for nth_prev
 laid_one prevs c marks seconds mark second low high short =
     record {
       long = simp length-set refl;
       chosen =
-          ap₂ (λ x y. record { mark = x; second = eqb y 1 } ∷ [])
+          ap₂ (λ x y. record { mark = x; second = y } ∷ [])
           (get_or-set_same marks (c - 1) mark 0 (omega arith))
-          (get_or-set_same seconds c second 0 short);
+          (get_or-set_same seconds c second false short);
       others = λ u p q.
           let d : u ≡ c → ⊥ = q 0 (omega arith) in
           let e : u - 1 ≡ c - 1 → ⊥ = λ h. d (omega arith) in
-          ap₂ (λ x y. record { mark = x; second = eqb y 1 })
+          ap₂ (λ x y. record { mark = x; second = y })
           (get_or-set_other marks (c - 1) (u - 1) mark 0 e)
-          (get_or-set_other seconds c u second 0 d);
+          (get_or-set_other seconds c u second false d);
     }
 
 -- a run, and one before it
-laid_join : {prevs m s m₁ s₁ m₂ s₂ : List ℕ} {n k c : ℕ} {cs ds : List Choice} → Earlier prevs
+laid_join : {prevs m m₁ m₂ : List ℕ} {s s₁ s₂ : List Bool} {n k c : ℕ} {cs ds : List Choice} → Earlier prevs
     → AllNodes prevs (n + k) c
     → LaidRun prevs n c cs m s m₁ s₁ → LaidRun prevs k (nth_prev prevs n c) ds m₁ s₁ m₂ s₂
     → LaidRun prevs (n + k) c (cs ++ ds) m s m₂ s₂
-laid_join {prevs} {m₁ = m₁} {s₁ = s₁} {m₂ = m₂} {s₂ = s₂} {n = n} {k = k} {c = c} earlier are_nodes a b =
+laid_join {prevs} {m₁ = m₁} {m₂ = m₂} {s₁ = s₁} {s₂ = s₂} {n = n} {k = k} {c = c} earlier are_nodes a b =
     record {
       long = b.long ∙ a.long;
       chosen =
@@ -129,7 +130,7 @@ laid_join {prevs} {m₁ = m₁} {s₁ = s₁} {m₂ = m₂} {s₂ = s₂} {n = n
         let less = nth_prev_less prevs earlier (n + k) c are_nodes (n + j) i (omega arith) (omega arith) in
         omega (arith, less, e, nth_prev_add prevs n j c)
 
-pub laid_then : {prevs m s m₁ s₁ m₂ s₂ : List ℕ} {n k c u : ℕ} {cs ds : List Choice} → Earlier prevs
+pub laid_then : {prevs m m₁ m₂ : List ℕ} {s s₁ s₂ : List Bool} {n k c u : ℕ} {cs ds : List Choice} → Earlier prevs
     → AllNodes prevs (n + k) c
     → u ≡ nth_prev prevs n c → LaidRun prevs n c cs m s m₁ s₁ → LaidRun prevs k u ds m₁ s₁ m₂ s₂
     → LaidRun prevs (n + k) c (cs ++ ds) m s m₂ s₂
@@ -137,13 +138,13 @@ laid_then earlier are_nodes e a b = laid_join earlier are_nodes a (rw e at b)
 
 -- ---- Second plans
 
-pub seconds_gain_set : (gains seconds : List ℕ) (c x : ℕ) → c < length seconds → SecondsGain gains seconds
-    → (x ≡ 1 → 1 ≤ get_or gains c 0)
+pub seconds_gain_set : (gains : List ℕ) (seconds : List Bool) (c : ℕ) (x : Bool) → c < length seconds → SecondsGain gains seconds
+    → (x ≡ true → 1 ≤ get_or gains c 0)
     → SecondsGain gains (set seconds c x)
 seconds_gain_set gains seconds c x short g h u e = go (eqb u c) refl
   where
     go : (b : Bool) → eqb u c ≡ b → 1 ≤ get_or gains u 0
     go true q =
         let same : u ≡ c = eqb-true u c q in
-        rw same (h (sym (get_or-set_same seconds c x 0 short) ∙ ap (λ w. get_or (set seconds c x) w 0) (sym same) ∙ e))
-    go false q = g u (sym (get_or-set_other seconds c u x 0 (eqb-false u c q)) ∙ e)
+        rw same (h (sym (get_or-set_same seconds c x false short) ∙ ap (λ w. get_or (set seconds c x) w false) (sym same) ∙ e))
+    go false q = g u (sym (get_or-set_other seconds c u x false (eqb-false u c q)) ∙ e)

@@ -15,6 +15,7 @@ use Rattle.columns.specs.Cells.{cell_at}
 use Rattle.columns.specs.CellsArrays.{Swept}
 use Rattle.columns.specs.CellsRun.{block_at}
 use Rattle.columns.specs.CellsNode.{ColumnsReady}
+use Rattle.columns.specs.declared.nodes.Nodes.{Nodes}
 
 -- a block for each node, and one for none
 pub scratch_fits : (N K : ℕ) → 1 ≤ N → block_at K (N + 1) ≤ scratch_words N K
@@ -29,9 +30,14 @@ open_fits N K low =
     mul-le-mul {n₁ = 1} {m₁ = 2 * (K + 1)} {n₂ = N + 1} {m₂ = 2 * (K + 1)} (omega arith) (omega arith) in
     omega (arith, m, scratch_fits N K low)
 
+-- no node is planned yet
+abbrev fresh : List ℕ → Nodes
+fresh prevs =
+    record { prevs = prevs; rests = replicate slots 0; gains = replicate slots 0; lasts = replicate slots 0 }
+
 pub starts_ready : {t prevs xs ys : List ℕ} (K : ℕ) → AcceptedFacts t
     → scratch_words (node_count t) (limit_of t) ≤ length xs → SiblingsLinked t prevs → K ≡ limit_of t
-    → Swept K 0 0 (λ s. cell_at K [] s) xs ys → ColumnsReady t (replicate slots 0) (replicate slots 0) prevs ys
+    → Swept K 0 0 (λ s. cell_at K [] s) xs ys → ColumnsReady t (fresh prevs) ys
 starts_ready {t} K a words l limit w =
     record {
       accepted = a;

@@ -1,6 +1,6 @@
 -- Which members `reduce` takes: those with a gain above a level, and the earliest few of those at it. The level
 -- follows from the sum, the room and how many members have each gain.
--- Defines GainLevel, taken_off, take_down_to, take_by_level, level_here, level_from, LevelBound.
+-- Defines taken_off, take_down_to, take_by_level, level_here, level_from, LevelBound.
 -- Proves take_down_to_above, take_down_to_at, take_down_to_past, take_down_to_under (member by member), take_down_to_more,
 -- take_down_to-below (what a turn does to such a list), level_from_bound and reduce_level. Assumes nothing.
 use Prim.Native.Nat.{ℕ, zero, suc, ◌+◌, ◌-◌, ◌≤◌, ◌<◌}
@@ -18,11 +18,7 @@ use Rattle.theory.specs.Reduce.{EachMember, Earliest, here, there, earliest, off
 use Rattle.theory.specs.ReduceCount.{Sound, count_gain, Counted, reduce_stop, reduce_turn, earliest_sound}
 use Rattle.theory.specs.ReduceCount.{earliest_rest, earliest_count, earliest_count_other, earliest_largest}
 use Rattle.theory.specs.ReduceCount.{largest_below, count_le_largest}
-
--- gains above `gain` are taken, and of those at it the earliest `times`
-pub record GainLevel : Type 0 where
-  pub gain : ℕ
-  pub times : ℕ
+use Rattle.best.specs.declared.lay.GainLevel.{GainLevel}
 
 -- a member whose gain is taken off
 abbrev pub taken_off : Member → Member

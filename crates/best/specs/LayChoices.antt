@@ -12,10 +12,12 @@ use Rattle.model.specs.Plan.{begins, continues}
 use Rattle.model.specs.Steps.{Member, Child, Choice, as_member, run_choices, run_of}
 use Rattle.theory.specs.Reduce.{sum_of}
 use Rattle.theory.specs.ReduceCount.{has_gain, count_gain, count_gain_cons}
-use Rattle.best.specs.CellsLevel.{GainLevel, taken_off, take_down_to, take_down_to_above, take_down_to_under}
+use Rattle.best.specs.CellsLevel.{taken_off, take_down_to, take_down_to_above, take_down_to_under}
 use Rattle.best.specs.CellsLevel.{take_down_to_at, level_here, level_from, take_by_level, reduce_level}
 use Rattle.columns.specs.Cells.{last_children}
 use Rattle.columns.specs.CellsRun.{as_members, members_length, members_sound, RunSums, counts_of}
+use Rattle.columns.specs.declared.run.Sums.{Sums}
+use Rattle.best.specs.declared.lay.GainLevel.{GainLevel}
 
 -- ---- The last member
 
@@ -250,14 +252,13 @@ levelling_take (suc g) (suc n) t c room sum p q h =
 -- ---- Which members a run takes
 
 -- the members of a run, reduced, by the level that is found from what is kept of it
-pub run_level : {K len total gained top : ℕ} {run : List Child} {counts : List ℕ}
-    → RunSums K run len total gained top counts
-    → run_of K run ≡ take_by_level (level_from top (counts_of counts) K total) (as_members run)
+pub run_level : {K : ℕ} {run : List Child} {sums : Sums} → RunSums K run sums
+    → run_of K run ≡ take_by_level (level_from sums.top (counts_of sums.counts) K sums.total) (as_members run)
 unfolding run_of
-run_level {K} {top = top} {run = run} {counts = counts} kept =
-    reduce_level top (counts_of counts) K (as_members run)
+run_level {K} {run} {sums} kept =
+    reduce_level sums.top (counts_of sums.counts) K (as_members run)
     (record { sound = members_sound K run kept.good; below = kept.largest; counts = λ h p q. kept.counts_are h })
-    ∙ ap (λ s. take_by_level (level_from top (counts_of counts) K s) (as_members run)) kept.total_is
+    ∙ ap (λ s. take_by_level (level_from sums.top (counts_of sums.counts) K s) (as_members run)) kept.total_is
 
 -- one step back: the last child of a run, and how many at the level come before it
 pub count_back : (g r : ℕ) (k : Child) (ks : List Child)

@@ -1,13 +1,13 @@
 -- What becomes of nodes as it stands in arrays of marks and of second plans.
 -- Defines chosen_in, choices_for, LaidRun. Proves choices_for_same, choices_for_more. Assumes nothing.
-use Rattle.std.specs.Prelude.{ℕ, zero, suc, ◌+◌, ◌-◌, ◌≤◌, ◌<◌, ◌≡◌, refl, List, [], ◌∷◌, ◌++◌, length, get_or, eqb}
+use Rattle.std.specs.Prelude.{ℕ, zero, suc, ◌+◌, ◌-◌, ◌≤◌, ◌<◌, ◌≡◌, refl, List, [], ◌∷◌, ◌++◌, length, get_or, Bool, false}
 use Rattle.std.proofs.Common.{sym, ◌∙◌, ap, ap₂, arith}
 use Rattle.model.specs.Steps.{Choice}
 use Rattle.columns.specs.CellsRun.{nth_prev, nth_prev_shift}
 
 -- the mark of node u, and whether it follows its second plan
-abbrev pub chosen_in : List ℕ → List ℕ → ℕ → Choice
-chosen_in marks seconds u = record { mark = get_or marks (u - 1) 0; second = eqb (get_or seconds u 0) 1 }
+abbrev pub chosen_in : List ℕ → List Bool → ℕ → Choice
+chosen_in marks seconds u = record { mark = get_or marks (u - 1) 0; second = get_or seconds u false }
 
 -- what becomes of node u and of the n - 1 siblings before it, the last first
 unfoldable pub choices_for : List ℕ → (ℕ → Choice) → ℕ → ℕ → List Choice
@@ -38,7 +38,8 @@ choices_for_more prevs ch (suc n) m u =
     ∙ ap (λ v. choices_for prevs ch n (get_or prevs u 0) ++ choices_for prevs ch m v) (sym (nth_prev_shift prevs n u)))
 
 -- the choices of node c and of the n - 1 siblings before it are these, and those of every other node are as they were
-pub record LaidRun (prevs : List ℕ) (n c : ℕ) (cs : List Choice) (marks seconds marks' seconds' : List ℕ) : Type 0 where
+pub record LaidRun (prevs : List ℕ) (n c : ℕ) (cs : List Choice) (marks : List ℕ) (seconds : List Bool) (marks' : List ℕ)
+    (seconds' : List Bool) : Type 0 where
   pub long : length marks' ≡ length marks
   pub chosen : choices_for prevs (chosen_in marks' seconds') n c ≡ cs
   pub others : (u : ℕ) → 1 ≤ u → ((i : ℕ) → i < n → u ≡ nth_prev prevs i c → ⊥)

@@ -21,6 +21,7 @@ use Rattle.columns.specs.CellsRun.{nth_prev, nth_prev_shift, nth_prev_le, block_
 use Rattle.columns.specs.CellsNode.{NextChild, KidsFrom, kids_first, first_child, next_child}
 use Rattle.columns.specs.CellsNode.{kids_step, kids_end, ColumnsBack, ColumnsReady}
 use Rattle.columns.specs.CellsNode.{ColumnsFilled}
+use Rattle.columns.specs.declared.nodes.Nodes.{Nodes}
 
 -- one start more of the column of no child, whose block is the first
 pub open_turn : (K s : ℕ) (xs ys : List ℕ) → Sweeping K 0 0 s (λ u. cell_at K [] u) xs ys → s ≤ K
@@ -33,13 +34,13 @@ open_turn K s xs ys w high room =
     rw (a, b) at (sweep_turn K 0 0 s (λ u. cell_at K [] u) xs ys s 0 w high (omega arith) refl)
 
 -- the columns of v's children up to `last` are filled, `child` is the next or 0, and no other block is changed
-pub record Filling (t rests gains prevs : List ℕ) (v last child : ℕ) (xs ys : List ℕ) : Type 0 where
+pub record Filling (t : List ℕ) (nodes : Nodes) (v last child : ℕ) (xs ys : List ℕ) : Type 0 where
   pub long : length ys ≡ length xs
   pub last_child : ChildOrNone t v last
   pub link : after_at t v last ≡ child
   pub next : (child ≡ 0) ⊎ NextChild t v child last
   pub kids : KidsFrom t v child last
-  pub columns : ColumnsBack (limit_of t) (weight_at t v) rests gains prevs ys last
+  pub columns : ColumnsBack (limit_of t) (weight_at t v) nodes ys last
   pub others : (u s : ℕ) → (parent_at t u ≡ v → ⊥) → s ≤ limit_of t
       → cell_in ys (limit_of t) (block_at (limit_of t) u) s ≡ cell_in xs (limit_of t) (block_at (limit_of t) u) s
 
@@ -60,9 +61,9 @@ other_block K start c f xs ys w u s high other = go (ltb u c) refl
         ap₂ (λ a b. record { word = a; run = b }) (w.above (block_at K u + s) (omega arith))
         (w.above (block_at K u + (K + 1) + s) (omega arith))
 
-module _ {t rests gains prevs xs : List ℕ} (r : ColumnsReady t rests gains prevs xs) (v : ℕ) (low : 1 ≤ v)
+module _ {t : List ℕ} {nodes : Nodes} {xs : List ℕ} (r : ColumnsReady t nodes xs) (v : ℕ) (low : 1 ≤ v)
     (high : v ≤ node_count t) where
-  pub filling_start : Filling t rests gains prevs v 0 (first_at t v) xs xs
+  pub filling_start : Filling t nodes v 0 (first_at t v) xs xs
   unfolding pick
   filling_start =
       record {
@@ -71,14 +72,14 @@ module _ {t rests gains prevs xs : List ℕ} (r : ColumnsReady t rests gains pre
         link = refl;
         next = first_child r.accepted.sound v low high;
         kids = kids_first r.accepted.sound v low high;
-        columns = λ n s a b. rw (none n, children_none rests gains prevs r.earlier) (r.root s b);
+        columns = λ n s a b. rw (none n, children_none nodes r.earlier) (r.root s b);
         others = λ u s p h. refl;
       }
     where
-      none : (n : ℕ) → nth_prev prevs n 0 ≡ 0
-      none n = let l : nth_prev prevs n 0 ≤ 0 = nth_prev_le prevs r.earlier r.none n 0 in omega arith
+      none : (n : ℕ) → nth_prev nodes.prevs n 0 ≡ 0
+      none n = let l : nth_prev nodes.prevs n 0 ≤ 0 = nth_prev_le nodes.prevs r.earlier r.none n 0 in omega arith
 
-  module _ (last child : ℕ) (ys : List ℕ) (f : Filling t rests gains prevs v last child xs ys)
+  module _ (last child : ℕ) (ys : List ℕ) (f : Filling t nodes v last child xs ys)
       (some : child ≡ 0 → ⊥) where
     pub filling_next : NextChild t v child last
     filling_next = go f.next
@@ -87,16 +88,16 @@ module _ {t rests gains prevs xs : List ℕ} (r : ColumnsReady t rests gains pre
         go (inl e) = absurd (some e)
         go (inr n) = n
 
-    before : get_or prevs child 0 ≡ last
+    before : get_or nodes.prevs child 0 ≡ last
     before = r.before child filling_next.low filling_next.high ∙ filling_next.prev
 
     pub later : last < child
     later = omega (arith, prev_at_less t child filling_next.low, filling_next.prev)
 
-    nth_prev_is : (n : ℕ) → nth_prev prevs (suc n) child ≡ nth_prev prevs n last
-    nth_prev_is n = nth_prev_shift prevs n child ∙ ap (nth_prev prevs n) before
+    nth_prev_is : (n : ℕ) → nth_prev nodes.prevs (suc n) child ≡ nth_prev nodes.prevs n last
+    nth_prev_is n = nth_prev_shift nodes.prevs n child ∙ ap (nth_prev nodes.prevs n) before
 
-    pub filling_column : Fillable (limit_of t) (weight_at t v) child rests gains prevs ys
+    pub filling_column : Fillable (limit_of t) (weight_at t v) child nodes ys
     filling_column =
         let n = filling_next in
         let apart : block_at (limit_of t) child + 2 * (limit_of t + 1) ≤ block_at (limit_of t) (node_count t + 1) =
@@ -114,8 +115,8 @@ module _ {t rests gains prevs xs : List ℕ} (r : ColumnsReady t rests gains pre
 
     pub filling_turn : (zs : List ℕ)
         → Swept (limit_of t) (weight_at t v) (block_at (limit_of t) child)
-        (λ s. cell_at (limit_of t) (children_in rests gains prevs child) s) ys zs
-        → Filling t rests gains prevs v child (next_at t child) xs zs
+        (λ s. cell_at (limit_of t) (children_in nodes child) s) ys zs
+        → Filling t nodes v child (next_at t child) xs zs
     unfolding nth_prev
     filling_turn zs w =
         let n = filling_next in
@@ -130,16 +131,16 @@ module _ {t rests gains prevs xs : List ℕ} (r : ColumnsReady t rests gains pre
               ∙ f.others u s p h;
         }
       where
-        columns : ColumnsBack (limit_of t) (weight_at t v) rests gains prevs zs child
+        columns : ColumnsBack (limit_of t) (weight_at t v) nodes zs child
         columns zero s a b = w.cells s a b
         columns (suc n) s a b =
-            let le : nth_prev prevs n last ≤ last = nth_prev_le prevs r.earlier r.none n last in
-            rw (nth_prev_is n) (other_block _ _ _ _ _ _ w (nth_prev prevs n last) s b (λ e. omega (arith, later))
+            let le : nth_prev nodes.prevs n last ≤ last = nth_prev_le nodes.prevs r.earlier r.none n last in
+            rw (nth_prev_is n) (other_block _ _ _ _ _ _ w (nth_prev nodes.prevs n last) s b (λ e. omega (arith, later))
             ∙ f.columns n s a b)
 
-pub filling_end : {t rests gains prevs xs ys : List ℕ} (v last child : ℕ)
-    → Filling t rests gains prevs v last child xs ys → child ≡ 0
-    → ColumnsFilled t rests gains prevs v last xs ys
+pub filling_end : {t : List ℕ} {nodes : Nodes} {xs ys : List ℕ} (v last child : ℕ)
+    → Filling t nodes v last child xs ys → child ≡ 0
+    → ColumnsFilled t nodes v last xs ys
 filling_end {t} v last child f z =
     record {
       long = f.long;

@@ -1,13 +1,13 @@
 -- What is read of a node from the block of its last child. Proves gain_none and gain_found (the gain by its tests),
 -- block_fits and rest_fits (the reads are within bounds), gain_fits and node_planned (one node more). Assumes nothing.
-use Prim.Native.Nat.{ℕ, ◌+◌, ◌-◌, ◌*◌, ◌%◌, ◌≤◌}
+use Prim.Native.Nat.{ℕ, ◌+◌, ◌-◌, ◌*◌, ◌%◌, ◌≤◌, ◌<◌}
 use mathlib.Core.Path.{◌≡◌, refl, ◌∙◌, ap}
-use mathlib.Core.Bool.{Bool, true, false, not, ◌||◌, true≢false}
+use mathlib.Core.Bool.{Bool, true, false}
+use mathlib.Core.Logic.{◌⊎◌, inl, inr}
 use mathlib.Core.List.{List}
 use native.Mathlib.Omega.{arith}
-use lib.ListN.{length, get_or, set}
-use lib.Dec.{ltb}
-use borrow.Author.Tests.{ltb-true, ltb-false, le-leb, lt-leb}
+use lib.ListN.{length, get_or}
+use borrow.Author.Tests.{le-leb, lt-leb}
 use Rattle.model.specs.Basics.{pick}
 use Rattle.model.specs.Table.{slots, node_count, limit_of, weight_at}
 use Rattle.model.specs.Steps.{second_start}
@@ -15,23 +15,25 @@ use Rattle.theory.specs.SiblingsBack.{child_high}
 use Rattle.columns.specs.Cells.{page_word, GoodChild}
 use Rattle.columns.specs.CellsRun.{block_at, block_apart}
 use Rattle.columns.specs.CellsNode.{ColumnsFilled, figure_at, figure_good}
-use Rattle.columns.specs.CellsPlan.{NodesPlanned, gain_from, node_figures, planned_step}
+use Rattle.columns.specs.CellsPlan.{NodesPlanned, gain_from, node_figures, put_node, planned_step}
+use Rattle.columns.specs.declared.nodes.Nodes.{Nodes}
 
 -- there is no second plan
-pub gain_none : (g : Bool) (K w W x : ℕ) → (not g || ltb K (w + (K - W) + 1)) ≡ true → 0 ≡ gain_from g K w W x
+pub gain_none : (g : Bool) (K w W x : ℕ) → (g ≡ false) ⊎ ((g ≡ true) × (K < w + (K - W) + 1))
+    → 0 ≡ gain_from g K w W x
 unfolding pick second_start
-gain_none false K w W x e = refl
-gain_none true K w W x e = rw (lt-leb (w + (K - W) + 1) K (ltb-true K (w + (K - W) + 1) e))
+gain_none g K w W x (inl e) = rw e refl
+gain_none g K w W x (inr p) = rw (p.0, lt-leb (w + (K - W) + 1) K p.1) refl
 
--- there is one
-pub gain_found : (g : Bool) (K w W x : ℕ) → (not g || ltb K (w + (K - W) + 1)) ≡ false
-    → W - (x - (K - W + 1)) ≡ gain_from g K w W x
+-- there is one: y is what the rest at its start has over the rest of the first page
+pub gain_found : (g : Bool) (K w W : ℕ) (xs : List ℕ) (here y z : ℕ) → g ≡ true → w + (K - W) + 1 ≤ K
+    → y ≡ get_or xs (here + (w + (K - W) + 1)) 0 % page_word - (K - W + 1) → z ≡ W - y
+    → z ≡ gain_from g K w W (get_or xs (here + second_start K w W) 0 % page_word)
 unfolding pick second_start
-gain_found false K w W x e = absurd (true≢false e)
-gain_found true K w W x e = rw (le-leb (w + (K - W) + 1) K (ltb-false K (w + (K - W) + 1) e))
+gain_found g K w W xs here y z e l p q = rw (e, le-leb (w + (K - W) + 1) K l) (q ∙ ap (λ n. W - n) p)
 
-module _ {t rests gains prevs lasts xs ys : List ℕ} {g : Bool} {v r : ℕ} (low : 1 ≤ v) (high : v ≤ node_count t)
-    (p : NodesPlanned t g v rests gains prevs lasts xs) (f : ColumnsFilled t rests gains prevs v r xs ys)
+module _ {t : List ℕ} {nodes : Nodes} {xs ys : List ℕ} {g : Bool} {v r : ℕ} (low : 1 ≤ v) (high : v ≤ node_count t)
+    (p : NodesPlanned t g v nodes xs) (f : ColumnsFilled t nodes v r xs ys)
   where
     pub block_fits : block_at (limit_of t) r + 2 * (limit_of t + 1) ≤ length ys
     block_fits =
@@ -58,6 +60,6 @@ module _ {t rests gains prevs lasts xs ys : List ℕ} {g : Bool} {v r : ℕ} (lo
         pub gain_fits : (gain : ℕ) → Gain gain → gain ≤ rest
         gain_fits gain e = (good gain e).fits
 
-        pub node_planned : (gain : ℕ) → Gain gain → length rests ≡ slots → length gains ≡ slots → length lasts ≡ slots
-            → NodesPlanned t g (v - 1) (set rests v rest) (set gains v gain) prevs (set lasts v r) ys
+        pub node_planned : (gain : ℕ) → Gain gain → length nodes.rests ≡ slots → length nodes.gains ≡ slots → length nodes.lasts ≡ slots
+            → NodesPlanned t g (v - 1) (put_node nodes v rest gain r) ys
         node_planned gain e = planned_step low high p f rest gain (figure gain e)

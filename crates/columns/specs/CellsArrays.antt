@@ -15,47 +15,48 @@ use borrow.Author.Tests.{eqb-true, eqb-false}
 use Rattle.model.specs.Steps.{Child}
 use Rattle.theory.specs.SiblingsBack.{back_from, list_back, list_none, list_cons, list_length, Earlier}
 use Rattle.columns.specs.Cells.{Cell, GoodChild, GoodChildren}
+use Rattle.columns.specs.declared.nodes.Nodes.{Nodes}
 
 -- ---- Children in arrays
 
 -- child u by its rest and its gain
-abbrev pub child_in : List ℕ → List ℕ → ℕ → Child
-child_in rests gains u = record { rest = get_or rests u 0; gain = get_or gains u 0 }
+abbrev pub child_in : Nodes → ℕ → Child
+child_in nodes u = record { rest = get_or nodes.rests u 0; gain = get_or nodes.gains u 0 }
 
 -- the children up to u, the last first
-unfoldable pub children_in : List ℕ → List ℕ → List ℕ → ℕ → List Child
-children_in rests gains prevs u = list_back (child_in rests gains) (λ v. get_or prevs v 0) u
+unfoldable pub children_in : Nodes → ℕ → List Child
+children_in nodes u = list_back (child_in nodes) (λ v. get_or nodes.prevs v 0) u
 
 -- each child weighs at most K, and gains no more than it weighs
-abbrev pub EachGood : ℕ → List ℕ → List ℕ → Type 0
-EachGood K rests gains = (u : ℕ) → GoodChild K (child_in rests gains u)
+abbrev pub EachGood : ℕ → Nodes → Type 0
+EachGood K nodes = (u : ℕ) → GoodChild K (child_in nodes u)
 
-module _ (rests gains prevs : List ℕ) (earlier : Earlier prevs) where
-  pub children_none : children_in rests gains prevs 0 ≡ []
+module _ (nodes : Nodes) (earlier : Earlier nodes.prevs) where
+  pub children_none : children_in nodes 0 ≡ []
   unfolding children_in
-  children_none = list_none (child_in rests gains) (λ v. get_or prevs v 0)
+  children_none = list_none (child_in nodes) (λ v. get_or nodes.prevs v 0)
 
   pub children_cons : (u : ℕ) → 1 ≤ u
-      → children_in rests gains prevs u ≡ child_in rests gains u ∷ children_in rests gains prevs (get_or prevs u 0)
+      → children_in nodes u ≡ child_in nodes u ∷ children_in nodes (get_or nodes.prevs u 0)
   unfolding children_in
-  children_cons = list_cons (child_in rests gains) (λ v. get_or prevs v 0) earlier
+  children_cons = list_cons (child_in nodes) (λ v. get_or nodes.prevs v 0) earlier
 
-  pub children_length : (u : ℕ) → length (children_in rests gains prevs u) ≤ u
+  pub children_length : (u : ℕ) → length (children_in nodes u) ≤ u
   unfolding children_in
-  children_length = list_length (child_in rests gains) (λ v. get_or prevs v 0) earlier
+  children_length = list_length (child_in nodes) (λ v. get_or nodes.prevs v 0) earlier
 
-children_good_from : (K : ℕ) (rests gains prevs : List ℕ) → EachGood K rests gains → (f u : ℕ)
-    → GoodChildren K (back_from f (child_in rests gains) (λ v. get_or prevs v 0) u)
+children_good_from : (K : ℕ) (nodes : Nodes) → EachGood K nodes → (f u : ℕ)
+    → GoodChildren K (back_from f (child_in nodes) (λ v. get_or nodes.prevs v 0) u)
 unfolding back_from GoodChildren
-children_good_from K rests gains prevs h zero u = tt
-children_good_from K rests gains prevs h (suc f) zero = tt
-children_good_from K rests gains prevs h (suc f) (suc u) =
-    (h (suc u), children_good_from K rests gains prevs h f (get_or prevs (suc u) 0))
+children_good_from K nodes h zero u = tt
+children_good_from K nodes h (suc f) zero = tt
+children_good_from K nodes h (suc f) (suc u) =
+    (h (suc u), children_good_from K nodes h f (get_or nodes.prevs (suc u) 0))
 
-pub children_good : (K : ℕ) (rests gains prevs : List ℕ) → EachGood K rests gains → (u : ℕ)
-    → GoodChildren K (children_in rests gains prevs u)
+pub children_good : (K : ℕ) (nodes : Nodes) → EachGood K nodes → (u : ℕ)
+    → GoodChildren K (children_in nodes u)
 unfolding children_in list_back
-children_good K rests gains prevs h u = children_good_from K rests gains prevs h u u
+children_good K nodes h u = children_good_from K nodes h u u
 
 -- ---- Cells in a block
 

@@ -21,6 +21,7 @@ use Rattle.columns.specs.Cells.{cell_at, GoodChild, entry_within}
 use Rattle.columns.specs.CellsArrays.{child_in, children_in}
 use Rattle.columns.specs.CellsArrays.{EachGood, cell_in}
 use Rattle.columns.specs.CellsRun.{nth_prev, block_at}
+use Rattle.columns.specs.declared.nodes.Nodes.{Nodes}
 
 -- ---- Figures and children by number
 
@@ -75,11 +76,11 @@ child-nth_prev t prevs before z v (suc n) u k = go (child-nth_prev t prevs befor
     go (inr q) = rw (before (nth_prev prevs n u) q.0 q.1) (prev_child t v (nth_prev prevs n u) q.0 q.1 q.2)
 
 -- arrays with the figures of v's children give the children of the table
-module _ (t rests gains prevs : List ℕ) (g : Bool) (v : ℕ) (before : SiblingsBefore t prevs)
-    (figures : (u : ℕ) → v < u → u ≤ node_count t → child_in rests gains u ≡ figure_at t g u)
+module _ (t : List ℕ) (nodes : Nodes) (g : Bool) (v : ℕ) (before : SiblingsBefore t nodes.prevs)
+    (figures : (u : ℕ) → v < u → u ≤ node_count t → child_in nodes u ≡ figure_at t g u)
   where
     same_step : (u : ℕ) → 1 ≤ u → ChildOrNone t v u
-        → (child_in rests gains u ≡ figure_at t g u) × (get_or prevs u 0 ≡ prev_at t u) × ChildOrNone t v (prev_at t u)
+        → (child_in nodes u ≡ figure_at t g u) × (get_or nodes.prevs u 0 ≡ prev_at t u) × ChildOrNone t v (prev_at t u)
     same_step u low (inl e) = absurd (omega arith)
     same_step u low (inr q) = (
       figures u (omega (arith, parent_at_less t u low, q.2)) q.1,
@@ -87,7 +88,7 @@ module _ (t rests gains prevs : List ℕ) (g : Bool) (v : ℕ) (before : Sibling
       prev_child t v u low q.1 q.2,
     )
 
-    pub children_same : (u : ℕ) → ChildOrNone t v u → children_in rests gains prevs u ≡ children_up_to t g u
+    pub children_same : (u : ℕ) → ChildOrNone t v u → children_in nodes u ≡ children_up_to t g u
     unfolding children_in children_up_to
     children_same = list_same (ChildOrNone t v) same_step
 
@@ -159,27 +160,27 @@ kids_end t v before k g = k g ∙ ap (λ x. children_from g (limit_of t) x (chil
 -- ---- What is kept
 
 -- the siblings before each node, children that may be weighed, and the column of no child
-pub record ColumnsReady (t rests gains prevs xs : List ℕ) : Type 0 where
+pub record ColumnsReady (t : List ℕ) (nodes : Nodes) (xs : List ℕ) : Type 0 where
   pub accepted : AcceptedFacts t
-  pub good : EachGood (limit_of t) rests gains
-  pub before : SiblingsBefore t prevs
-  pub earlier : Earlier prevs
-  pub none : get_or prevs 0 0 ≡ 0
+  pub good : EachGood (limit_of t) nodes
+  pub before : SiblingsBefore t nodes.prevs
+  pub earlier : Earlier nodes.prevs
+  pub none : get_or nodes.prevs 0 0 ≡ 0
   pub room : block_at (limit_of t) (node_count t + 1) ≤ length xs
   pub root : (s : ℕ) → s ≤ limit_of t → cell_in xs (limit_of t) (block_at (limit_of t) 0) s ≡ cell_at (limit_of t) [] s
 
 -- the cells from a start on, in the blocks of node u and of the siblings before it, are those of the arrays
-abbrev pub ColumnsBack : ℕ → ℕ → List ℕ → List ℕ → List ℕ → List ℕ → ℕ → Type 0
-ColumnsBack K start rests gains prevs ys u =
+abbrev pub ColumnsBack : ℕ → ℕ → Nodes → List ℕ → ℕ → Type 0
+ColumnsBack K start nodes ys u =
     (n s : ℕ) → start ≤ s → s ≤ K
-    → cell_in ys K (block_at K (nth_prev prevs n u)) s ≡ cell_at K (children_in rests gains prevs (nth_prev prevs n u)) s
+    → cell_in ys K (block_at K (nth_prev nodes.prevs n u)) s ≡ cell_at K (children_in nodes (nth_prev nodes.prevs n u)) s
 
 -- the columns of v's children are filled, the last of them is r, and no other block is changed
-pub record ColumnsFilled (t rests gains prevs : List ℕ) (v r : ℕ) (xs ys : List ℕ) : Type 0 where
+pub record ColumnsFilled (t : List ℕ) (nodes : Nodes) (v r : ℕ) (xs ys : List ℕ) : Type 0 where
   pub long : length ys ≡ length xs
   pub last_child : ChildOrNone t v r
   pub link : after_at t v r ≡ 0
   pub kids : (g : Bool) → children_of g (limit_of t) (chain_at t (first_at t v)) ≡ children_up_to t g r
-  pub columns : ColumnsBack (limit_of t) (weight_at t v) rests gains prevs ys r
+  pub columns : ColumnsBack (limit_of t) (weight_at t v) nodes ys r
   pub others : (u s : ℕ) → (parent_at t u ≡ v → ⊥) → s ≤ limit_of t
       → cell_in ys (limit_of t) (block_at (limit_of t) u) s ≡ cell_in xs (limit_of t) (block_at (limit_of t) u) s

@@ -1,5 +1,5 @@
 -- All nodes after one of them are planned: their figures, their last children and the columns of their children are
--- kept. Defines NodesPlanned, gain_from. Proves node_figures (a node's figures from the words of its last child's
+-- kept. Defines NodesPlanned, gain_from, put_node. Proves node_figures (a node's figures from the words of its last child's
 -- block), planned_none and planned_step. Assumes nothing.
 use Prim.Native.Nat.{ℕ, ◌+◌, ◌-◌, ◌*◌, ◌%◌, ◌≤◌, ◌<◌}
 use Rattle.std.specs.Prelude.{◌≡◌, Bool, List, length, set, leb}
@@ -24,22 +24,23 @@ use Rattle.columns.specs.CellsArrays.{child_in, children_in, children_good, chil
 use Rattle.columns.specs.CellsRun.{nth_prev, block_at}
 use Rattle.columns.specs.CellsNode.{figure_at, children_up_to, figure_good, child-nth_prev}
 use Rattle.columns.specs.CellsNode.{children_same, ColumnsReady, ColumnsFilled}
+use Rattle.columns.specs.declared.nodes.Nodes.{Nodes}
 
 -- the figures, last children and columns of the nodes after v
-pub record NodesPlanned (t : List ℕ) (g : Bool) (v : ℕ) (rests gains prevs lasts xs : List ℕ) : Type 0 where
-  pub ready : ColumnsReady t rests gains prevs xs
-  pub figures : (u : ℕ) → v < u → u ≤ node_count t → child_in rests gains u ≡ figure_at t g u
-  pub last_child : (w : ℕ) → v < w → w ≤ node_count t → ChildOrNone t w (get_or lasts w 0)
-  pub link : (w : ℕ) → v < w → w ≤ node_count t → after_at t w (get_or lasts w 0) ≡ 0
+pub record NodesPlanned (t : List ℕ) (g : Bool) (v : ℕ) (nodes : Nodes) (xs : List ℕ) : Type 0 where
+  pub ready : ColumnsReady t nodes xs
+  pub figures : (u : ℕ) → v < u → u ≤ node_count t → child_in nodes u ≡ figure_at t g u
+  pub last_child : (w : ℕ) → v < w → w ≤ node_count t → ChildOrNone t w (get_or nodes.lasts w 0)
+  pub link : (w : ℕ) → v < w → w ≤ node_count t → after_at t w (get_or nodes.lasts w 0) ≡ 0
   pub kids : (w : ℕ) → v < w → w ≤ node_count t → (h : Bool)
-      → children_of h (limit_of t) (chain_at t (first_at t w)) ≡ children_up_to t h (get_or lasts w 0)
+      → children_of h (limit_of t) (chain_at t (first_at t w)) ≡ children_up_to t h (get_or nodes.lasts w 0)
   pub columns : (w : ℕ) → v < w → w ≤ node_count t → (n s : ℕ) → weight_at t w ≤ s → s ≤ limit_of t
-      → cell_in xs (limit_of t) (block_at (limit_of t) (nth_prev prevs n (get_or lasts w 0))) s
-      ≡ cell_at (limit_of t) (children_up_to t g (nth_prev prevs n (get_or lasts w 0))) s
+      → cell_in xs (limit_of t) (block_at (limit_of t) (nth_prev nodes.prevs n (get_or nodes.lasts w 0))) s
+      ≡ cell_at (limit_of t) (children_up_to t g (nth_prev nodes.prevs n (get_or nodes.lasts w 0))) s
 
-pub planned_none : {t rests gains prevs xs : List ℕ} (g : Bool) (lasts : List ℕ) → ColumnsReady t rests gains prevs xs
-    → NodesPlanned t g (node_count t) rests gains prevs lasts xs
-planned_none g lasts r =
+pub planned_none : {t : List ℕ} {nodes : Nodes} {xs : List ℕ} (g : Bool) → ColumnsReady t nodes xs
+    → NodesPlanned t g (node_count t) nodes xs
+planned_none g r =
     record {
       ready = r;
       figures = λ u p q. absurd (omega arith);
@@ -72,8 +73,8 @@ second_later : (K w W : ℕ) → w ≤ second_start K w W
 unfolding second_start
 second_later K w W = omega arith
 
-module _ {t rests gains prevs lasts xs ys : List ℕ} {g : Bool} {v r : ℕ} (low : 1 ≤ v) (high : v ≤ node_count t)
-    (p : NodesPlanned t g v rests gains prevs lasts xs) (f : ColumnsFilled t rests gains prevs v r xs ys)
+module _ {t : List ℕ} {nodes : Nodes} {xs ys : List ℕ} {g : Bool} {v r : ℕ} (low : 1 ≤ v) (high : v ≤ node_count t)
+    (p : NodesPlanned t g v nodes xs) (f : ColumnsFilled t nodes v r xs ys)
   where
     abbrev K : ℕ
     K = limit_of t
@@ -88,15 +89,15 @@ module _ {t rests gains prevs lasts xs ys : List ℕ} {g : Bool} {v r : ℕ} (lo
     small : K ≤ max_limit
     small = p.ready.accepted.sound.limit_high
 
-    same_children : (u : ℕ) → ChildOrNone t v u → children_in rests gains prevs u ≡ children_up_to t g u
-    same_children = children_same t rests gains prevs g v p.ready.before p.figures
+    same_children : (u : ℕ) → ChildOrNone t v u → children_in nodes u ≡ children_up_to t g u
+    same_children = children_same t nodes g v p.ready.before p.figures
 
     good_children : GoodChildren K (children_up_to t g r)
-    good_children = rw (same_children r f.last_child) at (children_good K rests gains prevs p.ready.good r)
+    good_children = rw (same_children r f.last_child) at (children_good K nodes p.ready.good r)
 
     short_children : length (children_up_to t g r) ≤ max_nodes
     short_children =
-        let l : length (children_in rests gains prevs r) ≤ r = children_length rests gains prevs p.ready.earlier r in
+        let l : length (children_in nodes r) ≤ r = children_length nodes p.ready.earlier r in
         let m : length (children_up_to t g r) ≤ r = rw (same_children r f.last_child) at l in
         omega (arith, child_high t v r f.last_child, p.ready.accepted.sound.count_high)
 
@@ -132,46 +133,59 @@ module _ {t rests gains prevs lasts xs ys : List ℕ} {g : Bool} {v r : ℕ} (lo
 
 -- ---- One node more
 
-set-child : (rests gains : List ℕ) (v a b u : ℕ) → v < length rests → v < length gains
-    → child_in (set rests v a) (set gains v b) u ≡ pick (eqb u v) (record { rest = a; gain = b }) (child_in rests gains u)
+-- the figures and the last child of node v are put
+abbrev pub put_node : Nodes → ℕ → ℕ → ℕ → ℕ → Nodes
+put_node nodes v rest gain last =
+    record {
+      prevs = nodes.prevs;
+      rests = set nodes.rests v rest;
+      gains = set nodes.gains v gain;
+      lasts = set nodes.lasts v last;
+    }
+
+set-child : (nodes : Nodes) (v a b r u : ℕ) → v < length nodes.rests → v < length nodes.gains
+    → child_in (put_node nodes v a b r) u ≡ pick (eqb u v) (record { rest = a; gain = b }) (child_in nodes u)
 unfolding pick
-set-child rests gains v a b u l m = go (eqb u v) refl
+set-child nodes v a b r u l m = go (eqb u v) refl
   where
-    go : (x : Bool) → eqb u v ≡ x → child_in (set rests v a) (set gains v b) u
-        ≡ pick x (record { rest = a; gain = b }) (child_in rests gains u)
+    go : (x : Bool) → eqb u v ≡ x → child_in (put_node nodes v a b r) u
+        ≡ pick x (record { rest = a; gain = b }) (child_in nodes u)
     go true e =
         let q : u ≡ v = eqb-true u v e in
-        rw q (ap₂ (λ x y. record { rest = x; gain = y }) (get_or-set_same rests v a 0 l) (get_or-set_same gains v b 0 m))
+        rw q (ap₂ (λ x y. record { rest = x; gain = y }) (get_or-set_same nodes.rests v a 0 l) (get_or-set_same nodes.gains v b 0 m))
     go false e =
         let q : u ≡ v → ⊥ = eqb-false u v e in
-        ap₂ (λ x y. record { rest = x; gain = y }) (get_or-set_other rests v u a 0 q) (get_or-set_other gains v u b 0 q)
+        ap₂ (λ x y. record { rest = x; gain = y }) (get_or-set_other nodes.rests v u a 0 q) (get_or-set_other nodes.gains v u b 0 q)
 
-module _ {t rests gains prevs lasts xs ys : List ℕ} {g : Bool} {v r : ℕ} (low : 1 ≤ v) (high : v ≤ node_count t)
-    (p : NodesPlanned t g v rests gains prevs lasts xs) (f : ColumnsFilled t rests gains prevs v r xs ys)
+module _ {t : List ℕ} {nodes : Nodes} {xs ys : List ℕ} {g : Bool} {v r : ℕ} (low : 1 ≤ v) (high : v ≤ node_count t)
+    (p : NodesPlanned t g v nodes xs) (f : ColumnsFilled t nodes v r xs ys)
     (rest gain : ℕ) (figure : record { rest = rest; gain = gain } ≡ figure_at t g v)
-    (long-rests : length rests ≡ slots) (long-gains : length gains ≡ slots) (long-lasts : length lasts ≡ slots)
+    (long-rests : length nodes.rests ≡ slots) (long-gains : length nodes.gains ≡ slots) (long-lasts : length nodes.lasts ≡ slots)
   where
     below : v < slots
     below = omega (arith, p.ready.accepted.sound.count_high)
 
-    child_is : (u : ℕ) → child_in (set rests v rest) (set gains v gain) u
-        ≡ pick (eqb u v) (record { rest = rest; gain = gain }) (child_in rests gains u)
-    child_is u = set-child rests gains v rest gain u (omega (arith, below)) (omega (arith, below))
+    abbrev after : Nodes
+    after = put_node nodes v rest gain r
 
-    step_good : EachGood (limit_of t) (set rests v rest) (set gains v gain)
+    child_is : (u : ℕ) → child_in after u
+        ≡ pick (eqb u v) (record { rest = rest; gain = gain }) (child_in nodes u)
+    child_is u = set-child nodes v rest gain r u (omega (arith, below)) (omega (arith, below))
+
+    step_good : EachGood (limit_of t) after
     unfolding pick
     step_good u = rw (child_is u) (go (eqb u v))
       where
-        go : (b : Bool) → GoodChild (limit_of t) (pick b (record { rest = rest; gain = gain }) (child_in rests gains u))
+        go : (b : Bool) → GoodChild (limit_of t) (pick b (record { rest = rest; gain = gain }) (child_in nodes u))
         go true = rw figure (figure_good t g v (p.ready.accepted.light v low high))
         go false = p.ready.good u
 
     step_figures : (u : ℕ) → v - 1 < u → u ≤ node_count t
-        → child_in (set rests v rest) (set gains v gain) u ≡ figure_at t g u
+        → child_in after u ≡ figure_at t g u
     unfolding pick
     step_figures u a b = child_is u ∙ go (eqb u v) refl
       where
-        go : (x : Bool) → eqb u v ≡ x → pick x (record { rest = rest; gain = gain }) (child_in rests gains u)
+        go : (x : Bool) → eqb u v ≡ x → pick x (record { rest = rest; gain = gain }) (child_in nodes u)
             ≡ figure_at t g u
         go true e = figure ∙ ap (figure_at t g) (sym (eqb-true u v e))
         go false e =
@@ -184,26 +198,26 @@ module _ {t rests gains prevs lasts xs ys : List ℕ} {g : Bool} {v r : ℕ} (lo
         omega (arith, z)
     not_child w u h (inr k) q = omega (arith, k.2)
 
-    last_is : (w : ℕ) → get_or (set lasts v r) w 0 ≡ pick (eqb w v) r (get_or lasts w 0)
+    last_is : (w : ℕ) → get_or after.lasts w 0 ≡ pick (eqb w v) r (get_or nodes.lasts w 0)
     unfolding pick
     last_is w = go (eqb w v) refl
       where
-        go : (x : Bool) → eqb w v ≡ x → get_or (set lasts v r) w 0 ≡ pick x r (get_or lasts w 0)
-        go true e = let q : w ≡ v = eqb-true w v e in rw q (get_or-set_same lasts v r 0 (omega (arith, below)))
-        go false e = get_or-set_other lasts v w r 0 (eqb-false w v e)
+        go : (x : Bool) → eqb w v ≡ x → get_or after.lasts w 0 ≡ pick x r (get_or nodes.lasts w 0)
+        go true e = let q : w ≡ v = eqb-true w v e in rw q (get_or-set_same nodes.lasts v r 0 (omega (arith, below)))
+        go false e = get_or-set_other nodes.lasts v w r 0 (eqb-false w v e)
 
     abbrev AtLast : ℕ → ℕ → Type 0
     AtLast w u = ChildOrNone t w u × (after_at t w u ≡ 0)
         × ((h : Bool) → children_of h (limit_of t) (chain_at t (first_at t w)) ≡ children_up_to t h u)
         × ((n s : ℕ) → weight_at t w ≤ s → s ≤ limit_of t
-        → cell_in ys (limit_of t) (block_at (limit_of t) (nth_prev prevs n u)) s
-        ≡ cell_at (limit_of t) (children_up_to t g (nth_prev prevs n u)) s)
+        → cell_in ys (limit_of t) (block_at (limit_of t) (nth_prev nodes.prevs n u)) s
+        ≡ cell_at (limit_of t) (children_up_to t g (nth_prev nodes.prevs n u)) s)
 
-    step_last : (w : ℕ) → v - 1 < w → w ≤ node_count t → AtLast w (get_or (set lasts v r) w 0)
+    step_last : (w : ℕ) → v - 1 < w → w ≤ node_count t → AtLast w (get_or after.lasts w 0)
     unfolding pick
     step_last w a b = rw (last_is w) (go (eqb w v) refl)
       where
-        go : (x : Bool) → eqb w v ≡ x → AtLast w (pick x r (get_or lasts w 0))
+        go : (x : Bool) → eqb w v ≡ x → AtLast w (pick x r (get_or nodes.lasts w 0))
         go true e =
             let q : w ≡ v = eqb-true w v e in
             rw q (
@@ -212,8 +226,8 @@ module _ {t rests gains prevs lasts xs ys : List ℕ} {g : Bool} {v r : ℕ} (lo
               f.kids,
               λ n s c d. f.columns n s c d
                   ∙ ap (λ ks. cell_at (limit_of t) ks s)
-                  (children_same t rests gains prevs g v p.ready.before p.figures (nth_prev prevs n r)
-                  (child-nth_prev t prevs p.ready.before p.ready.none v n r f.last_child)),
+                  (children_same t nodes g v p.ready.before p.figures (nth_prev nodes.prevs n r)
+                  (child-nth_prev t nodes.prevs p.ready.before p.ready.none v n r f.last_child)),
             )
         go false e =
             let q : w ≡ v → ⊥ = eqb-false w v e in
@@ -222,15 +236,15 @@ module _ {t rests gains prevs lasts xs ys : List ℕ} {g : Bool} {v r : ℕ} (lo
               p.link w l b,
               p.kids w l b,
               λ n s c d.
-                  f.others (nth_prev prevs n (get_or lasts w 0)) s
-                  (not_child w (nth_prev prevs n (get_or lasts w 0)) l
-                  (child-nth_prev t prevs p.ready.before p.ready.none w n (get_or lasts w 0)
+                  f.others (nth_prev nodes.prevs n (get_or nodes.lasts w 0)) s
+                  (not_child w (nth_prev nodes.prevs n (get_or nodes.lasts w 0)) l
+                  (child-nth_prev t nodes.prevs p.ready.before p.ready.none w n (get_or nodes.lasts w 0)
                   (p.last_child w l b)))
                   d
                   ∙ p.columns w l b n s c d,
             )
 
-    pub planned_step : NodesPlanned t g (v - 1) (set rests v rest) (set gains v gain) prevs (set lasts v r) ys
+    pub planned_step : NodesPlanned t g (v - 1) (put_node nodes v rest gain r) ys
     planned_step =
         record {
           ready =

@@ -5,7 +5,7 @@
 -- choice a turn); run_figures, run_fits, run_stops, stops_none, fits_goes, over_stops; nth_prev_shift, nth_prev_le,
 -- block_apart, cell_word_small.
 -- Assumes nothing.
-use Rattle.std.specs.Prelude.{ℕ, zero, suc, ◌+◌, ◌-◌, ◌*◌, ◌≤◌, ◌<◌, max, ◌≡◌, Bool, List, [], ◌∷◌, map, ◌⊎◌, length, set, replicate, ltb}
+use Rattle.std.specs.Prelude.{ℕ, zero, suc, ◌+◌, ◌-◌, ◌*◌, ◌≤◌, ◌<◌, ◌≡◌, Bool, List, [], ◌∷◌, map, ◌⊎◌, length, set, ltb, replicate}
 use Rattle.std.proofs.Math.Path.{refl, ap}
 use Rattle.std.proofs.Common.{sym, ◌∙◌, true≢false, inl, inr, arith, mul-le-mul_right, get_or-set_same}
 use Rattle.std.proofs.Math.Bool.{true, false}
@@ -27,6 +27,9 @@ use Rattle.theory.specs.SiblingsBack.{Earlier}
 use Rattle.columns.specs.Cells.{Cell, page_word, lower, run_word, try_run, cell_at, longer_runs, GoodChild, GoodChildren}
 use Rattle.columns.specs.Cells.{run_taken, entry_within, cell_entry}
 use Rattle.columns.specs.CellsArrays.{EachGood, children_in}
+use Rattle.columns.specs.CellsSums.{joined_sums}
+use Rattle.columns.specs.declared.run.Sums.{Sums}
+use Rattle.columns.specs.declared.nodes.Nodes.{Nodes}
 
 -- ---- What is kept of a run
 
@@ -35,16 +38,17 @@ abbrev pub as_members : List Child → List Member
 as_members run = map as_member run
 
 -- the sums of rests and gains, how many members have each gain, and a bound of the gains
-pub record RunSums (K : ℕ) (run : List Child) (len total gained top : ℕ) (counts : List ℕ) : Type 0 where
-  pub long : length run ≡ len
-  pub total_is : rest_sum (as_members run) ≡ total
-  pub gained_is : gain_sum (as_members run) ≡ gained
-  pub counts_are : (h : ℕ) → count_gain h (as_members run) ≡ get_or counts h 0
-  pub largest : largest_gain (as_members run) ≤ top
-  pub top_high : top ≤ K
+pub record RunSums (K : ℕ) (run : List Child) (sums : Sums) : Type 0 where
+  pub long : length run ≡ sums.len
+  pub total_is : rest_sum (as_members run) ≡ sums.total
+  pub gained_is : gain_sum (as_members run) ≡ sums.gained
+  pub counts_are : (h : ℕ) → count_gain h (as_members run) ≡ get_or sums.counts h 0
+  pub largest : largest_gain (as_members run) ≤ sums.top
+  pub top_high : sums.top ≤ K
   pub good : GoodChildren K run
 
-pub sums_none : (K n : ℕ) → RunSums K [] 0 0 0 0 (replicate n 0)
+pub sums_none : (K n : ℕ)
+    → RunSums K [] (record { len = 0; total = 0; gained = 0; top = 0; counts = replicate n 0 })
 unfolding rest_sum gain_sum largest_gain count_gain sum_of GoodChildren
 sums_none K n =
     record {
@@ -98,24 +102,23 @@ unfolding taken_count as_member pick
 members_fresh [] = refl
 members_fresh (k ∷ run) = omega (arith, members_fresh run)
 
-module _ {K : ℕ} {run : List Child} {len total gained top : ℕ} {counts : List ℕ}
-    (kept : RunSums K run len total gained top counts) where
-  pub sums_count : (h : ℕ) → get_or counts h 0 ≤ len
+module _ {K : ℕ} {run : List Child} {sums : Sums} (kept : RunSums K run sums) where
+  pub sums_count : (h : ℕ) → get_or sums.counts h 0 ≤ sums.len
   sums_count h = omega (arith, kept.counts_are h, count_le_length h (as_members run), members_length run, kept.long)
 
-  pub sums_gained : gained ≤ total
+  pub sums_gained : sums.gained ≤ sums.total
   sums_gained = omega (arith, (total_high K run kept.good).0, kept.total_is, kept.gained_is)
 
-  pub sums_total : K ≤ max_limit → total ≤ len * max_limit
+  pub sums_total : K ≤ max_limit → sums.total ≤ sums.len * max_limit
   sums_total h =
       let a : rest_sum (as_members run) ≤ length run * K = (total_high K run kept.good).1 in
       let b : K * length run ≤ max_limit * length run = mul-le-mul_right (length run) h in
       omega (arith, a, b, kept.total_is, kept.long)
 
   -- one more child may join: no sum is too large for its word
-  pub sums_joins : K ≤ max_limit → len ≤ max_nodes → (k : Child) → GoodChild K k
-      → (k.gain ≤ max_limit) × (get_or counts k.gain 0 < 65535) × (len < 4294967295)
-      × (total + k.rest < 4294967296) × (gained + k.gain < 4294967296)
+  pub sums_joins : K ≤ max_limit → sums.len ≤ max_nodes → (k : Child) → GoodChild K k
+      → (k.gain ≤ max_limit) × (get_or sums.counts k.gain 0 < 65535) × (sums.len < 4294967295)
+      × (sums.total + k.rest < 4294967296) × (sums.gained + k.gain < 4294967296)
   sums_joins h few k g =
       let sum = sums_total h in (
         omega (arith, g.light, g.fits),
@@ -126,9 +129,8 @@ module _ {K : ℕ} {run : List Child} {len total gained top : ℕ} {counts : Lis
       )
 
   -- one more child on the left
-  pub sums_more : (k : Child) → GoodChild K k → k.gain < length counts
-      → RunSums K (k ∷ run) (len + 1) (total + k.rest) (gained + k.gain) (max top k.gain)
-      (set counts k.gain (get_or counts k.gain 0 + 1))
+  pub sums_more : (k : Child) → GoodChild K k → k.gain < length sums.counts
+      → RunSums K (k ∷ run) (joined_sums sums k.rest k.gain)
   unfolding rest_sum gain_sum largest_gain as_member GoodChildren
   sums_more k g l =
       record {
@@ -143,18 +145,18 @@ module _ {K : ℕ} {run : List Child} {len total gained top : ℕ} {counts : Lis
     where
       go : (h : ℕ) (b : Bool) → eqb k.gain h ≡ b
           → has_gain h (as_member k) + count_gain h (as_members run)
-          ≡ get_or (set counts k.gain (get_or counts k.gain 0 + 1)) h 0
+          ≡ get_or (set sums.counts k.gain (get_or sums.counts k.gain 0 + 1)) h 0
       go h true e =
           let same : k.gain ≡ h = eqb-true k.gain h e in
           let one : has_gain h (as_member k) ≡ 1 = pick_true (eqb k.gain h) 1 0 e in
-          let now : get_or (set counts k.gain (get_or counts k.gain 0 + 1)) h 0 ≡ get_or counts h 0 + 1 =
-          rw (← same) (get_or-set_same counts k.gain (get_or counts k.gain 0 + 1) 0 l) in
+          let now : get_or (set sums.counts k.gain (get_or sums.counts k.gain 0 + 1)) h 0 ≡ get_or sums.counts h 0 + 1 =
+          rw (← same) (get_or-set_same sums.counts k.gain (get_or sums.counts k.gain 0 + 1) 0 l) in
           omega (arith, one, now, kept.counts_are h)
       go h false e =
           let other : k.gain ≡ h → ⊥ = eqb-false k.gain h e in
           let none : has_gain h (as_member k) ≡ 0 = pick_false (eqb k.gain h) 1 0 e in
-          let now : get_or (set counts k.gain (get_or counts k.gain 0 + 1)) h 0 ≡ get_or counts h 0 =
-          get_or-set_other counts k.gain h (get_or counts k.gain 0 + 1) 0 (λ q. other (sym q)) in
+          let now : get_or (set sums.counts k.gain (get_or sums.counts k.gain 0 + 1)) h 0 ≡ get_or sums.counts h 0 =
+          get_or-set_other sums.counts k.gain h (get_or sums.counts k.gain 0 + 1) 0 (λ q. other (sym q)) in
           omega (arith, none, now, kept.counts_are h)
 
 -- ---- Second plans, one choice a turn
@@ -203,25 +205,24 @@ choosing_none n c room s = refl
 abbrev pub counts_of : List ℕ → ℕ → ℕ
 counts_of counts h = get_or counts h 0
 
-module _ {K : ℕ} {run : List Child} {len total gained top : ℕ} {counts : List ℕ}
-    (kept : RunSums K run len total gained top counts) where
+module _ {K : ℕ} {run : List Child} {sums : Sums} (kept : RunSums K run sums) where
   -- the figures of the run's members, with the second plans taken
   pub run_figures : totals_of (run_of K run)
-      ≡ choosing top (counts_of counts top) (counts_of counts) K (record { sum = total; count = 0 })
+      ≡ choosing sums.top (counts_of sums.counts sums.top) (counts_of sums.counts) K (record { sum = sums.total; count = 0 })
   unfolding run_of totals_of
   run_figures =
-      let counted : Counted top (counts_of counts) (as_members run) =
+      let counted : Counted sums.top (counts_of sums.counts) (as_members run) =
       record {
         sound = members_sound K run kept.good;
         below = kept.largest;
         counts = λ h p q. kept.counts_are h;
       } in
-      reduce_by_count top (counts_of counts) K (as_members run) counted
+      reduce_by_count sums.top (counts_of sums.counts) K (as_members run) counted
       ∙ rw (kept.total_is, members_fresh run)
-      (choosing_start top (counts_of counts) K (record { sum = total; count = 0 }))
+      (choosing_start sums.top (counts_of sums.counts) K (record { sum = sums.total; count = 0 }))
 
   -- whether stretching stops at the run
-  pub run_stops : stops_at K run ≡ ltb K (total - gained)
+  pub run_stops : stops_at K run ≡ ltb K (sums.total - sums.gained)
   unfolding stops_at lightest
   run_stops = rw (kept.total_is, kept.gained_is)
 
@@ -245,7 +246,7 @@ module _ {K : ℕ} {run : List Child} {len total gained top : ℕ} {counts : Lis
     unfolding totals_of
     taken_is = ap (λ f. f.count) is
 
-    pub run_taken_le : taken ≤ len
+    pub run_taken_le : taken ≤ sums.len
     run_taken_le = omega (arith, taken_is, run_taken K run, kept.long)
 
     -- the run is a candidate
@@ -336,13 +337,13 @@ cell_word_small K h ks s high good short =
     omega (arith, a.word, a.high, (entry_within K ks s high).count_high)
 
 -- the columns of the siblings before node c are in the block of each, and the block of c is within the words
-pub record Fillable (K start c : ℕ) (rests gains prevs xs : List ℕ) : Type 0 where
+pub record Fillable (K start c : ℕ) (nodes : Nodes) (xs : List ℕ) : Type 0 where
   pub node_low : 1 ≤ c
   pub node_high : c ≤ max_nodes
   pub limit_high : K ≤ max_limit
   pub room : block_at K c + 2 * (K + 1) ≤ length xs
-  pub earlier : Earlier prevs
-  pub none : get_or prevs 0 0 ≡ 0
-  pub good : EachGood K rests gains
-  pub columns : (n : ℕ) → ColumnWords K start xs (block_at K (nth_prev prevs (suc n) c))
-      (children_in rests gains prevs (nth_prev prevs (suc n) c))
+  pub earlier : Earlier nodes.prevs
+  pub none : get_or nodes.prevs 0 0 ≡ 0
+  pub good : EachGood K nodes
+  pub columns : (n : ℕ) → ColumnWords K start xs (block_at K (nth_prev nodes.prevs (suc n) c))
+      (children_in nodes (nth_prev nodes.prevs (suc n) c))

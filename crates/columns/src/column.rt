@@ -1,20 +1,21 @@
 // The column of a child: at each start the best of the candidates, in the listed order. A word has a count and a
 // rest, and a smaller word is a smaller count, or the same count and a smaller rest. Beside each word stands the
-// length of the run that won, 0 where the child stays.
+// length of the run that won, 0 where the child stays: both lie in the words that the caller of the C interface lends.
+// The loops over the starts end below limit + 1, since up to and with the limit they run slower by a third.
 ghost use Rattle.std.specs.Prelude.{◌≡◌, ℕ, ◌+◌, ◌*◌, ◌≤◌, ◌<◌, length, get_or};
 ghost use Rattle.model.specs.Table.{max_nodes, max_limit};
 ghost use Rattle.columns.specs.Cells.{cell_at, lower, stay_cell};
 ghost use Rattle.columns.specs.CellsArrays.{cell_in, children_in, Swept};
 ghost use Rattle.columns.specs.CellsRun.{block_at, Fillable};
 
-use crate::run::{GAINS, Sums, join};
-use table::SLOTS;
+use crate::nodes::Nodes;
+use crate::run::Sums;
 
 // What one page counts in a word.
-pub const PAGE_WORD: u32 = 65536;
+pub const PAGE_WORD: u32 = 1 << 16;
 
 // Above every word.
-const NO_WORD: u32 = 4294967295;
+const NO_WORD: u32 = u32::MAX;
 
 // Where the block of node v begins.
 pub fn block_at(limit: usize, v: usize) -> usize
@@ -32,8 +33,7 @@ fn stay(words: &mut [u32], here: usize, before: usize, start: usize, limit: usiz
         (λ s. stay_cell limit s rest (get_or words.old (before + (s + rest)) 0))
         words.old words.new }
 {
-    let mut s = start;
-    while s <= limit {
+    for s in start..limit + 1 {
         let word = if s + rest <= limit {
             words[before + (s + rest)]
         } else {
@@ -41,11 +41,11 @@ fn stay(words: &mut [u32], here: usize, before: usize, start: usize, limit: usiz
         };
         words[here + s] = word;
         words[here + (limit + 1) + s] = 0;
-        s += 1;
     }
 }
 
 // A run of so many children against the candidates before it: its word is the one before the run and what is added.
+// Both words are written whether it wins or not, so that the loop has no branch.
 fn relax(
     words: &mut [u32],
     here: usize,
@@ -62,50 +62,46 @@ fn relax(
         (λ s. lower (get_or words.old (before + s) 0 + added) len (cell_in words.old limit here s))
         words.old words.new }
 {
-    let mut s = start;
-    while s <= limit {
+    for s in start..limit + 1 {
         let word = words[before + s] + added;
         let held = words[here + s];
         let run = words[here + (limit + 1) + s];
-        words[here + s] = if word < held { word } else { held };
-        words[here + (limit + 1) + s] = if word < held { len } else { run };
-        s += 1;
+        let (word, run) = if word < held {
+            (word, len)
+        } else {
+            (held, run)
+        };
+        words[here + s] = word;
+        words[here + (limit + 1) + s] = run;
     }
 }
 
 // The column of a child, after those of the siblings before it.
-pub fn fill_column(
-    words: &mut [u32],
-    rests: &[u16; SLOTS],
-    gains: &[u16; SLOTS],
-    prevs: &[u16; SLOTS],
-    child: usize,
-    start: usize,
-    limit: usize,
-)
-    requires { (start ≤ limit) × Fillable limit start child rests.now gains.now prevs.now words.old }
+pub fn fill_column(words: &mut [u32], nodes: &Nodes, child: usize, start: usize, limit: usize)
+    requires { (start ≤ limit) × Fillable limit start child nodes.now words.old }
     ensures { Swept limit start (block_at limit child)
-        (λ s. cell_at limit (children_in rests.now gains.now prevs.now child) s)
+        (λ s. cell_at limit (children_in nodes.now child) s)
         words.old words.new }
 {
     let here = block_at(limit, child);
-    let first = block_at(limit, prevs[child] as usize);
-    stay(words, here, first, start, limit, rests[child] as usize);
-    let mut counts = [0u16; GAINS];
-    let mut sums = Sums {
-        len: 0,
-        total: 0,
-        gained: 0,
-        top: 0,
-    };
+    let first = block_at(limit, nodes.prevs[child] as usize);
+    stay(
+        words,
+        here,
+        first,
+        start,
+        limit,
+        nodes.rests[child] as usize,
+    );
+    let mut sums = Sums::none();
     let mut next = child;
     'stretch: while next != 0 {
-        sums = join(sums, &mut counts, rests[next], gains[next]);
-        next = prevs[next] as usize;
+        sums.join(nodes.rests[next], nodes.gains[next]);
+        next = nodes.prevs[next] as usize;
         let mut sum = sums.total;
         let mut taken: u32 = 0;
         let mut gain = sums.top;
-        let mut left = counts[gain as usize];
+        let mut left = sums.counts[gain as usize];
         while (limit as u32) < sum {
             // the lightest total passes the limit: the run is no candidate, and no longer one is
             if (limit as u32) < sums.total - sums.gained {
@@ -113,7 +109,7 @@ pub fn fill_column(
             }
             if left == 0 {
                 gain -= 1;
-                left = counts[gain as usize];
+                left = sums.counts[gain as usize];
             } else {
                 left -= 1;
                 sum -= gain as u32;

@@ -1,15 +1,16 @@
-use Rattle.std.proofs.Common.{◌≡◌, ℕ, ◌+◌, List, get_or, ap, rules}
+use Rattle.std.proofs.Common.{◌≡◌, ℕ, ◌+◌, List, get_or, ap, ◌∙◌, arith}
 use Rattle.model.specs.Table.{limit_of}
 use Rattle.columns.specs.CellsRun.{block_at}
-use Rattle.best.proofs.LayNode.{Found, walk_from, walk_high, walk_reads, block_small}
+use Rattle.best.proofs.LayNode.{Found, walk_from, walk_high}
 use Rattle.best.proofs.LayNode.{walk_stay, walk_ready, walk_less, walk_run, walk_end}
 use Rattle.best.proofs.lay.lay_children.Goals as goal
 
 -- the length of the run that won
-found : {t xs : List ℕ} {K start child block : ℕ} → K ≡ limit_of t → (child ≡ 0 → ⊥) → block ≡ block_at K child
-    → Found t xs K start child (get_or xs (block + (K + 1) + start) 0)
-found {xs = xs} {K = K} {start = start} limit some block =
-    record { limit_is = limit; some = some; run_is = ap (λ b. get_or xs (b + (K + 1) + start) 0) block }
+found : {t xs : List ℕ} {K start child block len : ℕ} → K ≡ limit_of t → (child ≡ 0 → ⊥) → block ≡ block_at K child
+    → len ≡ get_or xs (block + (K + 1) + start) 0
+    → Found t xs K start child len
+found {xs = xs} {K = K} {start = start} limit some block len =
+    record { limit_is = limit; some = some; run_is = len ∙ ap (λ b. get_or xs (b + (K + 1) + start) 0) block }
 
 pub loop-child-init : goal.loop-child-init
 loop-child-init c =
@@ -17,45 +18,26 @@ loop-child-init c =
     c.start_of-start.ensures in
     (walk_high c.requires w, w)
 
-pub overflow_add-len-in-loop-child : goal.overflow_add-len-in-loop-child
-overflow_add-len-in-loop-child c =
-    let small = block_small c.requires c.loop-child.invariant.1 _ _ c.limit_of-limit.ensures c.block_at.ensures in
-    search rules
-
-pub overflow_add-len-in-loop-child-2 : goal.overflow_add-len-in-loop-child-2
-overflow_add-len-in-loop-child-2 c =
-    let small = block_small c.requires c.loop-child.invariant.1 _ _ c.limit_of-limit.ensures c.block_at.ensures in
-    search rules
-
-pub offset_bounds-words-block_at : goal.offset_bounds-words-block_at
-offset_bounds-words-block_at c =
-    let small = block_small c.requires c.loop-child.invariant.1 _ _ c.limit_of-limit.ensures c.block_at.ensures in
-    search rules
-
-pub bounds-words-block_at : goal.bounds-words-block_at
-bounds-words-block_at c =
-    walk_reads c.requires c.loop-child.invariant.1 _ _ c.limit_of-limit.ensures c.block_at.ensures
-
 pub loop-child-preserved-then-len-eq0 : goal.loop-child-preserved-then-len-eq0
 loop-child-preserved-then-len-eq0 c =
     let w = walk_stay c.requires c.loop-child.invariant.1
-    (found c.limit_of-limit.ensures c.loop-child-test.true c.block_at.ensures) c.if-len-eq0.true in
+    (found c.limit_of-limit.ensures c.loop-child-test.true c.block_at.ensures (omega arith)) c.if-len-eq0.true _ (omega arith) in
     (walk_high c.requires w, w)
 
 pub lay_run-child-requires : goal.lay_run-child-requires
 lay_run-child-requires c =
     walk_ready c.requires c.loop-child.invariant.1
-    (found c.limit_of-limit.ensures c.loop-child-test.true c.block_at.ensures) c.if-len-eq0.false
+    (found c.limit_of-limit.ensures c.loop-child-test.true c.block_at.ensures (omega arith)) c.if-len-eq0.false
 
 pub loop-child-smaller : goal.loop-child-smaller
 loop-child-smaller c =
     walk_less c.requires c.loop-child.invariant.1
-    (found c.limit_of-limit.ensures c.loop-child-test.true c.block_at.ensures) c.if-len-eq0.false c.lay_run-child.ensures
+    (found c.limit_of-limit.ensures c.loop-child-test.true c.block_at.ensures (omega arith)) c.if-len-eq0.false c.lay_run-child.ensures
 
 pub loop-child-preserved : goal.loop-child-preserved
 loop-child-preserved c =
     let w = walk_run c.requires c.loop-child.invariant.1
-    (found c.limit_of-limit.ensures c.loop-child-test.true c.block_at.ensures) c.if-len-eq0.false
+    (found c.limit_of-limit.ensures c.loop-child-test.true c.block_at.ensures (omega arith)) c.if-len-eq0.false
     c.lay_run-child.ensures in
     (walk_high c.requires w, w)
 

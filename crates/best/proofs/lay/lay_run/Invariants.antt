@@ -6,8 +6,5 @@ use Rattle.best.proofs.lay.lay_run.Given as goal
 abbrev pub invariant-loop-left : goal.invariant-loop-left
 invariant-loop-left l =
     (l.next ≤ length l.fn.marks)
-    × Marking l.rests l.gains l.prevs l.fn.child l.fn.len l.level.gain l.level.times l.fn.marks l.fn.seconds l.marks
-    l.seconds l.before l.left l.next
-
-abbrev pub decreases-loop-left : goal.decreases-loop-left
-decreases-loop-left l = l.left
+    × Marking l.nodes l.fn.child l.fn.len l.level.gain l.level.times l.fn.marks l.fn.seconds l.marks l.seconds l.before
+    l.left l.next

@@ -1,19 +1,17 @@
-use Rattle.best.proofs.LaySums.{summing_start, summing_high, next_joins, summing_next, summing_end}
+use Rattle.std.proofs.Common.{arith, ap, ◌∙◌}
+use Rattle.best.proofs.LaySums.{summing_start, summing_high, next_joins, summing_turn, summing_end}
 use Rattle.best.proofs.lay.sum_run.Goals as goal
 
-pub loop-sums-init : goal.loop-sums-init
-loop-sums-init c = (c.requires.0.high, summing_start c.requires.0 _ c.requires.1)
+pub loop-init : goal.loop-init
+loop-init c = (c.requires.high, ap (λ s. s.len) c.none-sums.ensures, summing_start c.requires _ c.none-sums.ensures)
 
-pub join-sums-requires : goal.join-sums-requires
-join-sums-requires c = next_joins c.requires.0 c.loop-sums.invariant.1
+pub join-requires : goal.join-requires
+join-requires c = next_joins c.requires c.loop.invariant.2
 
-pub loop-sums-preserved : goal.loop-sums-preserved
-loop-sums-preserved c =
-    let l = c.loop-sums in
-    let j = c.join-sums in
-    let s = summing_next c.requires.0 l.sums j.result l.counts j.new.counts l.next l.invariant.1 c.loop-sums-test.true
-    j.ensures.0 j.ensures.1 in
-    (summing_high c.requires.0 s, s)
+pub loop-preserved : goal.loop-preserved
+loop-preserved c =
+    let s = summing_turn c.requires c.loop.invariant.2 (omega (arith, c.loop.invariant.1)) _ c.join.ensures in
+    (summing_high c.requires s, ap (λ s. s.len) c.join.ensures ∙ omega (arith, c.loop.invariant.1), s)
 
 pub returns : goal.returns
-returns c = summing_end c.requires.0 c.loop-sums.invariant.1 c.loop-sums-test.false
+returns c = summing_end c.requires c.loop.invariant.2 (omega (arith, c.loop.invariant.1))

@@ -4,8 +4,5 @@ use Rattle.columns.proofs.column.relax.Goals as goal
 
 pub loop-s-preserved : goal.loop-s-preserved
 loop-s-preserved c =
-    let turn = relax_turn _ _ _ _ _ _ _ c.requires.2 c.requires.3 c.loop-s-test.true _ _ c.loop-s.invariant.2 in (
-      omega arith,
-      omega arith,
-      grind (arith, turn),
-    )
+    let turn = relax_turn _ _ _ _ _ _ _ c.requires.2 c.requires.3 (omega arith) _ _ c.loop-s.invariant in
+    grind (arith, turn)

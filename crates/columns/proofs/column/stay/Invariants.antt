@@ -1,5 +1,4 @@
-use Rattle.std.proofs.Common.{◌+◌, ◌-◌, ◌≤◌, get_or}
-use Rattle.model.specs.Table.{max_limit}
+use Rattle.std.proofs.Common.{◌+◌, get_or}
 use Rattle.columns.specs.Cells.{stay_cell}
 use Rattle.columns.specs.CellsArrays.{Sweeping}
 use Rattle.columns.proofs.column.stay.Given as goal
@@ -7,9 +6,5 @@ use Rattle.columns.proofs.column.stay.Given as goal
 abbrev pub invariant-loop-s : goal.invariant-loop-s
 invariant-loop-s l =
     let xs = l.initial.words in
-    (l.start ≤ l.s) × (l.s ≤ max_limit + 1)
-    × Sweeping l.limit l.start l.here l.s
+    Sweeping l.limit l.start l.here l.s
     (λ u. stay_cell l.limit u l.rest (get_or xs (l.before + (u + l.rest)) 0)) xs l.words
-
-abbrev pub decreases-loop-s : goal.decreases-loop-s
-decreases-loop-s l = l.limit + 1 - l.s

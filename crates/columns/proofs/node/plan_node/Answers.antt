@@ -1,4 +1,4 @@
-use Rattle.std.proofs.Common.{refl, arith, length-set}
+use Rattle.std.proofs.Common.{refl, arith, rules}
 use Rattle.columns.proofs.NodeGains.{block_fits, rest_fits, gain_fits, node_planned}
 use Rattle.columns.proofs.node.plan_node.Goals as goal
 
@@ -24,11 +24,7 @@ overflow_cast-gain c =
     omega (arith, fits)
 
 pub returns : goal.returns
-returns c = (
-  node_planned c.requires.1 c.requires.2 c.requires.0 c.fill_columns-last.ensures _ _ _ _ c.limit_of-limit.ensures
-      c.weight_at-weight.ensures c.block_at-here.ensures refl c.gain_in-gain.result c.gain_in-gain.ensures
-      c.requires.3 c.requires.4 c.requires.5,
-  simp length-set c.requires.3,
-  simp length-set c.requires.4,
-  simp length-set c.requires.5,
-)
+returns c =
+    node_planned c.requires.1 c.requires.2 c.requires.0 c.fill_columns-last.ensures _ _ _ _ c.limit_of-limit.ensures
+    c.weight_at-weight.ensures c.block_at-here.ensures refl c.gain_in-gain.result c.gain_in-gain.ensures
+    (search rules) (search rules) (search rules)
