@@ -2,24 +2,25 @@
 -- Defines CutSoFar (where the cutting stands). Assumes nothing.
 use Prim.Native.Nat.{ℕ, zero, suc, ◌+◌, ◌-◌, ◌≤◌, ◌<◌}
 use native.Mathlib.Omega.{arith}
-use mathlib.Core.Path.{◌≡◌, refl, sym, ◌∙◌, ap}
+use mathlib.Core.Path.{◌≡◌, sym, ◌∙◌, ap}
 use mathlib.Core.Logic.{inl}
 use mathlib.Core.List.{List}
 use lib.ListN.{length, set, length-set}
 use Rattle.model.specs.Table.{node_count, limit_of, first_at}
 use Rattle.model.specs.Steps.{rest_sum, take_earliest, reduce}
+use Rattle.theory.specs.TableFacts.{SoundFacts}
 use Rattle.theory.specs.TableLinks.{first_le}
 use Rattle.theory.specs.PlanShape.{size}
 use Rattle.theory.specs.TableNumbered.{numbered_size, numbered_le}
 use Rattle.theory.specs.Reduce.{Turns}
 use Rattle.theory.specs.ReduceCount.{reduce_stop, reduce_turn}
 use Rattle.theory.specs.TableChain.{chain_at, chain_none, NodeAt, node_at}
-use Rattle.greedy.specs.Kept.{kept, Outside, outside_none, outside_then, outside_store}
+use Rattle.greedy.specs.Kept.{kept, Outside, outside_then, outside_store}
 use Rattle.greedy.specs.SingleMembers.{rest_at, largest_at, EarliestAt, LaidAt, members_rest, members_largest}
 use Rattle.greedy.specs.SingleMembers.{largest_some, earliest_at_rest, earliest_at_range, cut_members, cut_rest}
 use Rattle.greedy.specs.SingleMembers.{cut_laid}
 use Rattle.greedy.specs.SingleSettled.{kids_of}
-use Rattle.greedy.specs.SingleCuts.{Heaviest, CutReady, CutDone, ScanReady, most_sum, kid_members}
+use Rattle.greedy.specs.SingleCuts.{Heaviest, CutReady, CutDone, most_sum, kid_members}
 
 pub record CutSoFar (t : List ℕ) (v room : ℕ) (s₀ a₀ s a : List ℕ) (sum : ℕ) : Type 0 where
   pub long : length s ≡ length s₀
@@ -30,28 +31,16 @@ pub record CutSoFar (t : List ℕ) (v room : ℕ) (s₀ a₀ s a : List ℕ) (su
   pub rests_outside : Outside v (v + size (kids_of t v)) s₀ s
   pub marks_outside : Outside v (v + size (kids_of t v)) a₀ a
 
-module _ {t : List ℕ} {v : ℕ} {s₀ a₀ : List ℕ} (ready : CutReady t s₀ a₀ v) (room : ℕ) where
+module _ {t : List ℕ} {v : ℕ} {s₀ a₀ : List ℕ} (sound : SoundFacts t) (ready : CutReady t s₀ a₀ v) (room : ℕ) where
   first_high : (f : ℕ) → f ≡ first_at t v → f ≤ node_count t
-  first_high f e = omega (arith, first_le ready.sound v ready.low ready.high)
+  first_high f e = omega (arith, first_le sound v ready.low ready.high)
 
   -- what the sum of the children asks
-  pub cut_sums : (f : ℕ) → f ≡ first_at t v → ScanReady t s₀ f × (rest_at t s₀ f (chain_at t f) ≤ most_sum)
+  pub cut_sums : (f : ℕ) → f ≡ first_at t v → (f ≤ node_count t) × (rest_at t s₀ f (chain_at t f) ≤ most_sum)
   cut_sums f e = (
-    record { sound = ready.sound; high = first_high f e; long = ready.long },
+    first_high f e,
     omega (arith, ap (λ (k : ℕ). rest_at t s₀ k (chain_at t k)) e, ready.small),
   )
-
-  pub cut_start : (f sum : ℕ) → f ≡ first_at t v → sum ≡ rest_at t s₀ f (chain_at t f) → CutSoFar t v room s₀ a₀ s₀ a₀ sum
-  cut_start f sum e q =
-      record {
-        long = refl;
-        marks_long = refl;
-        sum_is = q ∙ ap (λ (k : ℕ). rest_at t s₀ k (chain_at t k)) e;
-        goes_on = refl;
-        laid = ready.laid;
-        rests_outside = outside_none v (v + size (kids_of t v)) s₀;
-        marks_outside = outside_none v (v + size (kids_of t v)) a₀;
-      }
 
   module _ {s a : List ℕ} {sum : ℕ} (x : CutSoFar t v room s₀ a₀ s a sum) where
     -- where there is something to cut, there is a child
@@ -63,11 +52,8 @@ module _ {t : List ℕ} {v : ℕ} {s₀ a₀ : List ℕ} (ready : CutReady t s�
     cut_some (suc f) e l = omega arith
 
     -- what the scan for the heaviest child asks
-    pub cut_scans : (f : ℕ) → f ≡ first_at t v → room < sum → ScanReady t s f × (1 ≤ f)
-    cut_scans f e l = (
-      record { sound = ready.sound; high = first_high f e; long = omega (arith, x.long, ready.long) },
-      cut_some f e l,
-    )
+    pub cut_scans : (f : ℕ) → f ≡ first_at t v → room < sum → (1 ≤ f) × (f ≤ node_count t)
+    cut_scans f e l = (cut_some f e l, first_high f e)
 
     module _ (over : room < sum) (f h k : ℕ) (e : f ≡ first_at t v) (heavy : Heaviest t s f h) (q : k ≡ kept s h) where
       abbrev most : ℕ
@@ -84,7 +70,7 @@ module _ {t : List ℕ} {v : ℕ} {s₀ a₀ : List ℕ} (ready : CutReady t s�
           (omega (arith, r.0), omega (arith, r.0, r.1, x.sum_is))
 
       node : NodeAt t v
-      node = node_at ready.sound v ready.low ready.high
+      node = node_at sound v ready.low ready.high
 
       last_is : node.last ≡ v + size (kids_of t v)
       last_is = numbered_size node.below
@@ -105,8 +91,8 @@ module _ {t : List ℕ} {v : ℕ} {s₀ a₀ : List ℕ} (ready : CutReady t s�
 
       next_members : kid_members t (set s (h - 1) 0) (set a (h - 1) 1) v ≡ take_earliest most (kid_members t s a v)
       next_members =
-          cut_members s a most h node.below earliest (omega (arith, last_high, x.long, ready.long))
-          (omega (arith, last_high, x.marks_long, ready.marks_long))
+          cut_members s a most h node.below earliest (omega (arith, last_high, x.long, ready.lent.long))
+          (omega (arith, last_high, x.marks_long, ready.lent.marks_long))
 
       next_goes_on : reduce room (kid_members t (set s (h - 1) 0) (set a (h - 1) 1) v) ≡ reduce room (kid_members t s a v)
       next_goes_on =
@@ -127,12 +113,12 @@ module _ {t : List ℕ} {v : ℕ} {s₀ a₀ : List ℕ} (ready : CutReady t s�
               arith,
               x.sum_is,
               r.0,
-              cut_rest s most h node.below earliest (omega (arith, last_high, x.long, ready.long)),
+              cut_rest s most h node.below earliest (omega (arith, last_high, x.long, ready.lent.long)),
             );
             goes_on = next_goes_on ∙ x.goes_on;
             laid = rw next_members
                 (cut_laid (limit_of t) s a most h node.below earliest
-                (omega (arith, last_high, x.marks_long, ready.marks_long)) x.laid);
+                (omega (arith, last_high, x.marks_long, ready.lent.marks_long)) x.laid);
             rests_outside =
                 outside_then x.rests_outside (outside_store v (v + size (kids_of t v)) s h 0 range.0 high);
             marks_outside =

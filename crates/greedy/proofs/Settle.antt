@@ -7,6 +7,7 @@ use mathlib.Core.List.{List}
 use lib.ListN.{length, set}
 use Rattle.model.specs.Table.{max_limit, node_count, limit_of, weight_at, first_at, Chain, end, node}
 use Rattle.model.specs.Steps.{rest_sum, whole, cut_down, remainders, reduce}
+use Rattle.theory.specs.TableFacts.{AcceptedFacts}
 use Rattle.theory.specs.PlanShape.{size, EachWithin}
 use Rattle.theory.specs.TableNumbered.{numbered_size, numbered_le}
 use Rattle.theory.specs.SingleShape.{cut_down_reduced}
@@ -25,28 +26,26 @@ remainders_small K (node w lab kids next) h l =
     let fits = (cut_down_reduced K w kids).fits in
     omega (arith, h.0)
 
-module _ {t s a : List ℕ} {v : ℕ} (ready : SettleReady t s a v) where
+module _ {t s a : List ℕ} {v : ℕ} (tree : AcceptedFacts t) (ready : SettleReady t s a v) where
   at_node : NodeAt t v
-  at_node = node_at ready.tree.sound v ready.low ready.high
+  at_node = node_at tree.sound v ready.low ready.high
 
   last_high : at_node.last ≤ node_count t
   last_high = omega (arith, numbered_le at_node.after, at_node.inside)
 
   pub settle_light : weight_at t v ≤ limit_of t
-  settle_light = ready.tree.light v ready.low ready.high
+  settle_light = tree.light v ready.low ready.high
 
   pub settle_cuts : CutReady t s a v
   settle_cuts =
       let small =
-      remainders_small (limit_of t) (kids_of t v) (link_within ready.tree at_node.below last_high)
-      ready.tree.sound.limit_high in
+      remainders_small (limit_of t) (kids_of t v) (link_within tree at_node.below last_high)
+      tree.sound.limit_high in
       let sized = numbered_size at_node.below in
       record {
-        sound = ready.tree.sound;
         low = ready.low;
         high = ready.high;
-        marks_long = ready.marks_long;
-        long = ready.long;
+        lent = ready.lent;
         small = omega (
           arith,
           members_rest t s a (first_at t v) (kids_of t v),
@@ -54,7 +53,7 @@ module _ {t s a : List ℕ} {v : ℕ} (ready : SettleReady t s a v) where
           small,
           sized,
           last_high,
-          ready.tree.sound.count_high,
+          tree.sound.count_high,
         );
         laid = rw ready.rests_kept.rests ready.rests_kept.laid;
       }
@@ -85,10 +84,10 @@ module _ {t s a : List ℕ} {v : ℕ} (ready : SettleReady t s a v) where
         record {
           laid = laid_same (limit_of t) (cut_kids t v) at_node.below
               (same_store v at_node.last a' v 0 low (λ l h. omega arith)) (rw cut_is at x.laid);
-          rest = kept_same s' v k low (omega (arith, ready.high, ready.long))
+          rest = kept_same s' v k low (omega (arith, ready.high, ready.lent.long))
               ∙ q
               ∙ ap (λ (n : ℕ). weight_at t v + n) (x.sum ∙ ap rest_sum cut_is);
-          mark = kept_same a' v 0 low (omega (arith, ready.high, ready.marks_long));
+          mark = kept_same a' v 0 low (omega (arith, ready.high, ready.lent.marks_long));
           rests_outside =
               outside_then (outside_more (v - 1) (v + size (kids_of t v)) (omega arith) (omega arith) x.rests_outside)
               (outside_store (v - 1) (v + size (kids_of t v)) s' v k below reach);

@@ -9,30 +9,26 @@ use lib.ListN.{length, set, length-set}
 use lib.Dec.{eqb}
 use borrow.Author.Tests.{eqb-true, eqb-false}
 use Rattle.model.specs.Basics.{pick}
-use Rattle.model.specs.Table.{max_limit, node_count, limit_of, first_at, next_at, weight_at, label_at}
-use Rattle.model.specs.Steps.{remainder}
-use Rattle.theory.specs.Ranges.{pick_both}
-use Rattle.theory.specs.TableFacts.{SoundFacts}
-use Rattle.theory.specs.TableNumbered.{Between, numbered_le}
+use Rattle.model.specs.Table.{max_limit, node_count, limit_of, first_at, next_at, weight_at, label_at, tree_of}
+use Rattle.model.specs.Steps.{remainder, pair_marks}
+use Rattle.theory.specs.TableFacts.{SoundFacts, AcceptedFacts}
+use Rattle.theory.specs.TableNumbered.{numbered_le}
 use Rattle.theory.specs.TableLinks.{first_step, first_le, next_later, next_le, first_one, next_one, first_not_next}
 use Rattle.theory.specs.PairShape.{unless_cut, remainder_node, remainder_fits}
 use Rattle.theory.specs.TableChain.{chain_at, chain_none, NodeAt, node_at, link_within}
 use Rattle.greedy.specs.Kept.{kept, kept_none, kept_same, kept_other}
 use Rattle.greedy.specs.PairSides.{left_cut, right_cut, sides_left, sides_right}
-use Rattle.greedy.specs.declared.pair.Sides.{Sides}
+use Rattle.greedy.specs.declared.sides.Sides.{Sides}
 use Rattle.greedy.specs.PairMarks.{Rests, PairReady, SidesAt, remainder_at, first_cut_at, next_cut_at, uncut_after}
-use Rattle.greedy.specs.PairMarks.{LinkMarks, put, length-put, put_same, put_other, laid_below}
+use Rattle.greedy.specs.PairMarks.{LinkMarks, put, length-put, put_same, put_other, laid_below, pair_plan}
 
 remainder_none : (t : List ℕ) → remainder_at t 0 ≡ 0
 unfolding remainder
 remainder_none t = rw chain_none
 
-unless_le : (cut : Bool) (r : ℕ) → unless_cut cut r ≤ r
-unless_le cut r = pick_both (λ k. k ≤ r) cut 0 r (omega arith) (omega arith)
-
-module _ {t s : List ℕ} {v : ℕ} (ready : PairReady t s v) where
+module _ {t s : List ℕ} {v : ℕ} (tree : AcceptedFacts t) (ready : PairReady t s v) where
   sound : SoundFacts t
-  sound = ready.above.tree.sound
+  sound = tree.sound
 
   at_node : NodeAt t v
   at_node = node_at sound v ready.low ready.high
@@ -47,12 +43,6 @@ module _ {t s : List ℕ} {v : ℕ} (ready : PairReady t s v) where
   pub next_node : (f : ℕ) → f ≡ next_at t v → f ≤ node_count t
   next_node f e = omega (arith, next_le sound v ready.low ready.high)
 
-  pub first_in_scratch : (f : ℕ) → f ≡ first_at t v → f ≤ length s
-  first_in_scratch f e = omega (arith, first_le sound v ready.low ready.high, ready.above.long)
-
-  pub next_in_scratch : (f : ℕ) → f ≡ next_at t v → f ≤ length s
-  next_in_scratch f e = omega (arith, next_le sound v ready.low ready.high, ready.above.long)
-
   pub first_rest : (f k : ℕ) → f ≡ first_at t v → k ≡ kept s f → k ≡ remainder_at t (first_at t v)
   first_rest f k e q =
       q ∙ ap (kept s) e
@@ -66,20 +56,20 @@ module _ {t s : List ℕ} {v : ℕ} (ready : PairReady t s v) where
       (next_le sound v ready.low ready.high)
 
   light : weight_at t v ≤ limit_of t
-  light = ready.above.tree.light v ready.low ready.high
+  light = tree.light v ready.low ready.high
 
   first_within : remainder_at t (first_at t v) ≤ limit_of t
   first_within =
       remainder_fits (limit_of t) (chain_at t (first_at t v))
-      (link_within ready.above.tree at_node.below (omega (arith, numbered_le at_node.after, at_node.inside)))
+      (link_within tree at_node.below (omega (arith, numbered_le at_node.after, at_node.inside)))
 
   next_within : remainder_at t (next_at t v) ≤ limit_of t
   next_within =
       remainder_fits (limit_of t) (chain_at t (next_at t v))
-      (link_within ready.above.tree at_node.after at_node.inside)
+      (link_within tree at_node.after at_node.inside)
 
   pub sides_fit : weight_at t v + remainder_at t (first_at t v) + remainder_at t (next_at t v) ≤ 3 * max_limit
-  sides_fit = omega (arith, light, first_within, next_within, ready.above.tree.sound.limit_high)
+  sides_fit = omega (arith, light, first_within, next_within, tree.sound.limit_high)
 
   module _ {x : Sides} (at : SidesAt t v x) where
     pub first_is : left_cut x.limit x.weight x.left x.right ≡ first_cut_at t v
@@ -95,33 +85,22 @@ module _ {t s : List ℕ} {v : ℕ} (ready : PairReady t s v) where
         (sym (sides_right (limit_of t) (weight_at t v) (remainder_at t (first_at t v)) (remainder_at t (next_at t v)) light))
 
     -- the node's remainder, from what is left of its sides
-    module _ (f g : Bool) (l r : ℕ) (ef : f ≡ left_cut x.limit x.weight x.left x.right)
-        (eg : g ≡ right_cut x.limit x.weight x.left x.right)
-        (el : l ≡ unless_cut f x.left) (er : r ≡ unless_cut g x.right)
-      where
-        pub weighs : x.weight + l + r ≡ remainder_at t v
-        unfolding first_cut_at next_cut_at
-        weighs =
-            let n =
-            remainder_node (limit_of t) (weight_at t v) (chain_at t (first_at t v)) (chain_at t (next_at t v))
-            (label_at t v) in
-            rw (el, er, ef, eg, first_is, next_is, at.weight, at.left, at.right, at_node.shape) (omega (arith, n))
+    pub weighs : x.weight + unless_cut (left_cut x.limit x.weight x.left x.right) x.left
+        + unless_cut (right_cut x.limit x.weight x.left x.right) x.right ≡ remainder_at t v
+    unfolding first_cut_at next_cut_at
+    weighs =
+        let n =
+        remainder_node (limit_of t) (weight_at t v) (chain_at t (first_at t v)) (chain_at t (next_at t v))
+        (label_at t v) in
+        rw (first_is, next_is, at.weight, at.left, at.right, at_node.shape) (omega (arith, n))
 
-        pub weighs_fit : x.weight + l + r ≤ 3 * max_limit
-        weighs_fit = omega (arith, el, er, unless_le f x.left, unless_le g x.right, at.fits)
-
-  pub rests_step : (r : ℕ) → r ≡ remainder_at t v → Rests t (set s (v - 1) r) (v - 1)
-  rests_step r e =
-      record {
-        tree = ready.above.tree;
-        long = simp length-set ready.above.long;
-        rests = λ u low high. go u low high (eqb u v) refl;
-      }
+  pub rests_step : (r : ℕ) → r ≡ remainder_at t v → node_count t ≤ length s → Rests t (set s (v - 1) r) (v - 1)
+  rests_step r e long = record { rests = λ u low high. go u low high (eqb u v) refl }
     where
       go : (u : ℕ) → v - 1 < u → u ≤ node_count t → (b : Bool) → eqb u v ≡ b → kept (set s (v - 1) r) u ≡ remainder_at t u
       go u low high true q =
           let same : u ≡ v = eqb-true u v q in
-          rw same (kept_same s v r ready.low (omega (arith, ready.high, ready.above.long)) ∙ e)
+          rw same (kept_same s v r ready.low (omega (arith, ready.high, long)) ∙ e)
       go u low high false q =
           let other : u ≡ v → ⊥ = eqb-false u v q in
           kept_other s v u r ready.low other ∙ ready.above.rests u (omega (arith, ready.low)) high
@@ -129,11 +108,7 @@ module _ {t s : List ℕ} {v : ℕ} (ready : PairReady t s v) where
 -- where all remainders are kept, those after a node are
 pub rests_after : {t s : List ℕ} (v : ℕ) → Rests t s 0 → 1 ≤ v → v ≤ node_count t → PairReady t s v
 rests_after v r low high =
-    record {
-      above = record { tree = r.tree; long = r.long; rests = λ u l h. r.rests u (omega arith) h };
-      low = low;
-      high = high;
-    }
+    record { above = record { rests = λ u l h. r.rests u (omega arith) h }; low = low; high = high }
 
 -- ---- Marks
 
@@ -185,13 +160,13 @@ module _ {t : List ℕ} (good : SoundFacts t) (a : List ℕ) (v : ℕ) (low : 1 
             ∙ ap (λ (k : ℕ). pick (next_cut_at t u) 1 (uncut_after k)) (sym (laid_self u l (omega arith)));
       }
 
--- what is laid of the marks when the nodes up to v have given theirs
+-- what is laid of the marks when the nodes before v have given theirs
 pub record LinksMarked (t a : List ℕ) (v : ℕ) : Type 0 where
   pub long : length a ≡ node_count t
   pub root : kept a 1 ≡ 1
-  pub links : Between 0 v (LinkMarks t a)
+  pub links : (u : ℕ) → 1 ≤ u → u < v → LinkMarks t a u
 
-pub links_start : (t a : List ℕ) → length a ≡ node_count t → 1 ≤ node_count t → LinksMarked t (set a 0 1) 0
+pub links_start : (t a : List ℕ) → length a ≡ node_count t → 1 ≤ node_count t → LinksMarked t (set a 0 1) 1
 links_start t a long some =
     record {
       long = simp length-set long;
@@ -199,21 +174,25 @@ links_start t a long some =
       links = λ u low high. absurd (omega arith);
     }
 
-pub links_step : {t a : List ℕ} {v : ℕ} (a' : List ℕ) → SoundFacts t → LinksMarked t a v → v + 1 ≤ node_count t
-    → a' ≡ laid_below t a (v + 1) → LinksMarked t a' (v + 1)
+pub links_step : {t a : List ℕ} {v : ℕ} (a' : List ℕ) → SoundFacts t → LinksMarked t a v → 1 ≤ v → v ≤ node_count t
+    → a' ≡ laid_below t a v → LinksMarked t a' (v + 1)
 unfolding laid_below
-links_step {t} {a} {v} a' good x high e =
+links_step {t} {a} {v} a' good x low high e =
     rw e
     (record {
-      long = length-put _ (next_at t (v + 1)) _ ∙ length-put a (first_at t (v + 1)) _ ∙ x.long;
-      root = laid_root good a (v + 1) (omega arith) high ∙ x.root;
-      links = λ u low top. go u low top (eqb u (v + 1)) refl;
+      long = length-put _ (next_at t v) _ ∙ length-put a (first_at t v) _ ∙ x.long;
+      root = laid_root good a v low high ∙ x.root;
+      links = λ u one top. go u one top (eqb u v) refl;
     })
   where
-    go : (u : ℕ) → 0 < u → u ≤ v + 1 → (b : Bool) → eqb u (v + 1) ≡ b → LinkMarks t (laid_below t a (v + 1)) u
-    go u low top true q =
-        let same : u ≡ v + 1 = eqb-true u (v + 1) q in
-        rw same (laid_here good a (v + 1) (omega arith) high (omega (arith, x.long)))
-    go u low top false q =
-        let other : u ≡ v + 1 → ⊥ = eqb-false u (v + 1) q in
-        laid_before good a (v + 1) (omega arith) high u low (omega arith) (x.links u low (omega arith))
+    go : (u : ℕ) → 1 ≤ u → u < v + 1 → (b : Bool) → eqb u v ≡ b → LinkMarks t (laid_below t a v) u
+    go u one top true q =
+        let same : u ≡ v = eqb-true u v q in
+        rw same (laid_here good a v low high (omega (arith, x.long)))
+    go u one top false q =
+        let other : u ≡ v → ⊥ = eqb-false u v q in
+        laid_before good a v low high u one (omega arith) (x.links u one (omega arith))
+
+pub links_end : {t a : List ℕ} {v : ℕ} → SoundFacts t → LinksMarked t a v → node_count t < v
+    → a ≡ pair_marks (limit_of t) (tree_of t)
+links_end {t} {a} good x all = pair_plan a good x.long x.root (λ u low high. x.links u (omega arith) (omega arith))

@@ -2,20 +2,20 @@
 -- child and its next sibling.
 -- Defines Rests, SidesAt, first_cut_at, next_cut_at, LinkMarks, put. Proves pair_plan: with these marks for every node, the
 -- marks are the plan. Assumes nothing.
-use Prim.Native.Nat.{ℕ, zero, suc, ◌+◌, ◌-◌, ◌*◌, ◌≤◌, ◌<◌}
+use Prim.Native.Nat.{ℕ, zero, suc, ◌-◌, ◌≤◌, ◌<◌}
 use Rattle.std.proofs.Common.{arith, ◌∙◌, length-set, get_or-set_same, get_or-set_other}
 use Rattle.std.specs.Prelude.{◌≡◌, Bool, true, length, set, drop, eqb}
 use Rattle.std.proofs.Math.Path.{refl, sym, ap, ap₂}
 use mathlib.Core.List.{List, ◌∷◌, ◌++◌, append_assoc, append-nil}
 use Rattle.std.proofs.Math.Seq.{drop-cons, drop-length}
 use Rattle.model.specs.Basics.{pick}
-use Rattle.model.specs.Table.{max_limit, node_count, limit_of, first_at, next_at, weight_at, Chain, tree_of}
+use Rattle.model.specs.Table.{node_count, limit_of, first_at, next_at, weight_at, Chain, tree_of}
 use Rattle.model.specs.Steps.{sides, remainder, taken_at, lay_pair, pair_marks}
-use Rattle.theory.specs.TableFacts.{SoundFacts, AcceptedFacts}
+use Rattle.theory.specs.TableFacts.{SoundFacts}
 use Rattle.theory.specs.TableNumbered.{Numbered, none, some, numbered_le, Between, sound_tree}
 use Rattle.theory.specs.TableChain.{chain_at, chain_is}
 use Rattle.greedy.specs.Kept.{kept, kept_suc}
-use Rattle.greedy.specs.declared.pair.Sides.{Sides}
+use Rattle.greedy.specs.declared.sides.Sides.{Sides}
 
 -- the remainder of the chain at node v
 abbrev pub remainder_at : List ℕ → ℕ → ℕ
@@ -23,8 +23,6 @@ remainder_at t v = remainder (limit_of t) (chain_at t v)
 
 -- the scratch keeps the remainders of the nodes after v
 pub record Rests (t s : List ℕ) (v : ℕ) : Type 0 where
-  pub tree : AcceptedFacts t
-  pub long : node_count t ≤ length s
   pub rests : (u : ℕ) → v < u → u ≤ node_count t → kept s u ≡ remainder_at t u
 
 -- the same, and node v is a node
@@ -33,13 +31,12 @@ pub record PairReady (t s : List ℕ) (v : ℕ) : Type 0 where
   pub low : 1 ≤ v
   pub high : v ≤ node_count t
 
--- node v and its sides, which have room to be summed
+-- node v and its sides
 pub record SidesAt (t : List ℕ) (v : ℕ) (s : Sides) : Type 0 where
   pub limit : s.limit ≡ limit_of t
   pub weight : s.weight ≡ weight_at t v
   pub left : s.left ≡ remainder_at t (first_at t v)
   pub right : s.right ≡ remainder_at t (next_at t v)
-  pub fits : s.weight + s.left + s.right ≤ 3 * max_limit
 
 -- whether node u cuts its first child, and its next sibling
 unfoldable pub first_cut_at : List ℕ → ℕ → Bool

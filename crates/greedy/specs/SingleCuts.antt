@@ -1,20 +1,14 @@
 -- What the functions that cut children ask and promise.
 -- Defines Heaviest, CutReady, CutDone, SettleReady. Assumes nothing.
-use Rattle.std.specs.Prelude.{ℕ, ◌+◌, ◌*◌, ◌≤◌, ◌≡◌, List, length}
+use Rattle.std.specs.Prelude.{ℕ, ◌+◌, ◌*◌, ◌≤◌, ◌≡◌, List}
 use Rattle.model.specs.Table.{max_nodes, max_limit, node_count, limit_of, first_at}
 use Rattle.model.specs.Steps.{Member, rest_sum, reduce}
-use Rattle.theory.specs.TableFacts.{SoundFacts, AcceptedFacts}
 use Rattle.theory.specs.PlanShape.{size}
 use Rattle.theory.specs.TableChain.{chain_at}
+use Rattle.greedy.specs.Lent.{LayReady}
 use Rattle.greedy.specs.Kept.{Outside}
 use Rattle.greedy.specs.SingleMembers.{members_at, LaidAt, EarliestAt, largest_at, rest_at}
 use Rattle.greedy.specs.SingleSettled.{RemaindersKept, kids_of}
-
--- the siblings from node v on are scanned: the table is of sound form, and the scratch has a word for each node
-pub record ScanReady (t s : List ℕ) (v : ℕ) : Type 0 where
-  pub sound : SoundFacts t
-  pub high : v ≤ node_count t
-  pub long : node_count t ≤ length s
 
 -- the sum of so many remainders at most, so that it fits a word
 abbrev pub most_sum : ℕ
@@ -31,11 +25,9 @@ abbrev pub kid_members : List ℕ → List ℕ → List ℕ → ℕ → List Mem
 kid_members t s a v = members_at t s a (first_at t v) (kids_of t v)
 
 pub record CutReady (t s a : List ℕ) (v : ℕ) : Type 0 where
-  pub sound : SoundFacts t
+  pub lent : LayReady t a s
   pub low : 1 ≤ v
   pub high : v ≤ node_count t
-  pub marks_long : length a ≡ node_count t
-  pub long : node_count t ≤ length s
   pub small : rest_at t s (first_at t v) (kids_of t v) ≤ most_sum
   pub laid : LaidAt (limit_of t) t a (first_at t v) (kids_of t v) (kid_members t s a v)
 
@@ -47,9 +39,7 @@ pub record CutDone (t : List ℕ) (v room : ℕ) (s a s' a' : List ℕ) (r : ℕ
   pub marks_outside : Outside v (v + size (kids_of t v)) a a'
 
 pub record SettleReady (t s a : List ℕ) (v : ℕ) : Type 0 where
-  pub tree : AcceptedFacts t
+  pub lent : LayReady t a s
   pub low : 1 ≤ v
   pub high : v ≤ node_count t
-  pub marks_long : length a ≡ node_count t
-  pub long : node_count t ≤ length s
   pub rests_kept : RemaindersKept t s a (first_at t v) (kids_of t v)

@@ -3,4 +3,5 @@
 
 mod kept;
 pub mod pair;
+mod sides;
 pub mod single;

@@ -1,15 +1,19 @@
 -- One turn of depth-first, for node v + 1 after the nodes 1 to v, and what it has at its end.
--- Defines DepthTo. Proves depth_start, depth_turn, depth_end, and that the numbers of a turn have places in the arrays.
+-- Defines DepthTo, SeenTo (the same of an array that has all of a node in one place). Proves seen_start, node_turn,
+-- depth_end, and that the numbers of a turn have places in the array.
 -- Assumes nothing.
-use Prim.Native.Nat.{ℕ, suc, ◌+◌, ◌-◌, ◌≤◌, ◌<◌}
+use Prim.Native.Nat.{ℕ, zero, suc, ◌+◌, ◌-◌, ◌≤◌, ◌<◌}
 use native.Mathlib.Omega.{arith}
 use native.Mathlib.Numerals.{add-one}
 use mathlib.Core.Path.{◌≡◌, refl, sym, ◌∙◌, ap}
 use mathlib.Core.Logic.{◌⊎◌, inl, inr}
-use mathlib.Core.List.{List}
+use mathlib.Core.List.{List, ◌∷◌, map}
 use lib.ListN.{length, get_or, set, replicate, get_or-replicate, length-set}
 use lib.Seq.{get_or-set_other, ext_get_or}
 use lib.Dec.{eqb}
+use Rattle.std.proofs.lemmas.List.{map-set}
+use Rattle.std.proofs.Math.ListN.{get_or-map}
+use Rattle.std.proofs.Math.Seq.{map-set_same}
 use Rattle.model.specs.Basics.{pick}
 use Rattle.model.specs.Table.{slots, node_count, limit_of, weight_at, next_at, tree_of}
 use Rattle.model.specs.Plan.{prev_at, parent_at, begins, mark_at, has_mark, page_of}
@@ -21,6 +25,7 @@ use Rattle.theory.specs.TableLinks.{next_le, prev_at_less, parent_at_less}
 use Rattle.theory.specs.PlanPass.{weight_to_zero}
 use Rattle.theory.specs.Slots.{Row, SlotsHold, slots_start, row_add, prev_to, prevs_turn, prior_is, parent_is, home_is}
 use Rattle.theory.specs.DepthFirst.{page_to, depth_long, depth_mark, depth_begins, depth_joins, depth_home, depth_within}
+use Rattle.quick.specs.declared.depth_first.Seen.{Seen}
 
 abbrev plan : List ℕ → List ℕ
 plan t = depth_first_marks (limit_of t) (tree_of t)
@@ -67,16 +72,16 @@ module _ {t : List ℕ} {v : ℕ} {before parents pages : List ℕ} {number sum 
   u_less : u ≤ v
   u_less = omega (arith, u_is, prev_at_less t (v + 1) (omega arith))
 
-  pub u_fits : u < slots
+  u_fits : u < slots
   u_fits = omega (arith, u_less, a.sound.count_high)
 
-  pub next_fits : next_at t (v + 1) < slots
+  next_fits : next_at t (v + 1) < slots
   next_fits = omega (arith, next_le a.sound (v + 1) (omega arith) (omega arith), a.sound.count_high)
 
   pub number_fits : number ≤ v
   number_fits = omega (arith, h.number_is, count_to_le v (has_mark (plan t) begins))
 
-  pub sum_fits : (w : ℕ) → w ≡ weight_at t (v + 1) → (sum ≤ limit_of t) × (w ≤ limit_of t)
+  sum_fits : (w : ℕ) → w ≡ weight_at t (v + 1) → (sum ≤ limit_of t) × (w ≤ limit_of t)
   sum_fits w e = (
     omega (arith, h.sum_is, depth_within a v (page_to t (plan t) v).number (omega arith)),
     omega (arith, a.light (v + 1) (omega arith) (omega arith)),
@@ -89,7 +94,7 @@ module _ {t : List ℕ} {v : ℕ} {before parents pages : List ℕ} {number sum 
     parent_less : parent ≤ v
     parent_less = omega (arith, parent_here, parent_at_less t (v + 1) (omega arith))
 
-    pub parent_fits : parent < slots
+    parent_fits : parent < slots
     parent_fits = omega (arith, parent_less, a.sound.count_high)
 
     -- the pages of its parent and of the sibling before it
@@ -137,7 +142,7 @@ module _ {t : List ℕ} {v : ℕ} {before parents pages : List ℕ} {number sum 
           (omega (arith, h.marks_long), mark_is ∙ ap (λ (i : ℕ). get_or (plan t) i 0) (sym same)))
           (λ other. h.marks_to k low (omega arith))
 
-      pub depth_turn : (x n s : ℕ) → x ≡ next_at t (v + 1) → Paged n s
+      depth_turn : (x n s : ℕ) → x ≡ next_at t (v + 1) → Paged n s
           → DepthTo t (v + 1) (set before x (v + 1)) (set parents (v + 1) parent) (set pages (v + 1) n) n s
           (set marks (v + 1 - 1) mark)
       depth_turn x n s x-is paged =
@@ -159,11 +164,122 @@ module _ {t : List ℕ} {v : ℕ} {before parents pages : List ℕ} {number sum 
             marks_to = marks_turn;
           }
 
-pub depth_end : {t : List ℕ} {v : ℕ} {before parents pages : List ℕ} {number sum : ℕ} {marks : List ℕ}
-    → AcceptedFacts t → DepthTo t v before parents pages number sum marks → node_count t ≤ v → marks ≡ plan t
+-- ---- The same by what an array has of each node
+
+abbrev none_seen : Seen
+none_seen = record { before = 0; parent = 0; page = 0 }
+
+abbrev befores : List Seen → List ℕ
+befores = map (λ (x : Seen). x.before)
+
+abbrev parents_of : List Seen → List ℕ
+parents_of = map (λ (x : Seen). x.parent)
+
+abbrev pages_of : List Seen → List ℕ
+pages_of = map (λ (x : Seen). x.page)
+
+pub record SeenTo (t : List ℕ) (v : ℕ) (nodes : List Seen) (number sum : ℕ) (marks : List ℕ) : Type 0 where
+  pub depth : DepthTo t v (befores nodes) (parents_of nodes) (pages_of nodes) number sum marks
+
+map-none : (f : Seen → ℕ) (n : ℕ) → map f (replicate n none_seen) ≡ replicate n (f none_seen)
+map-none f zero = refl
+map-none f (suc n) = ap (λ (l : List ℕ). f none_seen ∷ l) (map-none f n)
+
+pub seen_start : (t marks : List ℕ) → length marks ≡ node_count t → SeenTo t 0 (replicate slots none_seen) 0 0 marks
+seen_start t marks long =
+    record {
+      depth = rw (
+        map-none (λ (x : Seen). x.before) slots,
+        map-none (λ (x : Seen). x.parent) slots,
+        map-none (λ (x : Seen). x.page) slots,
+      ) (depth_start t marks long);
+    }
+
+-- what an array has of a node
+abbrev at : List Seen → ℕ → Seen
+at nodes u = get_or nodes u none_seen
+
+-- the parent of node w: where no sibling is before it, that is the node before it
+abbrev pub ParentAs : List Seen → ℕ → ℕ → Type 0
+ParentAs nodes w parent = parent ≡ pick (eqb (at nodes w).before 0) (w - 1) (at nodes (at nodes w).before).parent
+
+-- what is stored in the turn of node w, and of node x just after it
+abbrev pub stored : List Seen → ℕ → ℕ → ℕ → ℕ → List Seen
+stored nodes w parent page x =
+    let one : List Seen =
+    set nodes w (record { before = (at nodes w).before; parent = parent; page = (at nodes w).page }) in
+    let two : List Seen =
+    set one w (record { before = (at one w).before; parent = (at one w).parent; page = page }) in
+    set two x (record { before = w; parent = (at two x).parent; page = (at two x).page })
+
+-- the turn of node w
+module _ {t : List ℕ} {v : ℕ} {nodes : List Seen} {number sum : ℕ} {marks : List ℕ} (a : AcceptedFacts t)
+    (h : SeenTo t v nodes number sum marks) (less : v < node_count t) (w : ℕ) (is : w ≡ v + 1) where
+  before_is : get_or (befores nodes) (v + 1) 0 ≡ (at nodes w).before
+  before_is = rw is (get_or-map (λ (x : Seen). x.before) nodes (v + 1) none_seen)
+
+  parent_as : (parent : ℕ) → ParentAs nodes w parent
+      → parent
+      ≡ pick (eqb (get_or (befores nodes) (v + 1) 0) 0) (v + 1 - 1)
+      (get_or (parents_of nodes) (get_or (befores nodes) (v + 1) 0) 0)
+  parent_as parent e =
+      rw (before_is, get_or-map (λ (x : Seen). x.parent) nodes (at nodes w).before none_seen, ← is) e
+
+  pub before_fits : (at nodes w).before < slots
+  before_fits = rw before_is at (u_fits a h.depth less)
+
+  pub after_fits : (x : ℕ) → x ≡ next_at t w → x < slots
+  after_fits x e = rw (e, is) (next_fits a h.depth less)
+
+  pub page_fits : (k : ℕ) → k ≡ weight_at t w → (sum ≤ limit_of t) × (k ≤ limit_of t)
+  page_fits = rw is (sum_fits a h.depth less)
+
+  pub parent_slot : (parent : ℕ) → ParentAs nodes w parent → parent < slots
+  parent_slot parent e = parent_fits a h.depth less parent (parent_as parent e)
+
+  pub node_turn : (parent : ℕ) → ParentAs nodes w parent → (mark limit k : ℕ) → limit ≡ limit_of t → k ≡ weight_at t w
+      → mark
+      ≡ page_mark limit k (at nodes parent).page (at nodes (at nodes w).before).page
+      (record { number = number; weight = sum })
+      → (x n s : ℕ) → x ≡ next_at t w
+      → ((mark ≡ 1) × (n ≡ number + 1) × (s ≡ k)) ⊎ ((mark ≡ 1 → ⊥) × (n ≡ number) × (s ≡ sum + k))
+      → SeenTo t w (stored nodes w parent n x) n s (set marks (w - 1) mark)
+  node_turn parent e mark limit k le ke me x n s xe paged =
+      let f : Seen → ℕ = λ (y : Seen). y.before in
+      let g : Seen → ℕ = λ (y : Seen). y.parent in
+      let q : Seen → ℕ = λ (y : Seen). y.page in
+      let one : List Seen =
+      set nodes w (record { before = (at nodes w).before; parent = parent; page = (at nodes w).page }) in
+      let two : List Seen =
+      set one w (record { before = (at one w).before; parent = (at one w).parent; page = n }) in
+      let three : Seen = record { before = w; parent = (at two x).parent; page = (at two x).page } in
+      let befores_are : befores (stored nodes w parent n x) ≡ set (befores nodes) x w =
+      map-set f two x three
+      ∙ ap (λ (l : List ℕ). set l x w) (map-set_same f one w _ none_seen refl ∙ map-set_same f nodes w _ none_seen refl) in
+      let parents_are : parents_of (stored nodes w parent n x) ≡ set (parents_of nodes) w parent =
+      map-set_same g two x three none_seen refl ∙ map-set_same g one w _ none_seen refl ∙ map-set g nodes w _ in
+      let pages_are : pages_of (stored nodes w parent n x) ≡ set (pages_of nodes) w n =
+      map-set_same q two x three none_seen refl ∙ map-set q one w _
+      ∙ ap (λ (l : List ℕ). set l w n) (map-set_same q nodes w _ none_seen refl) in
+      let mark_as : mark
+      ≡ page_mark limit k (get_or (pages_of nodes) parent 0)
+      (get_or (pages_of nodes) (get_or (befores nodes) (v + 1) 0) 0) (record { number = number; weight = sum }) =
+      rw (before_is, get_or-map q nodes parent none_seen, get_or-map q nodes (at nodes w).before none_seen) me in
+      let turn : DepthTo t w (set (befores nodes) x w) (set (parents_of nodes) w parent) (set (pages_of nodes) w n) n s
+      (set marks (w - 1) mark) =
+      rw is
+      (depth_turn a h.depth less parent (parent_as parent e) mark limit k le (rw is at ke) mark_as x n s (rw is at xe)
+      paged) in
+      record { depth = rw (befores_are, parents_are, pages_are) turn }
+
+-- what has a place or fits in a turn
+pub ruleset turn_fits = (before_fits, after_fits, page_fits)
+
+pub depth_end : {t : List ℕ} {v : ℕ} {nodes : List Seen} {number sum : ℕ} {marks : List ℕ}
+    → AcceptedFacts t → SeenTo t v nodes number sum marks → node_count t ≤ v → marks ≡ plan t
 unfolding mark_at
 depth_end {t} {marks = marks} a h all =
-    ext_get_or 0 marks (plan t) (h.marks_long ∙ sym (depth_long a))
+    ext_get_or 0 marks (plan t) (h.depth.marks_long ∙ sym (depth_long a))
     (λ i fits.
     let same : suc i - 1 ≡ i = omega arith in
-    rw same at (h.marks_to (suc i) (omega arith) (omega (arith, h.marks_long))))
+    rw same at (h.depth.marks_to (suc i) (omega arith) (omega (arith, h.depth.marks_long))))

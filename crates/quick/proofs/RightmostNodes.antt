@@ -1,6 +1,6 @@
 -- The nodes are settled from the last to the first: what is kept of a node's children, what a node adds to it, and the
 -- plan when all are settled.
--- Proves settle_cuts, sum_fits, settled_start, settled_node, settled_plan. Assumes nothing.
+-- Proves last_kid_lem, settle_cuts, sum_fits, settled_start, settled_node, settled_plan. Assumes nothing.
 use Prim.Native.Nat.{ℕ, zero, suc, ◌+◌, ◌-◌, ◌*◌, ◌≤◌, ◌<◌}
 use native.Mathlib.Omega.{arith}
 use mathlib.Core.Path.{◌≡◌, refl, sym, ◌∙◌, ap}
@@ -27,7 +27,13 @@ use Rattle.theory.specs.LaidByNumber.{back_along, ChildrenLaid, marks_laid}
 use Rattle.theory.specs.RightmostShape.{right_fits, kids_within}
 use Rattle.quick.specs.Rightmost.{kid_rests, rest_at, rests_to, rest_in, rests_in, most_sum, CutReady, CutDone, Tail}
 use Rattle.quick.specs.Rightmost.{last_kid, Settled}
+use Rattle.quick.specs.declared.rightmost.Siblings.{Siblings}
 use Rattle.quick.proofs.RightmostRuns.{mark_same, mark_other}
+
+-- the last child of a node, by its first
+pub last_kid_lem : (t lasts : List ℕ) (f last m : ℕ) → f ≡ first_at t m → last ≡ get_or lasts f 0
+    → last ≡ last_kid t lasts m
+last_kid_lem t lasts f last m f-is last_is = rw f-is at last_is
 
 -- ---- Remainders and their sums
 
@@ -68,9 +74,18 @@ record Kids (t : List ℕ) (v last sum : ℕ) : Type 0 where
   list : kid_rests t v ≡ rests_to t last
   sum_is : total (rests_to t last) ≡ sum
 
-module _ {t prevs rests sums lasts marks : List ℕ} {m : ℕ} (s : Settled t prevs rests sums lasts marks m) where
+module _ {t marks : List ℕ} {nodes : Siblings} {m : ℕ} (tree : AcceptedFacts t) (s : Settled t nodes marks m) where
   abbrev sound : SoundFacts t
-  sound = s.tree.sound
+  sound = tree.sound
+
+  abbrev rests : List ℕ
+  rests = nodes.rests
+
+  abbrev sums : List ℕ
+  sums = nodes.sums
+
+  abbrev lasts : List ℕ
+  lasts = nodes.lasts
 
   kids_of_lem : (v : ℕ) → m ≤ v → 1 ≤ v → v ≤ node_count t → Kids t v (last_kid t lasts v) (get_or sums (first_at t v) 0)
   unfolding right_rests siblings_by total pick
@@ -112,36 +127,26 @@ module _ {t prevs rests sums lasts marks : List ℕ} {m : ℕ} (s : Settled t pr
         (λ u one top e. s.rests_are u (omega (arith, parent_at_less t u one)) top) (last_kid t lasts m) kids.child
 
     -- what the cuts of its children ask
-    pub settle_cuts : (f last sum : ℕ) → f ≡ first_at t m → last ≡ get_or lasts f 0 → sum ≡ get_or sums f 0
-        → CutReady t prevs rests marks m last sum
-    settle_cuts f last sum e p q =
-        let at : last ≡ last_kid t lasts m = rw e at p in
-        let total_at : sum ≡ total (rests_in t rests last) =
-        rw e at q ∙ sym kids.sum_is ∙ ap total (sym rests_same) ∙ ap (λ u. total (rests_in t rests u)) (sym at) in
+    pub settle_cuts : CutReady t nodes.before rests marks m (last_kid t lasts m) (get_or sums (first_at t m) 0)
+    settle_cuts =
         record {
-          tree = s.tree;
           linked = s.linked;
           low = low;
           high = high;
           long = s.long;
           light = s.light;
-          last_child = rw at kids.child;
-          sum_is = total_at;
+          last_child = kids.child;
+          sum_is = sym kids.sum_is ∙ ap total (sym rests_same);
           small = omega (
             arith,
-            rw e at q,
             kids.sum_is,
-            sum_small s.tree (last_kid t lasts m) (child_high t m (last_kid t lasts m) kids.child),
+            sum_small tree (last_kid t lasts m) (child_high t m (last_kid t lasts m) kids.child),
           );
         }
 
-    module _ {marks' : List ℕ} (f last rest : ℕ) (f-is : f ≡ first_at t m) (last_is : last ≡ get_or lasts f 0)
-        (d : CutDone t rests m last marks marks' rest) where
-      last_kid_lem : last ≡ last_kid t lasts m
-      last_kid_lem = rw f-is at last_is
-
-      rests_are : rests_in t rests last ≡ kid_rests t m
-      rests_are = rw last_kid_lem (rests_same ∙ sym kids.list)
+    module _ {marks' : List ℕ} (rest : ℕ) (d : CutDone t rests m (last_kid t lasts m) marks marks' rest) where
+      rests_are : rests_in t rests (last_kid t lasts m) ≡ kid_rests t m
+      rests_are = rests_same ∙ sym kids.list
 
       -- the node's remainder, and its children's marks
       pub rest_is : rest ≡ rest_at t m
@@ -151,8 +156,7 @@ module _ {t prevs rests sums lasts marks : List ℕ} {m : ℕ} (s : Settled t pr
       cuts_here : siblings_back t (mark_at marks') (last_kid t lasts m)
           ≡ cut_runs (limit_of t) (weight_at t m) (kid_rests t m)
       cuts_here =
-          ap (siblings_back t (mark_at marks')) (sym last_kid_lem) ∙ d.cut
-          ∙ ap (cut_runs (limit_of t) (weight_at t m)) rests_are
+          d.cut ∙ ap (cut_runs (limit_of t) (weight_at t m)) rests_are
 
       -- the node and the siblings after it
       list_step : siblings_by (right_rest (limit_of t)) (chain_at t m) (rests_to t (prev_at t m))
@@ -198,7 +202,7 @@ module _ {t prevs rests sums lasts marks : List ℕ} {m : ℕ} (s : Settled t pr
       pub sum_fits : (next : ℕ) → next ≡ next_at t m → rest + get_or sums next 0 ≤ most_sum
       sum_fits next e =
           let x = tail_here next e in
-          omega (arith, x.sums, sum_small s.tree (pick (eqb next 0) m (get_or lasts next 0)) x.high)
+          omega (arith, x.sums, sum_small tree (pick (eqb next 0) m (get_or lasts next 0)) x.high)
 
       -- the node joins those that are settled
       module _ (next last' : ℕ) (next_is : next ≡ next_at t m)
@@ -214,7 +218,7 @@ module _ {t prevs rests sums lasts marks : List ℕ} {m : ℕ} (s : Settled t pr
             (λ b. let other = eqb-false u m b in there u other (omega arith) top) (bool_cases (eqb u m))
 
         fits : m < slots
-        fits = omega (arith, s.tree.sound.count_high)
+        fits = omega (arith, tree.sound.count_high)
 
         rest_stored : rest_in (set rests m rest) m ≡ rest
         rest_stored = get_or-set_same rests m rest 0 (omega (arith, fits, s.wide.0))
@@ -222,7 +226,7 @@ module _ {t prevs rests sums lasts marks : List ℕ} {m : ℕ} (s : Settled t pr
         light : (u : ℕ) → rest_in (set rests m rest) u ≤ limit_of t
         light u =
             ⊎_elim
-            (λ b. rw (eqb-true u m b) (omega (arith, rest_stored, rest_is, rest_light s.tree m low high)))
+            (λ b. rw (eqb-true u m b) (omega (arith, rest_stored, rest_is, rest_light tree m low high)))
             (λ b. omega (arith, get_or-set_other rests m u rest 0 (eqb-false u m b), s.light u)) (bool_cases (eqb u m))
 
         tails : (u : ℕ) → m - 1 < u → u ≤ node_count t → Tail t u (get_or (set lasts m last') u 0) (get_or (set sums m sum') u 0)
@@ -254,10 +258,14 @@ module _ {t prevs rests sums lasts marks : List ℕ} {m : ℕ} (s : Settled t pr
             ∙ s.cuts u more top)
 
         pub settled_node : length marks' ≡ length marks
-            → Settled t prevs (set rests m rest) (set sums m sum') (set lasts m last') marks' (m - 1)
+            → Settled t (record {
+              before = nodes.before;
+              rests = set rests m rest;
+              sums = set sums m sum';
+              lasts = set lasts m last';
+            }) marks' (m - 1)
         settled_node same =
             record {
-              tree = s.tree;
               linked = s.linked;
               wide = (simp length-set s.wide.0, simp length-set s.wide.1, simp length-set s.wide.2);
               long = same ∙ s.long;
@@ -273,12 +281,16 @@ module _ {t prevs rests sums lasts marks : List ℕ} {m : ℕ} (s : Settled t pr
 
 -- ---- The plan
 
-pub settled_start : {t prevs marks : List ℕ} → AcceptedFacts t → SiblingsLinked t prevs → length marks ≡ node_count t
-    → Settled t prevs (replicate slots 0) (replicate slots 0) (replicate slots 0) marks (node_count t)
-settled_start {t} a l long =
+pub settled_start : {t prevs marks : List ℕ} → SiblingsLinked t prevs → length marks ≡ node_count t
+    → Settled t (record {
+      before = prevs;
+      rests = replicate slots 0;
+      sums = replicate slots 0;
+      lasts = replicate slots 0;
+    }) marks (node_count t)
+settled_start {t} l long =
     let wide : length {A = ℕ} (replicate slots 0) ≡ slots = length-replicate {A = ℕ} slots 0 in
     record {
-      tree = a;
       linked = l;
       wide = (wide, wide, wide);
       long = long;
@@ -290,7 +302,7 @@ settled_start {t} a l long =
       cuts = λ u more top. absurd (omega arith);
     }
 
-module _ {t prevs rests sums lasts marks : List ℕ} (s : Settled t prevs rests sums lasts marks 0) where
+module _ {t marks : List ℕ} {nodes : Siblings} (tree : AcceptedFacts t) (s : Settled t nodes marks 0) where
   abbrev plan : List ℕ
   plan = set marks 0 1
 
@@ -298,14 +310,15 @@ module _ {t prevs rests sums lasts marks : List ℕ} (s : Settled t prevs rests 
   laid : (u : ℕ) → 1 ≤ u → u ≤ node_count t
       → ChildrenLaid t (λ w kids m. reverse (cut_runs (limit_of t) w (right_rests (limit_of t) kids))) (mark_at plan) u
   laid u low high =
-      let k = kids_of_lem s u (omega arith) low high in
+      let lasts : List ℕ = nodes.lasts in
+      let k = kids_of_lem tree s u (omega arith) low high in
       let same : siblings_back t (mark_at plan) (last_kid t lasts u) ≡ siblings_back t (mark_at marks) (last_kid t lasts u) =
       siblings_back_same t (mark_at plan) (mark_at marks) u
       (λ x one top e. mark_other marks 1 x 1 (omega arith) one
       (λ z. omega (arith, e, ap (parent_at t) z, parent_at_one t))) (last_kid t lasts u) k.child in
       record {
         chosen = reverse (siblings_back t (mark_at plan) (last_kid t lasts u));
-        along = back_along s.tree.sound (mark_at plan) u low (last_kid t lasts u) k.child k.link;
+        along = back_along tree.sound (mark_at plan) u low (last_kid t lasts u) k.child k.link;
         same = ap reverse (sym (same ∙ s.cuts u (omega arith) high));
       }
 
@@ -313,9 +326,9 @@ module _ {t prevs rests sums lasts marks : List ℕ} (s : Settled t prevs rests 
   unfolding rightmost_marks mark_at
   settled_plan =
       let one : mark_at plan 1 ≡ 1 =
-      mark_same marks 1 1 (omega arith) (omega (arith, s.long, s.tree.sound.count_low)) in
+      mark_same marks 1 1 (omega arith) (omega (arith, s.long, tree.sound.count_low)) in
       sym
       (ap (λ k. lay_rightmost (limit_of t) (tree_of t) (k ∷ [])) (sym one)
       ∙ marks_laid t (λ (m : ℕ). m) (λ w kids m. reverse (cut_runs (limit_of t) w (right_rests (limit_of t) kids)))
       (mark_at plan) plan (simp length-set s.long) (λ u h. ap (λ i. get_or plan i 0) (omega arith)) laid
-      s.tree.sound)
+      tree.sound)

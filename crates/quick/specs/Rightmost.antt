@@ -6,10 +6,10 @@ use Rattle.model.specs.Basics.{pick}
 use Rattle.model.specs.Table.{max_nodes, max_limit, slots, node_count, limit_of, weight_at, first_at, next_at}
 use Rattle.model.specs.Plan.{prev_at, parent_at, stays, begins, continues, mark_at}
 use Rattle.model.specs.Steps.{siblings_by, total, cut_runs, right_rest, right_rests}
-use Rattle.theory.specs.TableFacts.{AcceptedFacts}
 use Rattle.theory.specs.TableChain.{chain_at}
 use Rattle.theory.specs.SiblingsBack.{ChildOrNone, SiblingsLinked}
 use Rattle.theory.specs.LaidByNumber.{siblings_back}
+use Rattle.quick.specs.declared.rightmost.Siblings.{Siblings}
 
 -- the mark of a child that is cut or not, whose run goes on to the left or not
 unfoldable pub run_mark : Bool → Bool → ℕ
@@ -44,7 +44,6 @@ abbrev pub most_sum : ℕ
 most_sum = max_limit * max_nodes
 
 pub record CutReady (t prevs rests marks : List ℕ) (v last sum : ℕ) : Type 0 where
-  pub tree : AcceptedFacts t
   pub linked : SiblingsLinked t prevs
   pub low : 1 ≤ v
   pub high : v ≤ node_count t
@@ -76,15 +75,14 @@ abbrev pub last_kid : List ℕ → List ℕ → ℕ → ℕ
 last_kid t lasts v = get_or lasts (first_at t v) 0
 
 -- the nodes after v have their remainders and tails, and their children's marks
-pub record Settled (t prevs rests sums lasts marks : List ℕ) (v : ℕ) : Type 0 where
-  pub tree : AcceptedFacts t
-  pub linked : SiblingsLinked t prevs
-  pub wide : (length rests ≡ slots) × (length sums ≡ slots) × (length lasts ≡ slots)
+pub record Settled (t : List ℕ) (n : Siblings) (marks : List ℕ) (v : ℕ) : Type 0 where
+  pub linked : SiblingsLinked t n.before
+  pub wide : (length n.rests ≡ slots) × (length n.sums ≡ slots) × (length n.lasts ≡ slots)
   pub long : length marks ≡ node_count t
-  pub light : (u : ℕ) → rest_in rests u ≤ limit_of t
-  pub no_sum : get_or sums 0 0 ≡ 0
-  pub no_last : get_or lasts 0 0 ≡ 0
-  pub rests_are : (u : ℕ) → v < u → u ≤ node_count t → rest_in rests u ≡ rest_at t u
-  pub tails : (u : ℕ) → v < u → u ≤ node_count t → Tail t u (get_or lasts u 0) (get_or sums u 0)
+  pub light : (u : ℕ) → rest_in n.rests u ≤ limit_of t
+  pub no_sum : get_or n.sums 0 0 ≡ 0
+  pub no_last : get_or n.lasts 0 0 ≡ 0
+  pub rests_are : (u : ℕ) → v < u → u ≤ node_count t → rest_in n.rests u ≡ rest_at t u
+  pub tails : (u : ℕ) → v < u → u ≤ node_count t → Tail t u (get_or n.lasts u 0) (get_or n.sums u 0)
   pub cuts : (u : ℕ) → v < u → u ≤ node_count t
-      → siblings_back t (mark_at marks) (last_kid t lasts u) ≡ cut_runs (limit_of t) (weight_at t u) (kid_rests t u)
+      → siblings_back t (mark_at marks) (last_kid t n.lasts u) ≡ cut_runs (limit_of t) (weight_at t u) (kid_rests t u)

@@ -4,7 +4,7 @@ use Rattle.greedy.proofs.Scan.{HeaviestTo}
 use Rattle.greedy.proofs.single.find_heaviest.Given as goal
 
 abbrev pub invariant-loop-u : goal.invariant-loop-u
-invariant-loop-u l = HeaviestTo l.table l.scratch l.v l.best l.u
+invariant-loop-u l = HeaviestTo l.kept.tree.table.now l.kept.scratch.now l.v l.best l.u
 
 abbrev pub decreases-loop-u : goal.decreases-loop-u
-decreases-loop-u l = size (chain_at l.table l.u)
+decreases-loop-u l = size (chain_at l.kept.tree.table.now l.u)

@@ -8,8 +8,9 @@ use Rattle.greedy.proofs.single.sum_rests.Given as goal
 
 abbrev pub invariant-loop-u : goal.invariant-loop-u
 invariant-loop-u l =
-    (l.u ≤ node_count l.table)
-    × (l.sum + rest_at l.table l.scratch l.u (chain_at l.table l.u) ≡ rest_at l.table l.scratch l.v (chain_at l.table l.v))
+    let t = l.kept.tree.table.now in
+    let s = l.kept.scratch.now in
+    (l.u ≤ node_count t) × (l.sum + rest_at t s l.u (chain_at t l.u) ≡ rest_at t s l.v (chain_at t l.v))
 
 abbrev pub decreases-loop-u : goal.decreases-loop-u
-decreases-loop-u l = size (chain_at l.table l.u)
+decreases-loop-u l = size (chain_at l.kept.tree.table.now l.u)
