@@ -1,11 +1,9 @@
--- The steps of each planner, what they leave before the plan is judged, and what a planner is lent where nothing is
--- refused.
--- Defines steps_of, laid_by, PlanReady. Proves steps_judged. Assumes nothing.
-use Rattle.std.specs.Prelude.{ℕ, ◌≤◌, ◌≡◌, List, length, replicate}
+-- The steps of each planner, and what a planner is lent where nothing is refused.
+-- Defines steps_of, PlanReady. Proves steps_judged. Assumes nothing.
+use Rattle.std.specs.Prelude.{ℕ, ◌≤◌, ◌≡◌, List, length}
 use Rattle.model.specs.Table.{node_count, limit_of, Chain, tree_of}
 use Rattle.model.specs.Steps.{best_marks, level_marks, single_marks, pair_marks, rightmost_marks, depth_first_marks}
-use Rattle.model.specs.Refusals.{scratch_words, plan_checks, accepted, Outcome, checked, PlanBuffers}
-use Rattle.model.specs.declared.Answer.{Answer}
+use Rattle.model.specs.Refusals.{scratch_words}
 use Rattle.theory.specs.TableFacts.{AcceptedFacts}
 use Rattle.theory.specs.PlanFeasible.{Judged}
 use Rattle.theory.specs.DepthFirst.{depth_first_judged}
@@ -22,13 +20,6 @@ steps_of Pair = pair_marks
 steps_of Rightmost = rightmost_marks
 steps_of DepthFirst = depth_first_marks
 
--- the plan that they make, with cleared scratch; else what was lent
-unfoldable pub laid_by : (ℕ → Chain → List ℕ) → List ℕ → List ℕ → List ℕ → Outcome Answer PlanBuffers
-laid_by steps t m s =
-    checked (plan_checks t m s) accepted
-    (record { marks = steps (limit_of t) (tree_of t); scratch = replicate (length s) 0 })
-    (record { marks = m; scratch = s })
-
 -- the plan that they make of an accepted tree is feasible
 pub steps_judged : (p : Planner) {t : List ℕ} → AcceptedFacts t → Judged t (steps_of p (limit_of t) (tree_of t))
 steps_judged Best a = best_judged a
@@ -38,8 +29,7 @@ steps_judged Pair a = pair_judged a
 steps_judged Rightmost a = rightmost_judged a
 steps_judged DepthFirst a = depth_first_judged a
 
--- what PlanLent says, with the facts of an accepted tree: the marks are one a node, and the scratch is long enough
+-- what PlanLent says but for the tree: the marks are one a node, and the scratch is long enough
 pub record PlanReady (t a s : List ℕ) : Type 0 where
-  pub tree : AcceptedFacts t
   pub marks_long : length a ≡ node_count t
   pub words : scratch_words (node_count t) (limit_of t) ≤ length s

@@ -1,2 +1,3 @@
 pub mod LayoutTotal
+pub mod PricedPlans
 pub mod SavedPlans

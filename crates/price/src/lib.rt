@@ -1,5 +1,5 @@
-// The film maker's price of a plan, and what the best plan saves against the single-cut plan. Fewest pages is not lowest
-// price: a saving can be below zero.
+// The film maker's price of a plan, and what the best plan saves against the single-cut plan. Fewest pages is not
+// lowest price: a saving can be below zero.
 #![tactic(auto)]
 
 mod priced;

@@ -1,10 +1,11 @@
-// What pages cost: the film maker's prices by fill, and the sum over pages.
-ghost use Rattle.std.specs.Prelude.{◌≡◌, ◌≤◌, get_or};
+// What pages cost: the film maker's prices by fill, and the price of a plan, the sum over its pages.
+ghost use Rattle.std.specs.Prelude.{◌≡◌, ◌≤◌, ◌*◌, get_or};
 ghost use Rattle.model.specs.Basics.{sum_to};
 ghost use Rattle.model.specs.Prices.{full_fill, fill_of, price_at, cents_for};
 ghost use Rattle.layout.specs.Rows.{LightPages};
 
-use table::SLOTS;
+use layout::Layout;
+use model::{PlanSize, Price};
 
 const FULL_FILL: u32 = 15;
 
@@ -21,23 +22,27 @@ fn fill_of(weight: u32, limit: u16) -> u32
     FULL_FILL * weight / (limit as u32)
 }
 
+#[tactic(auto, using(theory::proofs::PricePages::price_range))]
 fn price_at(fill: u32) -> u32
     requires { fill ≤ full_fill }
-    ensures { result ≡ price_at fill }
+    ensures value { result ≡ price_at fill }
+    ensures most { result ≤ 410 }
 {
     PRICES[fill as usize]
 }
 
-// The cents of so many pages, by their weights.
-pub fn total(weights: &[u32; SLOTS], pages: u16, limit: u16) -> u32
-    requires { LightPages weights.now pages limit }
-    ensures { result ≡ sum_to pages (λ p. cents_for (get_or weights.now p 0) limit) }
+// The price of a plan by its layout.
+#[tactic(auto, using(crate::proofs::LayoutTotal::adding))]
+pub fn price_of(plan: PlanSize, layout: &Layout, limit: u16) -> Price
+    requires { LightPages layout.now.weights layout.now.pages limit }
+    ensures plan_same { result.plan ≡ plan }
+    ensures cents_value { result.cents
+        ≡ sum_to layout.now.pages (λ p. cents_for (get_or layout.now.weights p 0) limit) }
+    ensures most { result.cents ≤ 410 * layout.now.pages }
 {
     let mut cents = 0;
-    let mut p: u16 = 0;
-    while p < pages {
-        p += 1;
-        cents += price_at(fill_of(weights[p as usize], limit));
+    for page in 1..=layout.pages {
+        cents += price_at(fill_of(layout.weights[page as usize], limit));
     }
-    cents
+    Price { plan, cents }
 }

@@ -1,38 +1,33 @@
-use Rattle.std.proofs.Common.{◌≡◌, sym, ap, ◌∙◌, rules}
-use Rattle.std.proofs.Math.Path.{ap₂}
-use Rattle.model.specs.Refusals.{plain_rules, judge_checks, outcome, price_plan}
-use Rattle.model.specs.Demand.{PricePromise}
-use Rattle.model.specs.declared.Answer.{Answer}
-use Rattle.theory.specs.Entries.{promised, entry_done, entry_stands}
-use Rattle.theory.specs.JudgedEntries.{judge_passes, judge_given, given_zero}
-use Rattle.theory.proofs.PromisePrice.{price_promise}
+use Rattle.std.proofs.Common.{◌≡◌, arith, rules}
+use Rattle.model.specs.Refusals.{answer_of, plain_rules, judge_by}
+use Rattle.model.specs.declared.Verdict.TheVariants.{Feasible}
+use Rattle.layout.specs.Rows.{FeasibleLayout}
 use Rattle.price.proofs.LayoutTotal.{layout_total}
+use Rattle.price.proofs.PricedPlans.{price_refused, price_done, price_promised}
 use Rattle.price.proofs.priced.price.Goals as goal
 
-pub returns-then-answer-ne0 : goal.returns-then-answer-ne0
-unfolding price_plan
-returns-then-answer-ne0 c =
-    let t = c.args.table.now in
-    let m = c.args.marks.now in
-    let both =
-    promised (PricePromise t m) (price_promise t m)
-    (entry_stands _ _ 0 (judge_checks plain_rules t m) (given_zero plain_rules t m)
-    c.judge_pages-judged.ensures.answer_value c.if-answer-ne0.true) in
-    record { cents_value = both.0; price_promise = both.1 }
+pub returns-in_err-verdict-clause-cents_value : goal.returns-in_err-verdict-clause-cents_value
+returns-in_err-verdict-clause-cents_value c = grind (arith, price_refused)
 
-pub returns : goal.returns
-unfolding price_plan
-returns c =
+pub returns-in_err-verdict-clause-price_promise : goal.returns-in_err-verdict-clause-price_promise
+returns-in_err-verdict-clause-price_promise c =
+    price_promised _ _ (returns-in_err-verdict-clause-cents_value c)
+
+pub returns-in_err-plan-clause-cents_value : goal.returns-in_err-plan-clause-cents_value
+returns-in_err-plan-clause-cents_value c = grind (arith, price_refused)
+
+pub returns-in_err-plan-clause-price_promise : goal.returns-in_err-plan-clause-price_promise
+returns-in_err-plan-clause-price_promise c = price_promised _ _ (returns-in_err-plan-clause-cents_value c)
+
+pub returns-clause-cents_value : goal.returns-clause-cents_value
+returns-clause-cents_value c =
+    let plan = c.price_of.result.plan in
     let t = c.args.table.now in
     let m = c.args.marks.now in
-    let answer = c.judge_pages-judged.ensures.answer_value in
-    let accepted : c.judge_pages-judged.result.answer.number ≡ 0 = search rules in
-    let layout = c.judge_pages-judged.ensures.laid_beside.feasible accepted in
-    let zero = sym (ap (λ (r : Answer). r.number) answer) ∙ accepted in
-    let f = judge_passes plain_rules t m zero in
-    let both =
-    promised (PricePromise t m) (price_promise t m)
-    (ap₂ outcome (answer ∙ judge_given plain_rules t m f)
-    (c.total-cents.ensures ∙ layout_total layout c.limit_of-limit.ensures)
-    ∙ sym (entry_done _ _ 0 (judge_checks plain_rules t m) f)) in
-    record { cents_value = both.0; price_promise = both.1 }
+    let told : answer_of (Feasible plan.pages plan.root) ≡ judge_by plain_rules t m = search rules in
+    let laid : FeasibleLayout t m c.judge_pages.new.layout = search rules in
+    let total = layout_total t m _ _ _ laid c.limit_of.ensures c.price_of.ensures.cents_value in
+    price_done t m plan.pages plan.root c.price_of.result.cents told total
+
+pub returns-clause-price_promise : goal.returns-clause-price_promise
+returns-clause-price_promise c = price_promised _ _ (returns-clause-cents_value c)

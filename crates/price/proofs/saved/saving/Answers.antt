@@ -1,37 +1,45 @@
-use Rattle.std.proofs.Common.{w32, ◌∙◌}
-use Rattle.std.proofs.lemmas.Int.{to_z-of_z}
-use Rattle.price.proofs.SavedPlans.{saved_both, single_refuses, single_fits, best_fits, saving_is}
+use Rattle.std.proofs.Common.{◌≡◌, rules, arith, w32, pos, ◌-ℤ◌, to_z, of_z}
+use Rattle.std.proofs.lemmas.Int.{ints}
+use Rattle.std.specs.declared.result.Result.TheVariants.{Err}
+use Rattle.model.specs.declared.Verdict.TheVariants.{Feasible}
+use Rattle.model.specs.Refusals.{answer_of, refusal_answer, plan_left, plan_single, plan_best}
+use Rattle.price.proofs.SavedPlans.{single_refuses, best_takes, saving_is, saving_promised}
 use Rattle.price.proofs.saved.saving.Goals as goal
 
-pub returns-then-refusal-ne0 : goal.returns-then-refusal-ne0
-returns-then-refusal-ne0 c =
-    let t = c.args.table.now in
-    let m = c.args.marks.now in
-    let s = c.args.scratch.now in
-    let both =
-    saved_both t m s (single_refuses t m s c.plan_priced-single.ensures.scratch_after c.if-refusal-ne0.true) in
-    record { saving_after = both.0; saving_promise = both.1 }
+pub returns-in_err-single : goal.returns-in_err-single
+returns-in_err-single c =
+    let a = c.args in
+    let refusal = c.in_err-single.field-0.0 in
+    let left = c.plan_priced.new in
+    let told : c.from_residual.result ≡ Err refusal = search rules in
+    let single : plan_left (refusal_answer refusal) left.marks left.scratch
+    ≡ plan_single a.table.now a.marks.now a.scratch.now = search rules in
+    let is = single_refuses a.table.now a.marks.now a.scratch.now _ _ refusal single in
+    rw told (record { saving_after = is; saving_promise = saving_promised _ _ _ _ _ _ _ is })
 
-pub less-saving-requires : goal.less-saving-requires
-less-saving-requires c =
-    let t = c.args.table.now in
-    let m = c.args.marks.now in
-    let s = c.args.scratch.now in
-    let one = c.plan_priced-single.ensures in
-    let two = c.plan_priced-best.ensures in (
-      single_fits t m s one.scratch_after c.if-refusal-ne0.false one.cents_value,
-      best_fits t m s one.scratch_after c.if-refusal-ne0.false two.scratch_after two.cents_value,
-    )
+pub returns-in_err-best : goal.returns-in_err-best
+returns-in_err-best c =
+    let a = c.args in
+    let single : plan_left (answer_of (Feasible c.in_ok-single.single.plan.pages c.in_ok-single.single.plan.root))
+    c.plan_priced.new.marks c.plan_priced.new.scratch
+    ≡ plan_single a.table.now a.marks.now a.scratch.now = search rules in
+    let best : plan_left (refusal_answer c.in_err-best.field-0.0) c.plan_priced-2.new.marks c.plan_priced-2.new.scratch
+    ≡ plan_best a.table.now c.plan_priced.new.marks c.plan_priced.new.scratch = search rules in
+    absurd (best_takes a.table.now a.marks.now a.scratch.now _ _ _ single _ _ _ best)
 
 pub returns : goal.returns
 returns c =
-    let t = c.args.table.now in
-    let m = c.args.marks.now in
-    let s = c.args.scratch.now in
-    let one = c.plan_priced-single.ensures in
-    let two = c.plan_priced-best.ensures in
-    let both =
-    saved_both t m s
-    (saving_is t m s one.scratch_after c.if-refusal-ne0.false two.scratch_after one.cents_value two.cents_value
-    (to_z-of_z w32 c.less-saving.result (record { sfits = c.less-saving.type_inv }) ∙ c.less-saving.ensures)) in
-    record { saving_after = both.0; saving_promise = both.1 }
+    let a = c.args in
+    let one = c.in_ok-single.single in
+    let two = c.in_ok-best.best in
+    let single : plan_left (answer_of (Feasible one.plan.pages one.plan.root)) c.plan_priced.new.marks
+    c.plan_priced.new.scratch ≡ plan_single a.table.now a.marks.now a.scratch.now = search rules in
+    let best : plan_left (answer_of (Feasible two.plan.pages two.plan.root)) c.plan_priced-2.new.marks
+    c.plan_priced-2.new.scratch
+    ≡ plan_best a.table.now c.plan_priced.new.marks c.plan_priced.new.scratch = search rules in
+    let less : to_z w32 (of_z w32 (to_z w32 one.cents -ℤ to_z w32 two.cents)) ≡ pos one.cents -ℤ pos two.cents =
+    omega (arith, ints, c.in_ok-single.ensures.fits, c.in_ok-best.ensures.fits) in
+    let is =
+    saving_is a.table.now a.marks.now a.scratch.now _ _ _ single _ _ _ best one.cents two.cents _
+    c.in_ok-single.ensures.cents_value c.in_ok-best.ensures.cents_value less in
+    record { saving_after = is; saving_promise = saving_promised _ _ _ _ _ _ _ is }
