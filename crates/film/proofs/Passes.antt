@@ -1,61 +1,71 @@
--- What the reader's passes have decoded: a first child, the table begun, and the whole. Assumes nothing.
-use Prim.Native.Nat.{ℕ, ◌+◌, ◌*◌, ◌≤◌, ◌<◌}
-use native.Mathlib.Omega.{arith}
-use mathlib.Core.Bool.{Bool, true, false, ◌&&◌}
-use mathlib.Core.Path.{◌≡◌, sym, ◌∙◌, ap, subst}
-use mathlib.Core.List.{List, [], ◌∷◌}
-use lib.ListN.{length, take}
-use lib.Dec.{eqb, ltb}
-use borrow.Author.Tests.{eq-eqb, ne_eqb, lt-ltb, le-ltb}
+-- What the reader's passes have decoded: in each, one more number, v after w, where n are done then; the table from its
+-- head on; and the whole. Assumes nothing.
+use Rattle.std.proofs.Common.{ℕ, ◌+◌, ◌*◌, ◌≤◌, ◌<◌, Bool, true, false, ◌≡◌, refl, sym, ◌∙◌, ap, subst, arith}
+use Rattle.std.proofs.Common.{List, [], ◌∷◌, length, get_or, set, take, eqb}
 use Rattle.model.specs.Basics.{pick}
 use Rattle.model.specs.Table.{node_count, table_bytes}
 use Rattle.model.specs.Refusals.{is_archive}
-use Rattle.model.specs.Archive.{nodes_in, limit_in, parent_in, first_in, table_in, marks_in}
+use Rattle.model.specs.Archive.{nodes_in, limit_in, pages_in, page_field_in, node_field_in, first_in}
+use Rattle.model.specs.Archive.{table_in, marks_in}
 use Rattle.model.specs.declared.Edition.{Edition}
-use Rattle.theory.specs.Bools.{and_true, and_false_left, and_false_right}
-use Rattle.theory.specs.Ranges.{pick_true, pick_false}
-use Rattle.theory.specs.Put.{put_word, Starts, starts_two}
+use Rattle.theory.specs.ArchiveWords.{Described}
+use Rattle.theory.specs.Put.{put_word, put_record, Starts, starts_two, RecordsPut, records_four}
 use Rattle.records.specs.Size.{film_slots, InRoom}
 use Rattle.records.specs.Links.{Linked}
-use Rattle.film.specs.DecodeTable.{WrittenBy, written_by, by_nodes, Loaded, links_in, links_at}
-use Rattle.film.specs.DecodeTable.{tree_upto, length-tree_upto, tree_decoded}
-use Rattle.film.specs.DecodeMarks.{Lasts, MarksInput, MarksRow, marks_decoded}
-
-module _ (e : Edition) (a : List ℕ) (v : ℕ) where
-  test : Bool
-  test = ltb v (nodes_in e a) && eqb (parent_in e a (v + 1)) v
-
-  pub first_last : nodes_in e a ≤ v → 0 ≡ first_in e a v
-  unfolding first_in test
-  first_last h =
-      sym
-      (pick_false test (v + 1) 0
-      (and_false_left (ltb v (nodes_in e a)) (eqb (parent_in e a (v + 1)) v) (le-ltb v (nodes_in e a) h)))
-
-  pub first_yes : v < nodes_in e a → parent_in e a (v + 1) ≡ v → v + 1 ≡ first_in e a v
-  unfolding first_in test
-  first_yes h is =
-      sym
-      (pick_true test (v + 1) 0
-      (and_true (ltb v (nodes_in e a)) (eqb (parent_in e a (v + 1)) v) (lt-ltb v (nodes_in e a) h)
-      (eq-eqb (parent_in e a (v + 1)) v is)))
-
-  pub first_no : (parent_in e a (v + 1) ≡ v → ⊥) → 0 ≡ first_in e a v
-  unfolding first_in test
-  first_no other =
-      sym
-      (pick_false test (v + 1) 0
-      (and_false_right (ltb v (nodes_in e a)) (eqb (parent_in e a (v + 1)) v) (ne_eqb (parent_in e a (v + 1)) v other)))
+use Rattle.film.specs.DecodeTable.{WrittenBy, written_by, by_nodes, fitted, Loaded, links_in, links_at}
+use Rattle.film.specs.DecodeTable.{tree_row, tree_wide, tree_row_lem, tree_upto, length-tree_upto, tree_decoded}
+use Rattle.film.specs.DecodeMarks.{run_end, mark_for, Lasts, LastsPass, lasts_turn, MarksInput, MarksRow, MarksPass}
+use Rattle.film.specs.DecodeMarks.{marks_turn, marks_decoded}
 
 pub sibling_small : (b : Bool) (x : ℕ) → x < film_slots → pick b 0 x < film_slots
 unfolding pick
 sibling_small true x h = omega arith
 sibling_small false x h = h
 
+-- ---- The passes
+
+pub lasts_more : {e : Edition} → Described e → (a l : List ℕ) (w v n pages first last : ℕ) → w + 1 ≡ v → v ≡ n
+    → LastsPass e a w l → pages ≡ fitted (pages_in e a) → length l ≡ film_slots → v ≤ pages
+    → first ≡ fitted (page_field_in e a v 0) → last ≡ page_field_in e a v 1 → LastsPass e a n (set l first last)
+lasts_more d a l w v n pages first last one all h is long high f g =
+    rw (← all, ← one)
+    (lasts_turn d a l w pages h is first last long (omega arith) (rw (sym one) at f) (rw (sym one) at g))
+
+pub tree_more : (e : Edition) (a links : List ℕ) (w v n at weight label first next : ℕ) (start o o' : List ℕ)
+    → w + 1 ≡ v → v ≡ n → RecordsPut (tree_row e a links) 2 w start o → at ≡ 2 + 4 * w → 2 * at + 8 ≤ length o
+    → weight ≡ node_field_in e a v 0 → label ≡ node_field_in e a v 1 → first ≡ first_in e a v
+    → next ≡ pick (eqb v 1) 0 (get_or links v 0) → o' ≡ put_record o at weight label first next
+    → RecordsPut (tree_row e a links) 2 n start o'
+tree_more e a links w v n at weight label first next start o o' one all h place room p q r s put =
+    rw (← all, ← one)
+    (records_four _ 4 (tree_wide e a links) 2 w start o o' at _ _ _ _ h place room put
+    (rw one (tree_row_lem e a links v weight label first next p q r s)))
+
+pub marks_more : (lasts links : List ℕ) (nodes w v n : ℕ) (out due : List ℕ) (end mark next : ℕ) → w + 1 ≡ v → v ≡ n
+    → MarksPass lasts links nodes w out due → length due ≡ film_slots → v ≤ nodes → v ≤ length out
+    → end ≡ run_end v (get_or lasts v 0) (get_or due v 0) → mark ≡ mark_for (get_or lasts v 0) end
+    → next ≡ pick (eqb v 1) 0 (get_or links v 0) → MarksPass lasts links nodes n (set out w mark) (set due next end)
+marks_more lasts links nodes w v n out due end mark next one all h long high room p q r =
+    rw (← all, ← one)
+    (marks_turn lasts links nodes w out due end mark next h long (omega arith) (omega arith) (rw (sym one) at p)
+    (rw (sym one) at q) (rw (sym one) at r))
+
 -- the head of the table
 pub tree_begin : (e : Edition) (a o o₁ o₂ : List ℕ) (n k : ℕ) → o₁ ≡ put_word o 0 n → o₂ ≡ put_word o₁ 1 k
     → n ≡ nodes_in e a → k ≡ limit_in e a → 4 ≤ length o → Starts o₂ (nodes_in e a ∷ limit_in e a ∷ [])
 tree_begin e a o o₁ o₂ n k e₁ e₂ n-is k-is room = rw (← n-is, ← k-is) (starts_two o o₁ o₂ n k e₁ e₂ room)
+
+-- ---- The whole
+
+-- the table, from its head and its records
+pub tree_put : (e : Edition) (a links o o₁ o₂ tree : List ℕ) (n k v : ℕ) → o₁ ≡ put_word o 0 n → o₂ ≡ put_word o₁ 1 k
+    → n ≡ nodes_in e a → k ≡ limit_in e a → 4 ≤ length o → v ≡ nodes_in e a
+    → RecordsPut (tree_row e a links) 2 v o₂ tree
+    → Starts tree (tree_upto e a links (nodes_in e a))
+unfolding tree_upto
+tree_put e a links o o₁ o₂ tree n k v e₁ e₂ n-is k-is room all put =
+    rw all at
+    (put (nodes_in e a ∷ limit_in e a ∷ []) refl (rw (← n-is, ← k-is) (starts_two o o₁ o₂ n k e₁ e₂ room)))
 
 -- what is decoded of an archive is what it tells
 pub decoded : {e : Edition} → InRoom e → (a parents links lasts tree plan : List ℕ) (n : ℕ) → n ≡ nodes_in e a

@@ -13,7 +13,7 @@ use Rattle.theory.specs.Ranges.{first_to_cong, order_cases}
 use Rattle.theory.specs.Lists.{get_d_set}
 use Rattle.theory.specs.Slots.{Row}
 use Rattle.theory.specs.ArchiveBack.{found_small}
-use Rattle.model.specs.declared.Place.{Place}
+use Rattle.std.specs.declared.option.Option.{Option}
 use Rattle.records.specs.Size.{film_slots}
 
 -- the next of v + 1 to n that f gives the key k, or 0
@@ -51,7 +51,7 @@ module _ (f : ℕ → ℕ) (n : ℕ) where
   next_with_skip : (v k : ℕ) → 1 ≤ v → (f v ≡ k → ⊥) → next_with f n (v - 1) k ≡ next_with f n v k
   unfolding next_with
   next_with_skip v k low other =
-      ap (λ (o : Place). at_place o (λ u. u) 0)
+      ap (λ (o : Option ℕ). at_place o (λ u. u) 0)
       (first_to_cong n (λ u. ltb (v - 1) u && eqb (f u) k) (λ u. ltb v u && eqb (f u) k)
       (λ u a b. same u (order_cases u v)))
     where
@@ -70,7 +70,7 @@ module _ (f : ℕ → ℕ) (n : ℕ) where
 pub next_with_cong : (f g : ℕ → ℕ) (n v k : ℕ) → Upto n (λ u. f u ≡ g u) → next_with f n v k ≡ next_with g n v k
 unfolding next_with
 next_with_cong f g n v k h =
-    ap (λ (o : Place). at_place o (λ u. u) 0)
+    ap (λ (o : Option ℕ). at_place o (λ u. u) 0)
     (first_to_cong n (λ u. ltb v u && eqb (f u) k) (λ u. ltb v u && eqb (g u) k)
     (λ u a b. ap (λ x. ltb v u && eqb x k) (h u a b)))
 

@@ -1,5 +1,6 @@
 // The editions of the archive and how large an archive is, its head and records put into an output, links and counts of
-// nodes. These are inner functions: writer, decoder and reader above see to room for their edition.
+// nodes. These are inner functions: a Format says that there is room for its edition, and writer, decoder and reader
+// above lend the arrays and an output of its length.
 #![tactic(auto)]
 
 pub mod counts;

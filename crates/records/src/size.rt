@@ -22,34 +22,49 @@ pub const SECOND_TABLE: usize = 4 + 8 * (SECOND_NODES as usize);
 // A place for each node or page of an archive by number, and one for 0, in whichever edition.
 pub const FILM_SLOTS: usize = (SECOND_NODES as usize) + 1;
 
-// The archive of document 01.
-pub fn first_edition() -> Edition
-    ensures { result ≡ first_edition }
-{
-    Edition {
-        head: 3,
-        page: 4,
-        most: FIRST_NODES,
-        filed: false,
-    }
+// An edition that there is room for.
+#[derive(Clone, Copy)]
+pub struct Format {
+    pub edition: Edition,
+    ghost in_room: { InRoom edition },
 }
 
-// That of document 02.
-pub fn second_edition() -> Edition
-    ensures { result ≡ second_edition }
-{
-    Edition {
-        head: 4,
-        page: 5,
-        most: SECOND_NODES,
-        filed: true,
+impl Format {
+    // That of document 01.
+    #[tactic(auto, using(crate::specs::Size::first_room))]
+    pub fn first() -> Format
+        ensures { result.edition ≡ first_edition }
+    {
+        Format {
+            edition: Edition {
+                head: 3,
+                page: 4,
+                most: FIRST_NODES,
+                filed: false,
+            },
+        }
     }
-}
 
-// How many bytes the archive of so many pages and nodes has.
-pub fn archive_bytes(e: Edition, pages: u16, nodes: u16) -> u32
-    requires { InRoom e }
-    ensures { result ≡ archive_bytes e pages nodes }
-{
-    2 * (e.head as u32) + 2 * (e.page as u32) * (pages as u32) + 8 * (nodes as u32)
+    // That of document 02.
+    #[tactic(auto, using(crate::specs::Size::second_room))]
+    pub fn second() -> Format
+        ensures { result.edition ≡ second_edition }
+    {
+        Format {
+            edition: Edition {
+                head: 4,
+                page: 5,
+                most: SECOND_NODES,
+                filed: true,
+            },
+        }
+    }
+
+    // How many bytes the archive of so many pages and nodes has.
+    pub fn archive_bytes(self, pages: u16, nodes: u16) -> u32
+        ensures { result ≡ archive_bytes self.edition pages nodes }
+    {
+        let edition = self.edition;
+        2 * (edition.head as u32) + 2 * (edition.page as u32) * (pages as u32) + 8 * (nodes as u32)
+    }
 }

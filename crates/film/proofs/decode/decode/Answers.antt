@@ -7,22 +7,26 @@ use Rattle.film.specs.DecodeTable.{fitted_small}
 use Rattle.film.proofs.Passes.{decoded}
 use Rattle.film.proofs.decode.decode.Goals as goal
 
-pub returns-then-e-nodes : goal.returns-then-e-nodes
-returns-then-e-nodes c = λ y.
-    absurd (true≢false (sym y ∙ too_many _ _ (omega arith)))
+pub returns-then-film-nodes : goal.returns-then-film-nodes
+returns-then-film-nodes c = λ y.
+    absurd (true≢false (sym y ∙ too_many _ _ (omega (arith, c.nodes-nodes.ensures))))
 
 pub link_next-links-requires : goal.link_next-links-requires
 link_next-links-requires c =
     let a = c.args in (
       omega arith,
       λ v low high.
-          omega (arith, c.load_parents-parents.ensures v low high, fitted_small (parent_in a.e a.archive.now v)),
+          omega (
+            arith,
+            c.load_parents-parents.ensures v low high,
+            fitted_small (parent_in a.film.format.edition a.film.archive.now v),
+          ),
       omega arith,
     )
 
 pub fill_marks-requires : goal.fill_marks-requires
 fill_marks-requires c =
-    let nodes = c.nodes_in-nodes.result in
+    let nodes = c.nodes-nodes.result in
     let parents = c.load_parents-parents.result in (
       omega arith,
       λ v low high.
@@ -36,7 +40,7 @@ fill_marks-requires c =
 
 pub returns : goal.returns
 returns c =
-    let nodes = c.nodes_in-nodes in
-    decoded c.requires.0 _ _ _ _ _ _ nodes.result nodes.ensures c.load_parents-parents.ensures
+    let nodes = c.nodes-nodes in
+    decoded c.args.film.format.in_room _ _ _ _ _ _ nodes.result nodes.ensures c.load_parents-parents.ensures
     c.link_next-links.ensures c.load_lasts-lasts.ensures c.fill_tree.ensures c.fill_marks.ensures
-    (omega arith)
+    (omega (arith, nodes.ensures))

@@ -1,13 +1,11 @@
 -- The records of the nodes passed stand after what stood before.
-use Rattle.std.proofs.Common.{◌≡◌, ◌+◌, ◌-◌, ◌*◌, ◌≤◌, length}
+use Rattle.std.proofs.Common.{◌+◌, ◌-◌, ◌≤◌}
 use Rattle.theory.specs.Put.{RecordsPut}
 use Rattle.records.specs.RecordsOf.{node_row}
 use Rattle.records.proofs.records.put_nodes.Given as goal
 
 abbrev pub invariant-loop-v : goal.invariant-loop-v
-invariant-loop-v l =
-    (l.v ≤ l.nodes) × (length l.out ≡ length l.fn.out) × (l.at ≡ l.initial.at + 4 * l.v)
-    × RecordsPut (node_row l.table l.parents l.nexts) l.initial.at l.v l.fn.out l.out
-
-abbrev pub decreases-loop-v : goal.decreases-loop-v
-decreases-loop-v l = l.nodes - l.v
+invariant-loop-v l = record {
+  few : l.v ≤ l.v-end + 1;
+  put : RecordsPut (node_row l.table l.layout.parents l.nexts) l.start (l.v - 1) l.fn.out l.out;
+}
