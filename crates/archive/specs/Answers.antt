@@ -11,7 +11,7 @@ use Rattle.model.specs.Table.{Bytes, table_bytes}
 use Rattle.model.specs.Plan.{verdict_of}
 use Rattle.model.specs.Archive.{archive_of, nodes_in, table_in, marks_in}
 use Rattle.model.specs.Refusals.{feasible_film, refused, answer_of, outcome, Written, film_rules, write_by, is_archive}
-use Rattle.model.specs.declared.Answer.{Answer}
+use Rattle.model.specs.Refusals.{Answer}
 use Rattle.model.specs.declared.Edition.{Edition}
 use Rattle.theory.specs.Bools.{never_true, both_true, and_false_right}
 use Rattle.theory.specs.JudgeAnswers.{page_count_le}

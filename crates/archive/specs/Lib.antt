@@ -2,3 +2,4 @@
 pub mod Room
 pub mod Answers
 pub mod Parts
+pub mod Opened

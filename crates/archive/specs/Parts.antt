@@ -6,7 +6,7 @@ use Rattle.model.specs.Basics.{same_list}
 use Rattle.model.specs.Table.{table_bytes}
 use Rattle.model.specs.Archive.{nodes_in, table_in, marks_in}
 use Rattle.model.specs.Refusals.{is_archive}
-use Rattle.model.specs.declared.Answer.{Answer}
+use Rattle.model.specs.Refusals.{Answer}
 use Rattle.model.specs.declared.Edition.{Edition}
 use Rattle.theory.specs.ArchiveBack.{read_write}
 use Rattle.archive.specs.Room.{Room}

@@ -1,66 +1,56 @@
 // Whether film of an edition is one. The writer that such film is held against writes the tree and the plan that were
 // decoded of it, and the film is one where that gives the very same bytes.
-ghost use Rattle.std.specs.Prelude.{◌≡◌, ◌≤◌, length};
-ghost use Rattle.model.specs.Basics.{same_list};
+ghost use Rattle.std.specs.Prelude.{◌≤◌, length};
 ghost use Rattle.model.specs.Archive.{nodes_in};
-ghost use Rattle.records.specs.Size.{InRoom, longest_archive};
+ghost use Rattle.model.specs.Refusals.{plan_told};
+ghost use Rattle.records.specs.Size.{longest_archive};
 ghost use Rattle.archive.specs.Room.{Room};
 ghost use Rattle.film.specs.Decoded.{Decoded};
 ghost use Rattle.archive.specs.Answers.{CopyJudged, Told};
 
-use film::nodes_in;
-use model::{Answer, Edition};
-use table::{refuse, table_bytes};
+use film::Film;
+use model::{PlanSize, Refusal};
+use table::table_bytes;
 use writer::write::write_edition;
-
-// Whether two strings of bytes are the same.
-fn same_bytes(a: &[u8], b: &[u8]) -> bool
-    ensures { result ≡ same_list a.now b.now }
-{
-    if a.len() != b.len() {
-        return false;
-    }
-    let mut i: usize = 0;
-    while i < a.len() {
-        if a[i] != b[i] {
-            return false;
-        }
-        i += 1;
-    }
-    true
-}
 
 // The answer of the writer that film is held against, where it writes this archive of the tree and the plan, and else
 // 13.
-fn judge_copy(e: Edition, archive: &[u8], tree: &[u8], plan: &[u8], copy: &mut [u8]) -> Answer
-    requires { InRoom e × (nodes_in e archive.now ≤ e.most) × (longest_archive e ≤ length copy.old) }
-    ensures { CopyJudged e archive.now tree.now plan.now result }
+fn judge_copy(film: Film, tree: &[u8], plan: &[u8], copy: &mut [u8]) -> Result<PlanSize, Refusal>
+    requires { (nodes_in film.format.edition film.archive.now ≤ film.format.edition.most)
+        × (longest_archive film.format.edition ≤ length copy.old) }
+    ensures { CopyJudged film.entry.format.edition film.entry.archive.now tree.now plan.now (plan_told result) }
 {
-    let size = archive.len();
-    if copy.len() < size {
-        return refuse(13, 0);
+    let Film { format, archive } = film;
+    if copy.len() < archive.len() {
+        return Err(Refusal::NoArchive);
     }
-    let answer = write_edition(e, e.filed, tree, plan, &mut copy[..size]);
-    if answer.number != 0 {
-        return refuse(13, 0);
+    let copy = &mut copy[..archive.len()];
+    let Ok(size) = write_edition(format, format.edition.filed, tree, plan, copy) else {
+        return Err(Refusal::NoArchive);
+    };
+    if *copy == *archive {
+        Ok(size)
+    } else {
+        Err(Refusal::NoArchive)
     }
-    if same_bytes(&copy[..size], archive) {
-        return answer;
-    }
-    refuse(13, 0)
 }
 
 // The verdict of the tree and the plan that were decoded of film, at the start of what was lent for them; or 13.
-pub fn judge_film(e: Edition, archive: &[u8], tree: &[u8], plan: &[u8], copy: &mut [u8]) -> Answer
-    requires { Room e (length tree.now) (length plan.now) (length copy.old)
-        × Decoded e archive.now tree.now plan.now }
-    ensures { Told e archive.now tree.now plan.now result }
+pub fn judge_film(
+    film: Film,
+    tree: &[u8],
+    plan: &[u8],
+    copy: &mut [u8],
+) -> Result<PlanSize, Refusal>
+    requires { Room film.format.edition (length tree.now) (length plan.now) (length copy.old)
+        × Decoded film.format.edition film.archive.now tree.now plan.now }
+    ensures { Told film.entry.format.edition film.entry.archive.now tree.now plan.now (plan_told result) }
 {
-    let nodes = nodes_in(e, archive);
-    if e.most < nodes {
-        return refuse(13, 0);
+    let nodes = film.nodes();
+    if film.format.edition.most < nodes {
+        return Err(Refusal::NoArchive);
     }
     let count = nodes as usize;
     let bytes = table_bytes(nodes) as usize;
-    judge_copy(e, archive, &tree[..bytes], &plan[..count], copy)
+    judge_copy(film, &tree[..bytes], &plan[..count], copy)
 }

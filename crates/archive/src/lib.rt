@@ -3,6 +3,7 @@
 #![tactic(auto)]
 
 pub mod judged;
+pub mod opened;
 mod read;
 
 pub use read::{read_archive, read_archive2};

@@ -1,40 +1,32 @@
-use Rattle.std.proofs.Common.{◌≤◌, length, sym, ◌∙◌, arith, length-take-le}
+use Rattle.std.proofs.Common.{refl, ◌∙◌, arith, rules, length-take-le}
+use Rattle.model.specs.Refusals.{refusal_answer}
+use Rattle.theory.specs.Refused.{refusal_number}
 use Rattle.archive.specs.Answers.{copy_refused, copy_long, copy_stopped, copy_differs, copy_same}
-use Rattle.archive.specs.Parts.{part_back}
+use Rattle.archive.proofs.SameBytes.{same_bytes}
 use Rattle.archive.proofs.judged.judge_copy.Goals as goal
 
-pub returns-then-copy-size : goal.returns-then-copy-size
-returns-then-copy-size c =
-    copy_refused c.refuse.ensures (copy_long c.requires.0 _ _ _ c.requires.1 (omega arith))
+pub returns-then-copy-archive : goal.returns-then-copy-archive
+returns-then-copy-archive c =
+    copy_refused refl (copy_long c.args.film.format.in_room _ _ _ c.requires.0 (omega arith))
 
-pub returns-then-answer-ne0 : goal.returns-then-answer-ne0
-returns-then-answer-ne0 c =
+pub returns-in_default : goal.returns-in_default
+returns-in_default c =
     let a = c.args in
-    let w = c.write_edition-answer in
-    let fits : length a.archive.now ≤ length a.copy.now = omega arith in
-    copy_refused c.refuse-then-answer-ne0.ensures
-    (copy_stopped c.requires.0 a.archive.now _ _ _ w.new.out _ w.ensures c.if-answer-ne0.true c.requires.1
-    (length-take-le _ a.copy.now fits))
+    let why = c.in_default.field-0 in
+    copy_refused refl
+    (copy_stopped a.film.format.in_room a.film.archive.now a.tree.now a.plan.now _ c.write_edition.new.out (refusal_answer why)
+    (search rules) (refusal_number why) c.requires.0 (length-take-le _ a.copy.now (omega arith)))
 
-pub returns-then-same_bytes : goal.returns-then-same_bytes
-returns-then-same_bytes c =
+pub returns-then-eq : goal.returns-then-eq
+returns-then-eq c =
     let a = c.args in
-    let w = c.write_edition-answer in
-    let fits : length a.archive.now ≤ length a.copy.now = omega arith in
-    let same =
-    sym (part_back w.new.out _ _ (w.auto.out ∙ length-take-le _ a.copy.now fits) a.archive.now)
-    ∙ sym c.same_bytes.ensures in
-    copy_same c.requires.0 a.archive.now _ _ _ w.new.out _ w.ensures c.if-answer-ne0.false
-    (λ i. omega (arith, c.type_inv.tree i)) (same ∙ c.if-same_bytes.true)
+    copy_same a.film.format.in_room a.film.archive.now a.tree.now a.plan.now _ c.write_edition.new.out _ c.in-Ok.ensures refl
+    (λ i. omega (arith, c.type_inv.tree i))
+    (same_bytes _ _ ∙ search rules)
 
-pub returns : goal.returns
-returns c =
+pub returns-else-eq : goal.returns-else-eq
+returns-else-eq c =
     let a = c.args in
-    let w = c.write_edition-answer in
-    let fits : length a.archive.now ≤ length a.copy.now = omega arith in
-    let same =
-    sym (part_back w.new.out _ _ (w.auto.out ∙ length-take-le _ a.copy.now fits) a.archive.now)
-    ∙ sym c.same_bytes.ensures in
-    copy_refused c.refuse-2.ensures
-    (copy_differs c.requires.0 a.archive.now _ _ _ w.new.out _ w.ensures c.if-answer-ne0.false
-    (same ∙ c.if-same_bytes.false))
+    copy_refused refl
+    (copy_differs a.film.format.in_room a.film.archive.now a.tree.now a.plan.now _ c.write_edition.new.out _ c.in-Ok.ensures refl
+    (same_bytes _ _ ∙ search rules))
