@@ -1,8 +1,7 @@
--- What a door tells and leaves, from its entry's answer and what that leaves. The search takes the answer from what the
--- entry ensures, so that a proof by this law names no entry. Proves opens. Assumes nothing.
+-- What a door tells and leaves, from its entry's answer and what that leaves, whichever entry it is. Proves opens. Assumes
+-- nothing.
 use mathlib.Core.Path.{◌≡◌, ◌∙◌, ap}
-use Rattle.model.specs.Refusals.{Outcome, outcome}
-use Rattle.model.specs.declared.Answer.{Answer}
+use Rattle.model.specs.Refusals.{Answer, Outcome, outcome}
 use Rattle.embed.specs.declared.Figures.{Figures}
 use Rattle.embed.specs.Figures.{figures_of}
 use Rattle.embed.specs.Left.{told}

@@ -4,7 +4,7 @@ use Rattle.std.specs.Prelude.{◌≡◌, List, ℕ}
 use Rattle.model.specs.Refusals.{Outcome, outcome, PlanBuffers, SavingLeft}
 use Rattle.model.specs.Demand.{WeightPromise, JudgePromise, PlanPromise, BestPromise, QuickPromise, WritePromise}
 use Rattle.model.specs.Demand.{ReadPromise, ConvertPromise, PrintPromise, PricePromise, SavingPromise}
-use Rattle.model.specs.declared.Answer.{Answer}
+use Rattle.model.specs.Refusals.{Answer}
 use Rattle.model.specs.declared.Edition.{Edition}
 use Rattle.embed.specs.declared.Figures.{Figures}
 use Rattle.embed.specs.declared.PriceAnswer.{PriceAnswer}

@@ -5,18 +5,22 @@
 ghost use Rattle.std.specs.Prelude.{◌≡◌};
 ghost use Rattle.model.specs.Archive.{first_edition, second_edition};
 ghost use Rattle.model.specs.Refusals.{outcome, read_tree, judge_plan, plan_left, plan_best, plan_level, plan_single};
-ghost use Rattle.model.specs.Refusals.{plan_pair, plan_rightmost, plan_depth_first, write_archive, read_left, read_archive};
+ghost use Rattle.model.specs.Refusals.{plan_pair, plan_rightmost, plan_depth_first, write_archive, read_left};
+ghost use Rattle.model.specs.Refusals.{read_archive};
 ghost use Rattle.model.specs.Refusals.{convert_archive, print_sheets, price_plan, save_best};
-ghost use Rattle.embed.specs.Figures.{figures_by, figures_of, price_answer};
+ghost use Rattle.model.specs.Refusals.{refusal_answer, tree_told, verdict_told, plan_told, price_told};
+ghost use Rattle.std.specs.declared.result.Result.TheVariants.{Ok};
+ghost use Rattle.embed.specs.Figures.{figures_of, with_cents, with_saving, price_answer, saving_answer, amount_told};
 ghost use Rattle.embed.specs.Left.{told, saving_left, WeightFigures, JudgeFigures, PlanFigures, BestFigures};
 ghost use Rattle.embed.specs.Left.{QuickFigures, WriteFigures, ReadFigures, ConvertFigures, PrintFigures};
 ghost use Rattle.embed.specs.Left.{PriceFigures, SavingFigures};
 
-use model::{Answer, Beside, Verdict};
+use model::{PlanSize, Price, Refusal, Saving, Verdict};
+use table::Tree;
 
 // A number and a place, and the verdict's page count and root weight, both 0 unless the number is 0.
 #[repr(C)]
-#[derive(Drop)]
+#[derive(Default, Drop)]
 pub struct Figures {
     pub number: u32,
     pub place: u32,
@@ -46,40 +50,107 @@ pub struct SavingAnswer {
     pub saving: i32,
 }
 
-// Number and place with the figures of a verdict.
-fn with_verdict(number: u32, place: u32, verdict: Verdict) -> Figures
-    ensures { result ≡ figures_by number place verdict }
-{
-    match verdict {
-        Verdict::Feasible { pages, root } => Figures {
-            number,
-            place,
-            pages,
-            root,
-        },
-        Verdict::Failed(_) => Figures {
-            number,
-            place,
-            pages: 0,
-            root: 0,
-        },
+impl From<Refusal> for Figures {
+    ghost from_gives = { λ refusal figures. figures ≡ figures_of (refusal_answer refusal) };
+
+    fn from(refusal: Refusal) -> Figures {
+        Figures {
+            number: refusal.number(),
+            place: refusal.place(),
+            ..Figures::default()
+        }
     }
 }
 
-fn flatten(answer: Answer) -> Figures
-    ensures { result ≡ figures_of answer }
-{
-    let number = answer.number;
-    let place = answer.place;
-    let beside = answer.beside;
-    match beside {
-        Beside::Given(verdict) => with_verdict(number, place, verdict),
-        Beside::Nothing => Figures {
-            number,
-            place,
-            pages: 0,
-            root: 0,
-        },
+impl From<PlanSize> for Figures {
+    ghost from_gives = { λ size figures. figures ≡ figures_of (plan_told (Ok size)) };
+
+    fn from(size: PlanSize) -> Figures {
+        Figures {
+            pages: size.pages,
+            root: size.root,
+            ..Figures::default()
+        }
+    }
+}
+
+impl From<Result<PlanSize, Refusal>> for Figures {
+    ghost from_gives = { λ planned figures. figures ≡ figures_of (plan_told planned) };
+
+    fn from(planned: Result<PlanSize, Refusal>) -> Figures {
+        match planned {
+            Ok(size) => size.into(),
+            Err(refusal) => refusal.into(),
+        }
+    }
+}
+
+impl From<Result<Verdict, Refusal>> for Figures {
+    ghost from_gives = { λ judged figures. figures ≡ figures_of (verdict_told judged) };
+
+    fn from(judged: Result<Verdict, Refusal>) -> Figures {
+        judged.and_then(Verdict::feasible).into()
+    }
+}
+
+impl From<Result<Tree<'_>, Refusal>> for Figures {
+    ghost from_gives = { λ tree figures. figures ≡ figures_of (tree_told tree) };
+
+    fn from(tree: Result<Tree, Refusal>) -> Figures {
+        match tree {
+            Ok(_) => Figures::default(),
+            Err(refusal) => refusal.into(),
+        }
+    }
+}
+
+impl PriceAnswer {
+    fn with_cents(judged: Figures, cents: u32) -> PriceAnswer
+        ensures { result ≡ with_cents judged cents }
+    {
+        PriceAnswer {
+            number: judged.number,
+            place: judged.place,
+            pages: judged.pages,
+            root: judged.root,
+            cents,
+        }
+    }
+}
+
+impl From<Result<Price, Refusal>> for PriceAnswer {
+    ghost from_gives = { λ priced answer. answer ≡ price_answer (price_told priced) };
+
+    fn from(priced: Result<Price, Refusal>) -> PriceAnswer {
+        match priced {
+            Ok(price) => PriceAnswer::with_cents(price.plan.into(), price.cents),
+            Err(refusal) => PriceAnswer::with_cents(refusal.into(), 0),
+        }
+    }
+}
+
+impl SavingAnswer {
+    fn with_saving(best: Figures, saving: i32) -> SavingAnswer
+        ensures { result ≡ with_saving best saving }
+    {
+        SavingAnswer {
+            number: best.number,
+            place: best.place,
+            pages: best.pages,
+            root: best.root,
+            saving,
+        }
+    }
+}
+
+impl From<Result<Saving, Refusal>> for SavingAnswer {
+    ghost from_gives = { λ saved answer. answer ≡ saving_answer (amount_told saved) };
+
+    fn from(saved: Result<Saving, Refusal>) -> SavingAnswer {
+        match saved {
+            Ok(saved) => SavingAnswer::with_saving(saved.plan.into(), saved.saving),
+            Err(refusal) => SavingAnswer::with_saving(refusal.into(), 0),
+        }
     }
 }
 
@@ -88,7 +159,7 @@ pub extern "C" fn balduqen_read_tree(table: &[u8]) -> Figures
     ensures value { result ≡ figures_of (read_tree table.now) }
     ensures weight_figures { WeightFigures table.now result }
 {
-    flatten(table::read_tree(table))
+    table::read_tree(table).into()
 }
 
 #[unsafe(no_mangle)]
@@ -96,7 +167,7 @@ pub extern "C" fn balduqen_judge(table: &[u8], marks: &[u8]) -> Figures
     ensures value { result ≡ figures_of (judge_plan table.now marks.now) }
     ensures judge_figures { JudgeFigures table.now marks.now result }
 {
-    flatten(judge::judge_plan(table, marks))
+    judge::judge_plan(table, marks).into()
 }
 
 #[unsafe(no_mangle)]
@@ -108,7 +179,7 @@ pub extern "C" fn balduqen_plan_best(table: &[u8], marks: &mut [u8], scratch: &m
     ensures best_figures { BestFigures table.now marks.old scratch.old
         result marks.new }
 {
-    flatten(planner::plan_best(table, marks, scratch))
+    planner::plan_best(table, marks, scratch).into()
 }
 
 #[unsafe(no_mangle)]
@@ -122,7 +193,7 @@ pub extern "C" fn balduqen_plan_level(
     ensures plan_figures { PlanFigures table.now marks.old scratch.old
         result marks.new scratch.new }
 {
-    flatten(planner::plan_level(table, marks, scratch))
+    planner::plan_level(table, marks, scratch).into()
 }
 
 #[unsafe(no_mangle)]
@@ -136,7 +207,7 @@ pub extern "C" fn balduqen_plan_single(
     ensures plan_figures { PlanFigures table.now marks.old scratch.old
         result marks.new scratch.new }
 {
-    flatten(planner::plan_single(table, marks, scratch))
+    planner::plan_single(table, marks, scratch).into()
 }
 
 #[unsafe(no_mangle)]
@@ -146,7 +217,7 @@ pub extern "C" fn balduqen_plan_pair(table: &[u8], marks: &mut [u8], scratch: &m
     ensures plan_figures { PlanFigures table.now marks.old scratch.old
         result marks.new scratch.new }
 {
-    flatten(planner::plan_pair(table, marks, scratch))
+    planner::plan_pair(table, marks, scratch).into()
 }
 
 #[unsafe(no_mangle)]
@@ -161,7 +232,7 @@ pub extern "C" fn balduqen_plan_rightmost(
         result marks.new scratch.new }
     ensures quick_figures { QuickFigures table.now result }
 {
-    flatten(planner::plan_rightmost(table, marks, scratch))
+    planner::plan_rightmost(table, marks, scratch).into()
 }
 
 #[unsafe(no_mangle)]
@@ -176,7 +247,7 @@ pub extern "C" fn balduqen_plan_depth_first(
         result marks.new scratch.new }
     ensures quick_figures { QuickFigures table.now result }
 {
-    flatten(planner::plan_depth_first(table, marks, scratch))
+    planner::plan_depth_first(table, marks, scratch).into()
 }
 
 #[unsafe(no_mangle)]
@@ -187,7 +258,7 @@ pub extern "C" fn balduqen_write_archive(table: &[u8], marks: &[u8], archive: &m
     ensures write_figures { WriteFigures first_edition table.now marks.now archive.old
         result archive.new }
 {
-    flatten(writer::write_archive(table, marks, archive))
+    writer::write_archive(table, marks, archive).into()
 }
 
 #[unsafe(no_mangle)]
@@ -202,7 +273,7 @@ pub extern "C" fn balduqen_read_archive(
     ensures read_figures { ReadFigures first_edition second_edition archive.now table.old
         marks.old result table.new marks.new }
 {
-    flatten(archive::read_archive(archive, table, marks))
+    archive::read_archive(archive, table, marks).into()
 }
 
 #[unsafe(no_mangle)]
@@ -213,7 +284,7 @@ pub extern "C" fn balduqen_write_archive2(table: &[u8], marks: &[u8], archive: &
     ensures write_figures { WriteFigures second_edition table.now marks.now archive.old
         result archive.new }
 {
-    flatten(writer::write_archive2(table, marks, archive))
+    writer::write_archive2(table, marks, archive).into()
 }
 
 #[unsafe(no_mangle)]
@@ -228,7 +299,7 @@ pub extern "C" fn balduqen_read_archive2(
     ensures read_figures { ReadFigures second_edition first_edition archive.now table.old
         marks.old result table.new marks.new }
 {
-    flatten(archive::read_archive2(archive, table, marks))
+    archive::read_archive2(archive, table, marks).into()
 }
 
 #[unsafe(no_mangle)]
@@ -238,7 +309,7 @@ pub extern "C" fn balduqen_convert_to_2(archive: &[u8], out: &mut [u8]) -> Figur
     ensures convert_figures { ConvertFigures first_edition second_edition archive.now out.old
         result out.new }
 {
-    flatten(converters::convert_to_2(archive, out))
+    converters::convert_to_2(archive, out).into()
 }
 
 #[unsafe(no_mangle)]
@@ -248,7 +319,7 @@ pub extern "C" fn balduqen_convert_to_1(archive: &[u8], out: &mut [u8]) -> Figur
     ensures convert_figures { ConvertFigures second_edition first_edition archive.now out.old
         result out.new }
 {
-    flatten(converters::convert_to_1(archive, out))
+    converters::convert_to_1(archive, out).into()
 }
 
 #[unsafe(no_mangle)]
@@ -258,7 +329,7 @@ pub extern "C" fn balduqen_print_sheets(table: &[u8], marks: &[u8], out: &mut [u
     ensures print_figures { PrintFigures table.now marks.now out.old
         result out.new }
 {
-    flatten(sheets::print_sheets(table, marks, out))
+    sheets::print_sheets(table, marks, out).into()
 }
 
 #[unsafe(no_mangle)]
@@ -266,16 +337,7 @@ pub extern "C" fn balduqen_price(table: &[u8], marks: &[u8]) -> PriceAnswer
     ensures value { result ≡ price_answer (price_plan table.now marks.now) }
     ensures price_figures { PriceFigures table.now marks.now result }
 {
-    let priced = price::price(table, marks);
-    let answer = priced.answer;
-    let judged = flatten(answer);
-    PriceAnswer {
-        number: judged.number,
-        place: judged.place,
-        pages: judged.pages,
-        root: judged.root,
-        cents: priced.cents,
-    }
+    price::price(table, marks).into()
 }
 
 #[unsafe(no_mangle)]
@@ -289,14 +351,5 @@ pub extern "C" fn balduqen_saving(
     ensures saving_figures { SavingFigures table.now marks.old scratch.old
         result marks.new scratch.new }
 {
-    let saved = price::saving(table, marks, scratch);
-    let answer = saved.answer;
-    let best = flatten(answer);
-    SavingAnswer {
-        number: best.number,
-        place: best.place,
-        pages: best.pages,
-        root: best.root,
-        saving: saved.saving,
-    }
+    price::saving(table, marks, scratch).into()
 }

@@ -4,13 +4,12 @@ use native.Mathlib.Omega.{arith}
 use native.Mathlib.Nat.{pow-zero, pow-suc, one-le-pow, mod-eq_of_lt}
 use mathlib.Core.Path.{◌≡◌, sym, ◌∙◌, ap, ap₂}
 use mathlib.Core.Bool.{cond}
-use mathlib.Core.List.{List, [], ◌∷◌, ◌++◌}
+use mathlib.Core.List.{List, [], ◌∷◌, ◌++◌, append_assoc}
 use lib.ListN.{length, take}
 use borrow.Author.Tests.{lt-ltb}
 use Rattle.io.specs.Digits.{hex_digit_ascii, last_digits, IsDigitCount}
 use Rattle.model.specs.Decimal.{decimal_to, decimal}
 use Rattle.theory.specs.Decimals.{one_digit, more_digits, decimal_length}
-use Rattle.theory.specs.Appended.{Appended, appended_then}
 use Rattle.pages.specs.Text.{item}
 
 digit_is : (d : ℕ) → d < 10 → hex_digit_ascii d ≡ 48 + d
@@ -54,7 +53,9 @@ module _ (n k : ℕ) (out : List ℕ) (low : n < 4294967296) (few : IsDigitCount
   number_long long = omega (arith, ap length number_text, decimal_length n)
 
   -- a word and the number after it
-  pub item_end : {o o₁ o₂ word : List ℕ} {at a b : ℕ} → Appended o at word o₁ a → Appended o₁ a (take k out) o₂ b
-      → Appended o at (item word n) o₂ b
+  pub item_text : (word : List ℕ) → word ++ take k out ≡ item word n
   unfolding item
-  item_end h l = rw (← number_text) (appended_then h l)
+  item_text word = ap (λ (l : List ℕ). word ++ l) number_text
+
+-- what was put comes before what is put next
+pub ruleset putting = (append_assoc)

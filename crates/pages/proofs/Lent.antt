@@ -1,15 +1,13 @@
--- What the program lends: a mark a node, all zero; and its report as a whole. Assumes nothing.
+-- What the program lends: a mark a node, all zero. Proves take_long, report_is. Assumes nothing.
 use Prim.Native.Nat.{ℕ, ◌+◌, ◌-◌, ◌≤◌}
 use native.Mathlib.Omega.{arith}
 use mathlib.Core.Path.{◌≡◌, sym, ◌∙◌, ap}
 use mathlib.Core.List.{List}
 use lib.ListN.{length, take, replicate, length-replicate, replicate-append-replicate}
-use lib.Seq.{length-take-le, take_at}
-use Rattle.io.specs.Counts.{IsPrefixLen}
+use lib.Seq.{take_at}
 use Rattle.model.specs.Table.{node_count}
 use Rattle.model.specs.Refusals.{plan_best}
-use Rattle.theory.specs.Appended.{Filled}
-use Rattle.pages.specs.Text.{report_bytes, scratch_lent, answer_lines, report_of}
+use Rattle.pages.specs.Text.{scratch_lent, answer_lines, report_of}
 
 take_zeros : (most n : ℕ) → n ≤ most → take n (replicate {A = ℕ} most 0) ≡ replicate n 0
 take_zeros most n h =
@@ -18,17 +16,12 @@ take_zeros most n h =
     ∙ ap (take n) (sym (replicate-append-replicate n (most - n) 0))
     ∙ take_at (replicate n 0) (replicate (most - n) 0) n (length-replicate n 0)
 
--- as many marks as there are nodes
 pub take_long : (most n : ℕ) → n ≤ most → length (take n (replicate {A = ℕ} most 0)) ≡ n
 take_long most n h = ap length (take_zeros most n h) ∙ length-replicate n 0
 
-pub report_whole : (t out : List ℕ) (most n r : ℕ) → n ≡ node_count t → n ≤ most
-    → Filled (answer_lines t (plan_best t (take n (replicate most 0)) (replicate scratch_lent 0))) out r → r ≤ report_bytes
-    → report_bytes ≤ length out → IsPrefixLen r out × (take r out ≡ report_of t)
+pub report_is : (t : List ℕ) (most n : ℕ) → n ≡ node_count t → n ≤ most
+    → answer_lines t (plan_best t (take n (replicate most 0)) (replicate scratch_lent 0)) ≡ report_of t
 unfolding report_of
-report_whole t out most n r e fits h small room = (
-  (omega arith, sym (length-take-le r out (omega arith))),
-  h.bytes
-      ∙ ap (λ m. answer_lines t (plan_best t m (replicate scratch_lent 0)))
-      (take_zeros most n fits ∙ ap (λ k. replicate k 0) e),
-)
+report_is t most n e fits =
+    ap (λ m. answer_lines t (plan_best t m (replicate scratch_lent 0)))
+    (take_zeros most n fits ∙ ap (λ k. replicate k 0) e)

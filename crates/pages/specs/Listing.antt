@@ -9,9 +9,10 @@ use Rattle.model.specs.Table.{limit_of}
 use Rattle.model.specs.Plan.{page_count, page_weight}
 use Rattle.model.specs.Runs.{page_run}
 use Rattle.model.specs.Refusals.{Outcome, PlanBuffers, plan_left}
-use Rattle.model.specs.declared.Answer.{Answer}
+use Rattle.model.specs.Refusals.{Answer}
 use Rattle.theory.specs.Ranges.{pick_true, pick_false, list_to_zero, list_to_suc, list_to_cong}
-use Rattle.layout.specs.Rows.{Layout, FeasibleLayout}
+use Rattle.layout.specs.declared.Layout.{Layout}
+use Rattle.layout.specs.Rows.{FeasibleLayout}
 use Rattle.pages.specs.Text.{head_line, page_line, refusal_line, plan_lines, answer_lines}
 
 -- ---- Lines of a layout

@@ -7,7 +7,7 @@ use Rattle.model.specs.Table.{max_nodes, node_count, limit_of}
 use Rattle.model.specs.Plan.{page_count, page_weight}
 use Rattle.model.specs.Runs.{page_run}
 use Rattle.model.specs.Refusals.{Outcome, PlanBuffers, plan_best}
-use Rattle.model.specs.declared.Answer.{Answer}
+use Rattle.model.specs.Refusals.{Answer}
 
 -- ---- Lines; each ends in one newline byte
 

@@ -1,8 +1,8 @@
 // The page program: reads a table on standard input, and writes its best plan or why it is refused.
 #![tactic(auto)]
 
+mod lines;
 mod report;
-mod text;
 
 ghost use Rattle.std.specs.Io.{ReadsAtMost};
 
@@ -14,10 +14,8 @@ use table::MAX_NODES;
 // One byte more than the longest table, so that a longer one shows.
 const INPUT_BYTES: usize = 4 + 8 * (MAX_NODES as usize) + 1;
 
-// The longest report: a head line, and a line for each page, none over 80 bytes.
-const REPORT_BYTES: usize = 80 * (MAX_NODES as usize + 1);
-
-// Reads until the buffer is full or the input ends, and gives back how many bytes stand at its start.
+// Reads until the buffer is full or the input ends, and gives back how many bytes stand at its start. A loop of its
+// own, since `read_exact` fails where the input ends first, and `read_to_end` needs a heap.
 fn read_full(input: &mut impl Read, buf: &mut [u8]) -> io::Result<usize>
     ensures { ReadsAtMost result buf.new }
 {
@@ -35,7 +33,6 @@ fn read_full(input: &mut impl Read, buf: &mut [u8]) -> io::Result<usize>
 fn main(rt: HostRuntime) -> io::Result<()> {
     let mut table = [0u8; INPUT_BYTES];
     let got = read_full(&mut rt.stdin(), &mut table)?;
-    let mut out = [0u8; REPORT_BYTES];
-    let length = report(&table[..got], &mut out);
-    rt.stdout().write_all(&out[..length])
+    let lines = report(&table[..got]);
+    rt.stdout().write_all(lines.as_bytes())
 }

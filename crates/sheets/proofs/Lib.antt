@@ -1,2 +1,4 @@
 pub mod Fields
 pub mod Placed
+pub mod LinePlaces
+pub mod Printing

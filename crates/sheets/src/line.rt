@@ -6,6 +6,7 @@ ghost use Rattle.sheets.specs.Lines.{FieldPut};
 pub const LINE: usize = 81;
 
 // A line of blanks.
+#[tactic(auto, unfolding(model::specs::Sheets::line_with))]
 pub fn blank_line() -> [u8; LINE]
     ensures { result ≡ line_with [] }
 {
@@ -15,19 +16,20 @@ pub fn blank_line() -> [u8; LINE]
 }
 
 // A number right-aligned in so many columns, after `at` columns of text. Its digits come from the last one on.
+#[tactic(auto, using(crate::proofs::Fields::putting))]
 fn put_field(line: [u8; LINE], at: usize, width: usize, n: u32) -> [u8; LINE]
     requires { (1 ≤ width) × (at + width ≤ columns) × (n < 10 ^ width) }
     ensures { FieldPut line at (field width n) result }
 {
     let mut out = line;
-    let mut i = at + width - 1;
     let mut rest = n;
-    while 9 < rest {
+    for i in (at..at + width).rev() {
         out[i] = b'0' + (rest % 10) as u8;
         rest /= 10;
-        i -= 1;
+        if rest == 0 {
+            break;
+        }
     }
-    out[i] = b'0' + rest as u8;
     out
 }
 
@@ -36,15 +38,12 @@ pub fn first_line(pages: u16) -> [u8; LINE]
     ensures { result ≡ first_line pages }
 {
     let mut line = blank_line();
-    line[0] = b'P';
-    line[1] = b'A';
-    line[2] = b'G';
-    line[3] = b'E';
-    line[4] = b'S';
+    line[..5].copy_from_slice(b"PAGES");
     put_field(line, 6, 6, pages as u32)
 }
 
 // Line 60: the sheet's number.
+#[tactic(auto, unfolding(model::specs::Sheets::last_line))]
 pub fn last_line(sheet: u16) -> [u8; LINE]
     ensures { result ≡ last_line sheet }
 {

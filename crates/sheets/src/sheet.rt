@@ -7,7 +7,7 @@ ghost use Rattle.layout.specs.Rows.{LightPages};
 ghost use Rattle.sheets.specs.Lines.{page_in};
 
 use crate::line::{LINE, blank_line, first_line, last_line, page_line};
-use table::SLOTS;
+use layout::Layout;
 use words::put::put_text;
 
 const SHEET_LINES: u16 = 60;
@@ -29,81 +29,63 @@ pub fn sheet_bytes(pages: u16) -> u32
     (LINE as u32) * (SHEET_LINES as u32) * (sheet_count(pages) as u32)
 }
 
-// Line l of a sheet. Lines 2 to 59 have a page each, and blanks after the last.
-fn line_at<'a>(
-    firsts: &'a [u16; SLOTS],
-    lasts: &'a [u16; SLOTS],
-    weights: &'a [u32; SLOTS],
-    pages: u16,
-    limit: u16,
-    sheet: u16,
-    l: u16,
-) -> [u8; LINE]
-    requires { LightPages weights.now pages limit × (1 ≤ sheet) × (sheet ≤ sheet_count pages) × (1 ≤ l)
-        × (l ≤ sheet_lines) }
-    ensures { result
-        ≡ line_at pages limit (page_in firsts.now lasts.now weights.now) sheet l }
-{
-    let before = sheet - 1;
-    if l == 1 {
-        return first_line(pages);
-    }
-    if l == SHEET_LINES {
-        return last_line(sheet);
-    }
-    let p = SHEET_PAGES * before + (l - 1);
-    if pages < p {
-        return blank_line();
-    }
-    let i = p as usize;
-    page_line(p, firsts[i], lasts[i], weights[i], limit)
+// The pages that are printed, none over the limit.
+#[derive(Clone, Copy)]
+pub struct Printed<'a> {
+    pub layout: &'a Layout,
+    pub limit: u16,
+    ghost light: { LightPages layout.now.weights layout.now.pages limit },
 }
 
-// One sheet, from the position `at` on; the position after it.
-fn put_sheet<'a>(
-    firsts: &'a [u16; SLOTS],
-    lasts: &'a [u16; SLOTS],
-    weights: &'a [u32; SLOTS],
-    pages: u16,
-    limit: u16,
-    sheet: u16,
-    out: &mut [u8],
-    at: usize,
-) -> usize
-    requires { LightPages weights.now pages limit × (1 ≤ sheet) × (sheet ≤ sheet_count pages)
-        × (at + sheet_bytes ≤ length out.old) }
-    ensures { Appended out.old at
-        (sheet_at pages limit (page_in firsts.now lasts.now weights.now) sheet)
-        out.new result }
-{
-    let mut end = at;
-    let mut l: u16 = 0;
-    while l < SHEET_LINES {
-        l += 1;
-        let line = line_at(firsts, lasts, weights, pages, limit, sheet, l);
-        end = put_text(out, end, &line);
+impl Printed<'_> {
+    // Line l of a sheet. Lines 2 to 59 have a page each, and blanks after the last.
+    #[tactic(auto, using(crate::proofs::LinePlaces::line_places))]
+    fn line_at(&self, sheet: u16, l: u16) -> [u8; LINE]
+        requires { (1 ≤ sheet) × (sheet ≤ sheet_count self.now.layout.now.pages) × (1 ≤ l) × (l ≤ sheet_lines) }
+        ensures { result
+            ≡ line_at self.now.layout.now.pages self.now.limit (page_in self.now.layout.now) sheet l }
+    {
+        let layout = self.layout;
+        if l == 1 {
+            return first_line(layout.pages);
+        }
+        if l == SHEET_LINES {
+            return last_line(sheet);
+        }
+        let p = SHEET_PAGES * (sheet - 1) + (l - 1);
+        if layout.pages < p {
+            return blank_line();
+        }
+        let i = p as usize;
+        let (first, last) = (layout.firsts[i], layout.lasts[i]);
+        page_line(p, first, last, layout.weights[i], self.limit)
     }
-    end
-}
 
-// All sheets of a plan.
-pub fn put_sheets<'a>(
-    firsts: &'a [u16; SLOTS],
-    lasts: &'a [u16; SLOTS],
-    weights: &'a [u32; SLOTS],
-    pages: u16,
-    limit: u16,
-    out: &mut [u8],
-)
-    requires { LightPages weights.now pages limit × (length out.old ≡ sheet_bytes * sheet_count pages) }
-    ensures { out.new
-        ≡ sheets_by pages limit (page_in firsts.now lasts.now weights.now) }
-{
-    let sheets = sheet_count(pages);
-    let mut at: usize = 0;
-    let mut s: u16 = 0;
-    while s < sheets {
-        s += 1;
-        at = put_sheet(firsts, lasts, weights, pages, limit, s, out, at);
+    // One sheet, from the position `at` on; the position after it.
+    fn put_sheet(&self, sheet: u16, out: &mut [u8], at: usize) -> usize
+        requires { (1 ≤ sheet) × (sheet ≤ sheet_count self.now.layout.now.pages) × (at + sheet_bytes ≤ length out.old) }
+        ensures { Appended out.old at
+            (sheet_at self.now.layout.now.pages self.now.limit (page_in self.now.layout.now) sheet)
+            out.new result }
+    {
+        let mut end = at;
+        for l in 1..=SHEET_LINES {
+            let line = self.line_at(sheet, l);
+            end = put_text(out, end, &line);
+        }
+        end
+    }
+
+    // All sheets of a plan.
+    pub fn put_sheets(&self, out: &mut [u8])
+        requires { length out.old ≡ sheet_bytes * sheet_count self.now.layout.now.pages }
+        ensures { out.new
+            ≡ sheets_by self.now.layout.now.pages self.now.limit (page_in self.now.layout.now) }
+    {
+        let sheets = sheet_count(self.layout.pages);
+        let mut at: usize = 0;
+        for s in 1..=sheets {
+            at = self.put_sheet(s, out, at);
+        }
     }
 }

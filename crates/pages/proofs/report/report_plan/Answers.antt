@@ -1,22 +1,18 @@
-use Rattle.std.proofs.Common.{◌∙◌, ap}
-use Rattle.theory.specs.Appended.{filled_first}
-use Rattle.layout.specs.Rows.{layout_of}
+use Rattle.std.proofs.Common.{refl, ◌∙◌, ap}
 use Rattle.pages.specs.Listing.{layout_lines, layout_lines_lem, lines_refused, lines_planned}
+use Rattle.theory.specs.Refused.{refusal_number}
 use Rattle.pages.proofs.report.report_plan.Goals as goal
 
-pub returns-then-answer-ne0-clause-filled : goal.returns-then-answer-ne0-clause-filled
-returns-then-answer-ne0-clause-filled c =
-    let m = c.make_laid-made in
-    rw (lines_refused c.args.table.now m.result.answer _ _ m.ensures.scratch_after c.if-answer-ne0.true)
-    at (filled_first c.refusal_line.ensures.appended)
-
 -- the layout is that of the plan that was accepted
-pub returns-clause-filled : goal.returns-clause-filled
-returns-clause-filled c =
-    let m = c.make_laid-made in
-    let found = layout_of m.new.rows m.new.weights m.result.pages in
-    let lines =
-    ap (layout_lines found) c.limit_of.ensures
-    ∙ layout_lines_lem (m.ensures.feasible_layout c.if-answer-ne0.false)
-    ∙ lines_planned c.args.table.now m.result.answer _ _ m.ensures.scratch_after c.if-answer-ne0.false in
-    rw lines at c.list_pages.ensures.filled
+pub returns-in-Ok : goal.returns-in-Ok
+returns-in-Ok c =
+    let made = c.in-Ok.ensures in
+    c.list_pages.ensures
+    ∙ ap (layout_lines c.make_laid.new.layout) c.limit_of.ensures
+    ∙ layout_lines_lem made.feasible_layout
+    ∙ lines_planned c.args.table.now _ _ _ made.scratch_after refl
+
+pub returns-in-Err : goal.returns-in-Err
+returns-in-Err c =
+    let refused = rw c.new-lines.ensures.written at c.put_refusal.ensures.written in
+    refused ∙ lines_refused c.args.table.now _ _ _ c.in-Err.ensures.scratch_after (refusal_number c.in-Err.refusal)

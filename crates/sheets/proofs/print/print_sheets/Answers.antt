@@ -1,64 +1,36 @@
-use Rattle.std.proofs.Common.{ℕ, List, true, ◌≡◌, ◌*◌, arith, sym, ap, ◌∙◌}
-use Rattle.std.proofs.Math.Path.{ap₂}
-use Rattle.model.specs.Plan.{page_count}
-use Rattle.model.specs.Sheets.{sheet_bytes, sheet_count}
-use Rattle.model.specs.Refusals.{refused, plain_rules, feasible_by, judge_by, print_checks, outcome, print_sheets}
-use Rattle.model.specs.Demand.{PrintPromise}
-use Rattle.model.specs.declared.Answer.{Answer}
-use Rattle.theory.specs.Entries.{promised}
-use Rattle.theory.specs.JudgedEntries.{judge_passes, judge_given, judge_stands, after_stands, after_done}
-use Rattle.theory.specs.PromiseSheets.{sheet_short, sheet_long}
-use Rattle.theory.proofs.PromiseSheets.{print_promise}
-use Rattle.layout.specs.Rows.{Layout, FeasibleLayout}
+use Rattle.std.proofs.Common.{rules, sym, ap, ◌∙◌}
+use Rattle.model.specs.Refusals.{Answer}
+use Rattle.sheets.proofs.Printing.{judge_refuses, length_refused, printed, print_promised}
 use Rattle.sheets.proofs.print.print_sheets.Goals as goal
 
--- the promise, from the equation
-told : (t m out : List ℕ) {r : Answer} {x : List ℕ} → outcome r x ≡ print_sheets t m out → PrintPromise t m out r x
-told t m out is = (promised (PrintPromise t m out) (print_promise t m out) is).1
+pub returns-in_err-judge_pages-clause-out_after : goal.returns-in_err-judge_pages-clause-out_after
+returns-in_err-judge_pages-clause-out_after c = search (rules, judge_refuses)
 
--- where the judge accepts
-feasible : (t m : List ℕ) {a : Answer} → a ≡ judge_by plain_rules t m → a.number ≡ 0
-    → feasible_by plain_rules t m ≡ true
-feasible t m is z = judge_passes plain_rules t m (sym (ap (λ (x : Answer). x.number) is) ∙ z)
+pub returns-in_err-judge_pages-clause-print_promise : goal.returns-in_err-judge_pages-clause-print_promise
+returns-in_err-judge_pages-clause-print_promise c =
+    print_promised _ _ _ (returns-in_err-judge_pages-clause-out_after c)
 
-size_is : (t m : List ℕ) {l : Layout} {size : ℕ} → FeasibleLayout t m l → size ≡ sheet_bytes * sheet_count l.pages
-    → size ≡ sheet_bytes * sheet_count (page_count t m)
-size_is t m layout e = e ∙ ap (λ n. sheet_bytes * sheet_count n) layout.pages_are
+pub returns-in_err-size-clause-out_after : goal.returns-in_err-size-clause-out_after
+returns-in_err-size-clause-out_after c =
+    search (rules, judge_refuses, c.in_err-size.ensures ∙ c.in_ok-judge_pages.ensures.answer_value)
 
-pub returns-then-answer-ne0 : goal.returns-then-answer-ne0
-unfolding print_sheets print_checks
-returns-then-answer-ne0 c =
-    let t = c.args.table.now in
-    let m = c.args.marks.now in
-    let e = judge_stands plain_rules t m _ _ _ c.judge_pages-judged.ensures.answer_value c.if-answer-ne0.true in
-    record { out_after = e; print_promise = told t m _ e }
+pub returns-in_err-size-clause-print_promise : goal.returns-in_err-size-clause-print_promise
+returns-in_err-size-clause-print_promise c = print_promised _ _ _ (returns-in_err-size-clause-out_after c)
 
-pub returns-then-out-size : goal.returns-then-out-size
-unfolding print_sheets print_checks
-returns-then-out-size c =
-    let t = c.args.table.now in
-    let m = c.args.marks.now in
-    let j = c.judge_pages-judged.ensures in
-    let accepts = c.if-answer-ne0.false in
-    let size = size_is t m (j.laid_beside.feasible accepts) c.sheet_bytes-size.ensures in
+pub returns-then-out-bytes : goal.returns-then-out-bytes
+returns-then-out-bytes c =
+    let j = c.in_ok-judge_pages.ensures in
+    let layout = j.laid_beside.feasible (sym (ap (λ (x : Answer). x.number) c.in_ok-size.ensures)) in
     let e =
-    after_stands plain_rules t m _ _ _ (feasible t m j.answer_value accepts)
-    (c.refuse.ensures ∙ ap (refused 12) size
-    ∙ sheet_short t m c.args.out.now (λ fits. c.if-out-size.true (fits ∙ sym size)))
-    (λ z. omega (arith, ap (λ (x : Answer). x.number) c.refuse.ensures)) in
-    record { out_after = e; print_promise = told t m _ e }
+    length_refused _ _ c.args.out.now _ _ (c.in_ok-size.ensures ∙ j.answer_value) _ layout _
+    c.sheet_bytes-bytes.ensures (search rules) in
+    record { out_after = e; print_promise = print_promised _ _ _ e }
 
 pub returns : goal.returns
-unfolding print_sheets print_checks
 returns c =
-    let t = c.args.table.now in
-    let m = c.args.marks.now in
-    let j = c.judge_pages-judged.ensures in
-    let accepts = c.if-answer-ne0.false in
-    let size = size_is t m (j.laid_beside.feasible accepts) c.sheet_bytes-size.ensures in
-    let good = feasible t m j.answer_value accepts in
+    let j = c.in_ok-judge_pages.ensures in
+    let layout = j.laid_beside.feasible (sym (ap (λ (x : Answer). x.number) c.in_ok-size.ensures)) in
     let e =
-    ap₂ outcome (j.answer_value ∙ judge_given plain_rules t m good) c.fill_sheets.ensures
-    ∙ sym
-    (after_done plain_rules t m _ _ _ good (sheet_long t m c.args.out.now (c.if-out-size.false ∙ size))) in
-    record { out_after = e; print_promise = told t m _ e }
+    printed _ _ c.args.out.now _ _ (c.in_ok-size.ensures ∙ j.answer_value) _ layout _
+    c.sheet_bytes-bytes.ensures (search rules) c.fill_sheets.ensures in
+    record { out_after = e; print_promise = print_promised _ _ _ e }
