@@ -69,7 +69,7 @@ rt ci 2>&1 | tee "$log"
 status=$?
 if ! grep -q '^rt: ok; ' "$log" || grep -Eq '^rt: ok; .*, [0-9]+ bad(;|$)' "$log"; then status=1; fi
 tail -n 1 "$log" > "$log.last"
-add proofs "$status" "$(sum "$log.last" '^([0-9]+) passed, [0-9]+ failed$')" "$(sum "$log.last" '^[0-9]+ passed, ([0-9]+) failed$')" 173
+add proofs "$status" "$(sum "$log.last" '^([0-9]+) passed, [0-9]+ failed$')" "$(sum "$log.last" '^[0-9]+ passed, ([0-9]+) failed$')" 175
 
 # Each must-fail edit is refused for a fact that no longer holds.
 tools/must-fail-logs.sh "$log" > "$log.edits"
@@ -81,6 +81,10 @@ tools/build-library.sh > "$log" 2>&1
 status=$?
 cat "$log"
 add library "$status" "$([ -s target/staticlib/libembed.a ] && echo 1 || echo 0)" 0 1
+
+# Of the C library it takes these two, and no more.
+[ "$(nm -u target/staticlib/libembed.a | awk '$1 == "U" { print $2 }' | sort -u | xargs)" = 'memcpy memset' ]
+add_one "names from outside" "$?"
 
 # The library as a program in C uses it.
 gcc -std=c11 -Wall -Wextra -Werror -Iinclude examples/case_e.c -o target/case_e target/staticlib/libembed.a &&
@@ -101,7 +105,7 @@ add_one bench "$?"
 in_rust rust tests/any_value.rs=4 tests/header.rs=4 tests/names.rs=3 tests/readme.rs=1 tests/results.rs=6 \
   tests/version.rs=2
 in_rust tests tests/entries.rs=73 tests/guarded.rs=32 tests/library.rs=234 tests/model.rs=77 tests/next_page.rs=8 \
-  tests/program.rs=18 tests/rule_sheet.rs=91 tests/sheet_reader.rs=9 tests/stack.rs=2 tests/threads.rs=1
+  tests/program.rs=19 tests/rule_sheet.rs=91 tests/sheet_reader.rs=9 tests/stack.rs=2 tests/threads.rs=1
 in_rust tools src/lib.rs=78 tests/damaged.rs=4 tests/must_fail_logs.rs=3 tests/script.rs=5 tests/sessions.rs=17
 
 echo "$passed passed, $failed failed"

@@ -1,5 +1,5 @@
 // The archive's reader: what the film tells, copied out.
-ghost use Rattle.std.specs.Prelude.{◌≡◌, ◌+◌, ◌≤◌};
+ghost use Rattle.std.specs.Prelude.{◌≡◌, ◌+◌, ◌≤◌, length};
 ghost use Rattle.model.specs.Archive.{first_edition, second_edition};
 ghost use Rattle.model.specs.Refusals.{read_left, plan_told, read_archive};
 ghost use Rattle.model.specs.Demand.{ReadPromise};
@@ -9,6 +9,17 @@ use crate::opened::{FIRST_PLAN, SECOND_PLAN, open_film};
 use film::Film;
 use model::{PlanSize, Refusal};
 use records::size::{FIRST_BYTES, FIRST_TABLE, Format, SECOND_BYTES, SECOND_TABLE};
+
+// A string of bytes over another of its length. By a loop: with `copy_from_slice` the library would take `memmove` from
+// the C library, and it takes `memcpy` and `memset` only.
+fn copy_bytes(from: &[u8], to: &mut [u8])
+    requires { length to.old ≡ length from.now }
+    ensures { to.new ≡ from.now }
+{
+    for i in 0..from.len() {
+        to[i] = from[i];
+    }
+}
 
 // The reader of an edition: 13, then 12, then 8. It has room for film in its edition's size, so that no edition pays
 // for a larger one.
@@ -34,8 +45,8 @@ fn read_edition<const TABLE: usize, const PLAN: usize, const BYTES: usize>(
     if marks.len() != told.marks.len() {
         return Err(Refusal::BadMarks(told.marks.len() as u16));
     }
-    table.copy_from_slice(told.table);
-    marks.copy_from_slice(told.marks);
+    copy_bytes(told.table, table);
+    copy_bytes(told.marks, marks);
     Ok(told.size)
 }
 
