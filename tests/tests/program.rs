@@ -22,14 +22,32 @@ const MOST_INPUT: usize = 16389;
 /// The scratch words that it lends.
 const SCRATCH: usize = 10240;
 
+/// The stack that the program must do with, in KiB: it used 336 in version 0.8.0, with the report lent.
+const STACK: usize = 512;
+
+fn program() -> String {
+    env::var("BALDUQEN_PAGES").unwrap_or("../crates/pages/out/pages".to_string())
+}
+
 fn start(input: impl Into<Stdio>) -> Child {
-    let program = env::var("BALDUQEN_PAGES").unwrap_or("../crates/pages/out/pages".to_string());
-    Command::new(&program)
+    spawn(Command::new(program()), input)
+}
+
+/// The program with no more stack than that.
+fn start_with_little_stack(input: impl Into<Stdio>) -> Child {
+    let mut shell = Command::new("sh");
+    shell.args(["-c", "ulimit -s \"$1\" && exec \"$0\"", &program()]);
+    shell.arg(STACK.to_string());
+    spawn(shell, input)
+}
+
+fn spawn(mut program: Command, input: impl Into<Stdio>) -> Child {
+    program
         .stdin(input)
         .stdout(Stdio::piped())
         .stderr(Stdio::piped())
         .spawn()
-        .unwrap_or_else(|error| panic!("{program}: {error}"))
+        .unwrap_or_else(|error| panic!("{program:?}: {error}"))
 }
 
 /// What the program writes, once it ends.
@@ -42,7 +60,10 @@ fn text_of(child: Child) -> String {
 
 /// Runs the program on an input that comes in pieces.
 fn run_on_pieces(pieces: &[&[u8]]) -> String {
-    let mut child = start(Stdio::piped());
+    feed(start(Stdio::piped()), pieces)
+}
+
+fn feed(mut child: Child, pieces: &[&[u8]]) -> String {
     let mut input = child.stdin.take().expect("a pipe");
     for (index, piece) in pieces.iter().enumerate() {
         if index > 0 {
@@ -417,4 +438,14 @@ fn damaged_tables() {
         seen.add(check(&damaged(random, &table)));
     }
     seen.expect(&[0, 1, 2, 3, 4, 6, 7, 9, 14], 5);
+}
+
+/// The frames are the same for every input, so that an empty one, case E and a long report tell.
+#[test]
+fn little_stack() {
+    let flat = random_table(&mut Random::new(906), Form::Flat, 640, 1);
+    for table in [vec![], case_e().bytes(), flat.bytes()] {
+        let text = feed(start_with_little_stack(Stdio::piped()), &[&table]);
+        assert_eq!(text, expected(&table).1);
+    }
 }

@@ -33,6 +33,14 @@ impl Lines {
         }
     }
 
+    // No line yet.
+    pub fn clear(&mut self)
+        ensures written { written self.new ≡ [] }
+        ensures unused { self.new.used ≡ 0 }
+    {
+        self.used = 0;
+    }
+
     pub fn as_bytes(&self) -> &[u8]
         ensures { result.now ≡ written self.now }
     {
@@ -62,14 +70,14 @@ impl Lines {
 
     // Page count, root weight and limit.
     #[tactic(auto, using(crate::proofs::Digits::putting), unfolding(crate::specs::Text::head_line))]
-    pub fn put_head(&mut self, pages: u16, root: u32, limit: u16)
+    pub fn put_head(&mut self, pages: u32, root: u32, limit: u32)
         requires { self.old.used + line_bytes ≤ report_bytes }
         ensures written { written self.new ≡ written self.old ++ head_line pages root limit }
         ensures upper_bound { self.new.used ≤ self.old.used + line_bytes }
     {
-        self.put_item(b"pages ", pages as u32);
+        self.put_item(b"pages ", pages);
         self.put_item(b" root ", root);
-        self.put_item(b" limit ", limit as u32);
+        self.put_item(b" limit ", limit);
         self.put(b"\n");
     }
 

@@ -6,6 +6,7 @@ mod report;
 
 ghost use Rattle.std.specs.Io.{ReadsAtMost};
 
+use lines::Lines;
 use report::report;
 use std::io;
 use std::io::{Read, Write};
@@ -33,6 +34,7 @@ fn read_full(input: &mut impl Read, buf: &mut [u8]) -> io::Result<usize>
 fn main(rt: HostRuntime) -> io::Result<()> {
     let mut table = [0u8; INPUT_BYTES];
     let got = read_full(&mut rt.stdin(), &mut table)?;
-    let lines = report(&table[..got]);
+    let mut lines = Lines::new();
+    report(&table[..got], &mut lines);
     rt.stdout().write_all(lines.as_bytes())
 }

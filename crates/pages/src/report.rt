@@ -1,5 +1,5 @@
 // The report of a table: its best plan is made and laid on its pages, and the lines are those of this layout.
-ghost use Rattle.std.specs.Prelude.{◌≡◌, ◌≤◌};
+ghost use Rattle.std.specs.Prelude.{◌≡◌, ◌≤◌, []};
 ghost use Rattle.model.specs.Table.{max_nodes};
 ghost use Rattle.model.specs.Refusals.{plan_best};
 ghost use Rattle.pages.specs.Text.{answer_lines, report_of};
@@ -18,41 +18,41 @@ const MARKS: usize = 65535;
 const SCRATCH_WORDS: usize = 10240;
 
 // The lines of a plan, from its layout and the limit.
-fn list_pages(layout: &Layout, limit: u16) -> Lines
-    requires { layout.now.pages ≤ max_nodes }
-    ensures { written result ≡ layout_lines layout.now limit }
+fn list_pages(layout: &Layout, limit: u16, lines: &mut Lines)
+    requires few { layout.now.pages ≤ max_nodes }
+    requires empty { written lines.old ≡ [] }
+    requires unused { lines.old.used ≡ 0 }
+    ensures { written lines.new ≡ layout_lines layout.now limit }
 {
-    let mut lines = Lines::new();
-    lines.put_head(layout.pages, layout.weights[1], limit);
+    lines.put_head(layout.pages as u32, layout.weights[1], limit as u32);
     for p in 1..=layout.pages {
         let i = p as usize;
         lines.put_page(p, layout.firsts[i], layout.lasts[i], layout.weights[i]);
     }
-    lines
 }
 
 // The lines of the best plan, or of its refusal, with these marks and this scratch lent.
-fn report_plan(table: &[u8], marks: &mut [u8], scratch: &mut [u32]) -> Lines
-    ensures { written result
+fn report_plan(table: &[u8], marks: &mut [u8], scratch: &mut [u32], lines: &mut Lines)
+    requires empty { written lines.old ≡ [] }
+    requires unused { lines.old.used ≡ 0 }
+    ensures { written lines.new
         ≡ answer_lines table.now (plan_best table.now marks.old scratch.old) }
 {
     let mut layout = Layout::cleared();
     match make_laid(Planner::Best, table, marks, scratch, &mut layout) {
-        Ok(_) => list_pages(&layout, limit_of(table)),
-        Err(refusal) => {
-            let mut lines = Lines::new();
-            lines.put_refusal(refusal);
-            lines
-        }
+        Ok(_) => list_pages(&layout, limit_of(table), lines),
+        Err(refusal) => lines.put_refusal(refusal),
     }
 }
 
-// All that the program writes for a table.
-pub fn report(table: &[u8]) -> Lines
-    ensures { written result ≡ report_of table.now }
+// All that the program writes for a table, in lines that are lent, since they are large: by value they were copied at
+// every step.
+pub fn report(table: &[u8], lines: &mut Lines)
+    ensures { written lines.new ≡ report_of table.now }
 {
     let nodes = node_count(table) as usize;
     let mut marks = [0u8; MARKS];
     let mut scratch = [0u32; SCRATCH_WORDS];
-    report_plan(table, &mut marks[..nodes], &mut scratch)
+    lines.clear();
+    report_plan(table, &mut marks[..nodes], &mut scratch, lines);
 }

@@ -4,7 +4,7 @@ use Rattle.pages.proofs.Listed.{listed_start, listed_turn, listed_end}
 use Rattle.pages.proofs.report.list_pages.Goals as goal
 
 pub loop-p-init : goal.loop-p-init
-loop-p-init c = listed_start _ _ (rw c.new-lines.ensures.written at c.put_head.ensures.written) (omega arith)
+loop-p-init c = listed_start _ _ (rw c.requires.empty at c.put_head.ensures.written) (omega arith)
 
 pub loop-p-preserved : goal.loop-p-preserved
 unfolding line_of

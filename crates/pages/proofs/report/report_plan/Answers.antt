@@ -14,5 +14,5 @@ returns-in-Ok c =
 
 pub returns-in-Err : goal.returns-in-Err
 returns-in-Err c =
-    let refused = rw c.new-lines.ensures.written at c.put_refusal.ensures.written in
+    let refused = rw c.requires.empty at c.put_refusal.ensures.written in
     refused ∙ lines_refused c.args.table.now _ _ _ c.in-Err.ensures.scratch_after (refusal_number c.in-Err.refusal)
