@@ -1,2 +1,3 @@
+pub mod EditionWord
 pub mod Tests
 pub mod Turns

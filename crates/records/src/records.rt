@@ -16,7 +16,7 @@ use words::read::{label_at, node_count, weight_at};
 const EDITION_WORD: u16 = 8194;
 
 // The edition's word, where the head has one before N.
-#[tactic(auto, using(crate::proofs::Tests::tests), unfolding(crate::specs::RecordsOf::put_edition))]
+#[tactic(auto, using(crate::proofs::EditionWord::word_put, crate::proofs::EditionWord::word_left))]
 fn put_edition(format: Format, out: &mut [u8])
     ensures { out.new ≡ put_edition format.edition out.old }
 {

@@ -25,7 +25,7 @@ fn fill_archive(format: Format, table: &[u8], marks: &[u8], layout: &Layout, out
 {
     let nodes = node_count(table);
     let mut counts = [0u16; FILM_SLOTS];
-    count_nodes(format, &layout.page, nodes, &mut counts);
+    count_nodes(format.edition, &layout.page, nodes, &mut counts);
     let nexts = link_next(&layout.page, nodes);
     put_head(format, nodes, limit_of(table), layout.pages, out);
     put_pages(format, layout, &counts, out);

@@ -32,13 +32,13 @@ loop-v-preserved c =
       long = simp length-set l.invariant.long;
     }
 
-pub returns-then-format-gt4 : goal.returns-then-format-gt4
-returns-then-format-gt4 c =
+pub returns-then-e-gt4 : goal.returns-then-e-gt4
+returns-then-e-gt4 c =
     let all : c.loop-v.v - 1 ≡ c.args.nodes = omega arith in
     λ five. rw all at c.loop-v.invariant.counted
 
-pub returns-then-format-gt4-2 : goal.returns-then-format-gt4-2
-returns-then-format-gt4-2 c =
+pub returns-then-e-gt4-2 : goal.returns-then-e-gt4-2
+returns-then-e-gt4-2 c =
     let l = c.loop-v in
     let page = c.requires.1 l.v (omega arith) (omega arith) in
     λ five. turned _ l.counts _ l.v _ (omega arith) (omega arith) l.invariant.counted l.invariant.long page
