@@ -5,6 +5,7 @@ ghost use Rattle.model.specs.Steps.{lay_marks, root_choice};
 ghost use Rattle.best.specs.LayChoices.{takes, last_mark};
 ghost use Rattle.columns.specs.CellsPlan.{NodesPlanned};
 ghost use Rattle.columns.specs.CellsRun.{counts_of};
+ghost use Rattle.columns.specs.CellsSums.{no_sums};
 ghost use Rattle.best.specs.CellsLevel.{level_from};
 ghost use Rattle.best.specs.LayContracts.{SumReady, SumDone, RunReady, RunDone, start_of, NodeReady, NodeDone};
 
@@ -47,18 +48,18 @@ impl GainLevel {
     }
 }
 
-// The sums over the last `len` children up to `child`, and how many of them have each gain.
-fn sum_run(nodes: &Nodes, child: usize, len: u32) -> Sums
-    requires { SumReady child len nodes.now }
-    ensures { SumDone child len nodes.now result }
+// The sums over the last `len` children up to `child`, and how many of them have each gain. The sums are lent: given
+// back by value their counts, 2 KB, were copied for each run.
+fn sum_run(nodes: &Nodes, child: usize, len: u32, sums: &mut Sums)
+    requires ready { SumReady child len nodes.now }
+    requires empty { sums.old ≡ no_sums }
+    ensures { SumDone child len nodes.now sums.new }
 {
-    let mut sums = Sums::none();
     let mut next = child;
     for _ in 0..len {
         sums.join(nodes.rests[next], nodes.gains[next]);
         next = nodes.prevs[next] as usize;
     }
-    sums
 }
 
 // The mark of a run's member with so many members before it.
@@ -81,7 +82,8 @@ fn lay_run(
     requires { RunReady limit child len nodes.now marks.old seconds.old }
     ensures { RunDone limit child len nodes.now marks.old seconds.old marks.new seconds.new result }
 {
-    let sums = sum_run(nodes, child, len);
+    let mut sums = Sums::none();
+    sum_run(nodes, child, len, &mut sums);
     let level = GainLevel::find(&sums, limit as u32);
     let mut before = sums.counts[level.gain as usize];
     let mut next = child;

@@ -65,7 +65,8 @@ fn gain_in(
 // The columns of node v's children, and its figures.
 fn plan_node(table: &[u8], gainful: bool, nodes: &mut Nodes, words: &mut [u32], v: u16)
     requires { NodesPlanned table.now gainful v nodes.old words.old × (1 ≤ v) × (v ≤ node_count table.now) }
-    ensures { NodesPlanned table.now gainful (v - 1) nodes.new words.new }
+    ensures planned { NodesPlanned table.now gainful (v - 1) nodes.new words.new }
+    ensures same { nodes.new.prevs ≡ nodes.old.prevs }
 {
     let limit = limit_of(table) as usize;
     let weight = weight_at(table, v) as usize;
@@ -81,7 +82,8 @@ fn plan_node(table: &[u8], gainful: bool, nodes: &mut Nodes, words: &mut [u32], 
 // All nodes, children before parents.
 pub fn plan_nodes(table: &[u8], gainful: bool, nodes: &mut Nodes, words: &mut [u32])
     requires { ColumnsReady table.now nodes.old words.old }
-    ensures { NodesPlanned table.now gainful 0 nodes.new words.new }
+    ensures planned { NodesPlanned table.now gainful 0 nodes.new words.new }
+    ensures same { nodes.new.prevs ≡ nodes.old.prevs }
 {
     for v in (1..=node_count(table)).rev() {
         plan_node(table, gainful, nodes, words, v);

@@ -7,17 +7,17 @@ use Rattle.best.proofs.lay.lay_run.Goals.{then-gain-level, else-gain-level}
 
 pub find-level-requires : goal.find-level-requires
 find-level-requires c =
-    let kept = c.sum_run-sums.ensures c.args.limit c.requires.good in
+    let kept = c.sum_run.ensures c.args.limit c.requires.good in
     (kept.top_high, c.requires.limit_high)
 
 pub bounds-sums-level : goal.bounds-sums-level
 bounds-sums-level c =
-    omega (arith, level_small c.requires (levelled c.requires c.sum_run-sums.ensures c.find-level.ensures))
+    omega (arith, level_small c.requires (levelled c.requires c.sum_run.ensures c.find-level.ensures))
 
 pub loop-left-init : goal.loop-left-init
 loop-left-init c = (
   c.requires.high,
-  marking_start c.requires (levelled c.requires c.sum_run-sums.ensures c.find-level.ensures),
+  marking_start c.requires (levelled c.requires c.sum_run.ensures c.find-level.ensures),
 )
 
 pub overflow_sub-before : goal.overflow_sub-before
@@ -34,7 +34,7 @@ loop-left-preserved c =
     let l = c.loop-left in
     let level = c.find-level in
     let mark : c.mark_of.result ≡ last_mark (l.left - 1) = search rules in
-    let m = marking_turn c.requires (levelled c.requires c.sum_run-sums.ensures level.ensures) l.invariant.1 (omega arith)
+    let m = marking_turn c.requires (levelled c.requires c.sum_run.ensures level.ensures) l.invariant.1 (omega arith)
     c.if-gain-level.before c.mark_of.result c.takes.result
     (count_less _ level.result.gain l.before _
     (elim c.if-gain-level.branch [
@@ -46,5 +46,5 @@ loop-left-preserved c =
 
 pub returns : goal.returns
 returns c =
-    marking_end c.requires (levelled c.requires c.sum_run-sums.ensures c.find-level.ensures) c.loop-left.invariant.1
+    marking_end c.requires (levelled c.requires c.sum_run.ensures c.find-level.ensures) c.loop-left.invariant.1
     (omega arith)

@@ -23,8 +23,8 @@ overflow_cast-gain c =
     c.weight_at-weight.ensures c.block_at-here.ensures refl c.gain_in-gain.result c.gain_in-gain.ensures in
     omega (arith, fits)
 
-pub returns : goal.returns
-returns c =
+pub returns-clause-planned : goal.returns-clause-planned
+returns-clause-planned c =
     node_planned c.requires.1 c.requires.2 c.requires.0 c.fill_columns-last.ensures _ _ _ _ c.limit_of-limit.ensures
     c.weight_at-weight.ensures c.block_at-here.ensures refl c.gain_in-gain.result c.gain_in-gain.ensures
     (search rules) (search rules) (search rules)
