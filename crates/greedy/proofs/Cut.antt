@@ -2,7 +2,7 @@
 -- Defines CutSoFar (where the cutting stands). Assumes nothing.
 use Prim.Native.Nat.{ℕ, zero, suc, ◌+◌, ◌-◌, ◌≤◌, ◌<◌}
 use native.Mathlib.Omega.{arith}
-use mathlib.Core.Path.{◌≡◌, sym, ◌∙◌, ap}
+use mathlib.Core.Path.{◌≡◌, refl, sym, ◌∙◌, ap}
 use mathlib.Core.Logic.{inl}
 use mathlib.Core.List.{List}
 use lib.ListN.{length, set, length-set}
@@ -15,7 +15,7 @@ use Rattle.theory.specs.TableNumbered.{numbered_size, numbered_le}
 use Rattle.theory.specs.Reduce.{Turns}
 use Rattle.theory.specs.ReduceCount.{reduce_stop, reduce_turn}
 use Rattle.theory.specs.TableChain.{chain_at, chain_none, NodeAt, node_at}
-use Rattle.greedy.specs.Kept.{kept, Outside, outside_then, outside_store}
+use Rattle.greedy.specs.Kept.{kept, Outside, outside_none, outside_then, outside_store}
 use Rattle.greedy.specs.SingleMembers.{rest_at, largest_at, EarliestAt, LaidAt, members_rest, members_largest}
 use Rattle.greedy.specs.SingleMembers.{largest_some, earliest_at_rest, earliest_at_range, cut_members, cut_rest}
 use Rattle.greedy.specs.SingleMembers.{cut_laid}
@@ -41,6 +41,18 @@ module _ {t : List ℕ} {v : ℕ} {s₀ a₀ : List ℕ} (sound : SoundFacts t) 
     first_high f e,
     omega (arith, ap (λ (k : ℕ). rest_at t s₀ k (chain_at t k)) e, ready.small),
   )
+
+  pub cut_start : (f sum : ℕ) → f ≡ first_at t v → sum ≡ rest_at t s₀ f (chain_at t f) → CutSoFar t v room s₀ a₀ s₀ a₀ sum
+  cut_start f sum e q =
+      record {
+        long = refl;
+        marks_long = refl;
+        sum_is = q ∙ ap (λ (k : ℕ). rest_at t s₀ k (chain_at t k)) e;
+        goes_on = refl;
+        laid = ready.laid;
+        rests_outside = outside_none v (v + size (kids_of t v)) s₀;
+        marks_outside = outside_none v (v + size (kids_of t v)) a₀;
+      }
 
   module _ {s a : List ℕ} {sum : ℕ} (x : CutSoFar t v room s₀ a₀ s a sum) where
     -- where there is something to cut, there is a child

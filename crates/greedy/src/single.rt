@@ -36,10 +36,13 @@ fn find_heaviest(kept: Kept, v: u16) -> u16
     ensures { Heaviest kept.entry.tree.table.now kept.entry.scratch.now v result }
 {
     let mut best = v;
+    let mut most = kept.at(v);
     let mut u = next_at(kept.tree.table, v);
     while u != 0 {
-        if kept.at(best) < kept.at(u) {
+        let rest = kept.at(u);
+        if most < rest {
             best = u;
+            most = rest;
         }
         u = next_at(kept.tree.table, u);
     }

@@ -127,7 +127,7 @@ module _ {t marks : List ℕ} {nodes : Siblings} {m : ℕ} (tree : AcceptedFacts
         (λ u one top e. s.rests_are u (omega (arith, parent_at_less t u one)) top) (last_kid t lasts m) kids.child
 
     -- what the cuts of its children ask
-    pub settle_cuts : CutReady t nodes.before rests marks m (last_kid t lasts m) (get_or sums (first_at t m) 0)
+    pub settle_cuts : CutReady t nodes.before.now rests marks m (last_kid t lasts m) (get_or sums (first_at t m) 0)
     settle_cuts =
         record {
           linked = s.linked;
@@ -281,22 +281,18 @@ module _ {t marks : List ℕ} {nodes : Siblings} {m : ℕ} (tree : AcceptedFacts
 
 -- ---- The plan
 
-pub settled_start : {t prevs marks : List ℕ} → SiblingsLinked t prevs → length marks ≡ node_count t
-    → Settled t (record {
-      before = prevs;
-      rests = replicate slots 0;
-      sums = replicate slots 0;
-      lasts = replicate slots 0;
-    }) marks (node_count t)
-settled_start {t} l long =
+pub settled_start : {t marks : List ℕ} (n : Siblings) → SiblingsLinked t n.before.now → n.rests ≡ replicate slots 0
+    → n.sums ≡ replicate slots 0 → n.lasts ≡ replicate slots 0 → length marks ≡ node_count t
+    → Settled t n marks (node_count t)
+settled_start {t} n l rests_are sums_are lasts_are long =
     let wide : length {A = ℕ} (replicate slots 0) ≡ slots = length-replicate {A = ℕ} slots 0 in
     record {
       linked = l;
-      wide = (wide, wide, wide);
+      wide = (ap length rests_are ∙ wide, ap length sums_are ∙ wide, ap length lasts_are ∙ wide);
       long = long;
-      light = λ u. omega (arith, zeros slots u);
-      no_sum = zeros slots 0;
-      no_last = zeros slots 0;
+      light = λ u. omega (arith, ap (λ (x : List ℕ). get_or x u 0) rests_are, zeros slots u);
+      no_sum = ap (λ (x : List ℕ). get_or x 0 0) sums_are ∙ zeros slots 0;
+      no_last = ap (λ (x : List ℕ). get_or x 0 0) lasts_are ∙ zeros slots 0;
       rests_are = λ u more top. absurd (omega arith);
       tails = λ u more top. absurd (omega arith);
       cuts = λ u more top. absurd (omega arith);

@@ -76,7 +76,7 @@ last_kid t lasts v = get_or lasts (first_at t v) 0
 
 -- the nodes after v have their remainders and tails, and their children's marks
 pub record Settled (t : List ℕ) (n : Siblings) (marks : List ℕ) (v : ℕ) : Type 0 where
-  pub linked : SiblingsLinked t n.before
+  pub linked : SiblingsLinked t n.before.now
   pub wide : (length n.rests ≡ slots) × (length n.sums ≡ slots) × (length n.lasts ≡ slots)
   pub long : length marks ≡ node_count t
   pub light : (u : ℕ) → rest_in n.rests u ≤ limit_of t

@@ -12,8 +12,8 @@ use words::read::{first_at, limit_of, next_at, node_count, weight_at};
 // By node: the sibling before it, its remainder, and of it and the siblings after it the sum of their remainders and
 // the last of them. A link of 0 is none, as in a table; the arrays have zeros there, so it is read without a test.
 #[derive(Drop)]
-struct Siblings {
-    before: [u16; SLOTS],
+struct Siblings<'a> {
+    before: &'a [u16; SLOTS],
     rests: [u16; SLOTS],
     sums: [u32; SLOTS],
     lasts: [u16; SLOTS],
@@ -24,7 +24,7 @@ struct Siblings {
 // limit.
 #[tactic(auto, using(crate::proofs::RightmostRuns::first_slot))]
 fn cut_runs(tree: Tree, nodes: &Siblings, marks: &mut [u8], v: u16) -> u16
-    requires { CutReady tree.table.now nodes.now.before nodes.now.rests marks.old v
+    requires { CutReady tree.table.now nodes.now.before.now nodes.now.rests marks.old v
         (last_kid tree.table.now nodes.now.lasts v) (get_or nodes.now.sums (first_at tree.table.now v) 0) }
     ensures { CutDone tree.entry.table.now nodes.now.rests v (last_kid tree.entry.table.now nodes.now.lasts v)
         marks.old marks.new result }
@@ -77,8 +77,9 @@ pub fn lay_rightmost(tree: Tree, marks: &mut [u8])
     requires { length marks.old ≡ node_count tree.table.now }
     ensures { marks.new ≡ rightmost_marks (limit_of tree.entry.table.now) (tree_of tree.entry.table.now) }
 {
+    let before = link_before(tree);
     let mut nodes = Siblings {
-        before: link_before(tree),
+        before: &before,
         rests: [0; SLOTS],
         sums: [0; SLOTS],
         lasts: [0; SLOTS],

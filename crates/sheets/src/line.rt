@@ -15,21 +15,22 @@ pub fn blank_line() -> [u8; LINE]
     line
 }
 
-// A number right-aligned in so many columns, after `at` columns of text. Its digits come from the last one on.
-#[tactic(auto, using(crate::proofs::Fields::putting))]
+// A number right-aligned in so many columns, after `at` columns of text. Its digits come from the last one on: not by a
+// `for` over the columns, which was unrolled, so that each byte of any line was put by itself, and a sheet of blanks took
+// twice as long.
 fn put_field(line: [u8; LINE], at: usize, width: usize, n: u32) -> [u8; LINE]
     requires { (1 ≤ width) × (at + width ≤ columns) × (n < 10 ^ width) }
     ensures { FieldPut line at (field width n) result }
 {
     let mut out = line;
+    let mut i = at + width - 1;
     let mut rest = n;
-    for i in (at..at + width).rev() {
+    while 9 < rest {
         out[i] = b'0' + (rest % 10) as u8;
         rest /= 10;
-        if rest == 0 {
-            break;
-        }
+        i -= 1;
     }
+    out[i] = b'0' + rest as u8;
     out
 }
 

@@ -26,7 +26,7 @@ pub loop-child-preserved : goal.loop-child-preserved
 unfolding run_mark
 loop-child-preserved c =
     let l = c.loop-child in
-    let before = get_or c.args.nodes.now.before l.child 0 in
+    let before = get_or c.args.nodes.now.before.now l.child 0 in
     let rest = get_or c.args.nodes.now.rests l.child 0 in
     let weighs = c.unwrap_or.result + get_or c.args.nodes.now.rests before 0 in
     let limit = c.limit_of-limit.result in
