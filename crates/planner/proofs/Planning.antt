@@ -1,13 +1,15 @@
 -- What all planners share: the refusals, what is left where there is none and where there is one, and the promises of
 -- what is left. Assumes nothing.
-use Prim.Native.Nat.{ℕ, ◌≤◌, ◌<◌}
+use Prim.Native.Nat.{ℕ, ◌+◌, ◌*◌, ◌≤◌, ◌<◌}
+use native.Mathlib.Omega.{arith}
+use native.Mathlib.Nat.{mul-le-mul}
 use mathlib.Core.Path.{◌≡◌, refl, sym, ◌∙◌, ap}
 use mathlib.Core.Bool.{true}
 use mathlib.Core.List.{List}
 use lib.ListN.{length, replicate}
 use Rattle.std.proofs.Common.{ltb, le-ltb, lt-ltb}
 use Rattle.model.specs.Basics.{at_place}
-use Rattle.model.specs.Table.{node_count, limit_of, tree_of}
+use Rattle.model.specs.Table.{max_nodes, max_limit, node_count, limit_of, tree_of}
 use Rattle.model.specs.Plan.{verdict_of}
 use Rattle.model.specs.Refusals.{Answer, answer_of, refused, accepted, refusal_answer, bad_marks, short_scratch}
 use Rattle.model.specs.Refusals.{scratch_words, tree_checks, lent_checks, plan_checks, passes, accepted_tree, first_of, read_tree}
@@ -27,6 +29,11 @@ use Rattle.planner.specs.declared.Planner.{Planner}
 use Rattle.planner.specs.Planners.{steps_of, PlanReady, steps_judged}
 
 -- ---- The refusals
+
+-- the number of words fits
+pub words_fit : (n k : ℕ) → n ≤ max_nodes → k ≤ max_limit → scratch_words n k ≤ scratch_words max_nodes max_limit
+words_fit n k a b =
+    mul-le-mul {n₁ = 4 * n} {m₁ = k + 3} {n₂ = 4 * max_nodes} {m₂ = max_limit + 3} (omega arith) (omega arith)
 
 module _ (t m s : List ℕ) where
   abbrev told : Answer
