@@ -13,6 +13,7 @@ use writer::write::write_edition;
 
 // The converter from one edition to another: 13, then what the other's writer refuses in film that was read, 14, 15 and
 // 12. It has room for film of the one in its size.
+#[tactic(auto, using(crate::proofs::Converting::convert_refused))]
 fn convert_edition<const TABLE: usize, const PLAN: usize, const BYTES: usize>(
     from: Format,
     to: Format,

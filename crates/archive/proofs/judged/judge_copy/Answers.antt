@@ -1,4 +1,5 @@
 use Rattle.std.proofs.Common.{refl, ◌∙◌, arith, rules, length-take-le}
+use Rattle.std.proofs.Math.Seq.{take-length}
 use Rattle.model.specs.Refusals.{refusal_answer}
 use Rattle.theory.specs.Refused.{refusal_number}
 use Rattle.archive.specs.Answers.{copy_refused, copy_long, copy_stopped, copy_differs, copy_same}
@@ -22,11 +23,11 @@ returns-then-eq c =
     let a = c.args in
     copy_same a.film.format.in_room a.film.archive.now a.tree.now a.plan.now _ c.write_edition.new.out _ c.in-Ok.ensures refl
     (λ i. omega (arith, c.type_inv.tree i))
-    (same_bytes _ _ ∙ search rules)
+    (same_bytes _ _ ∙ search (rules, take-length))
 
 pub returns-else-eq : goal.returns-else-eq
 returns-else-eq c =
     let a = c.args in
     copy_refused refl
     (copy_differs a.film.format.in_room a.film.archive.now a.tree.now a.plan.now _ c.write_edition.new.out _ c.in-Ok.ensures refl
-    (same_bytes _ _ ∙ search rules))
+    (same_bytes _ _ ∙ search (rules, take-length)))
