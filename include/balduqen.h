@@ -85,8 +85,8 @@ extern "C" {
 #define BALDUQEN_ARCHIVE_NODES 1024
 
 /* The bytes of stack that a call uses at most, on x86-64. As measured: balduqen_convert_to_1 and
- * balduqen_read_archive2 95 KiB, balduqen_plan_best, balduqen_plan_level and balduqen_saving 77,
- * balduqen_convert_to_2 and balduqen_read_archive 66, the other planners 53, the archive's writers
+ * balduqen_read_archive2 95 KiB, balduqen_plan_best, balduqen_plan_level and balduqen_saving 71,
+ * balduqen_convert_to_2 and balduqen_read_archive 66, the other planners 49, the archive's writers
  * 41, balduqen_print_sheets, balduqen_price and the judge 29, balduqen_read_tree 5. */
 #define BALDUQEN_STACK 98304
 
